@@ -1,0 +1,158 @@
+//! Times the proved decoding of texts beside Rust's, on the same bytes in the same program: the best of many
+//! repetitions, in bytes of input a second. Usage: benchmark [SECONDS a cell].
+use std::hint::black_box;
+use std::time::{Duration, Instant};
+
+use compare::chars::{WORDS, char_of_len, damage, push, push_char};
+use compare::proved;
+use compare::random::Random;
+
+/// The input of one line: texts one after another, each given by where it ends.
+struct Input {
+    name: &'static str,
+    bytes: Vec<u8>,
+    ends: Vec<usize>,
+}
+
+impl Input {
+    fn each(&self, mut use_text: impl FnMut(&[u8])) {
+        let mut start = 0;
+        for &end in &self.ends {
+            use_text(&self.bytes[start..end]);
+            start = end;
+        }
+    }
+}
+
+const LONG: usize = 1 << 20;
+const NAME: usize = 20;
+const NAMES: usize = LONG / NAME;
+
+/// Appends something of a kind to a text.
+type Grow = fn(&mut Random, &mut Vec<u8>);
+const KINDS: [(&str, Grow); 8] = [
+    ("ASCII", |random, text| text.push(0x20 + random.byte() % 0x5F)),
+    ("mostly ASCII", |random, text| {
+        if random.below(20) == 0 {
+            let len = random.within(2, 4);
+            push(text, char_of_len(random, len));
+        } else {
+            text.push(0x20 + random.byte() % 0x5F);
+        }
+    }),
+    ("words in several scripts", |random, text| {
+        text.extend_from_slice(random.one(&WORDS).as_bytes());
+        text.push(b' ');
+    }),
+    ("characters of all lengths", push_char),
+    ("characters of 3 bytes", |random, text| push(text, char_of_len(random, 3))),
+    ("words, damaged", |random, text| {
+        let mut word = random.one(&WORDS).as_bytes().to_vec();
+        if random.below(10) == 0 {
+            damage(random, &mut word);
+        }
+        text.extend_from_slice(&word);
+        text.push(b' ');
+    }),
+    ("random bytes", |random, text| text.push(random.byte())),
+    ("the byte 80 alone", |_, text| text.push(0x80)),
+];
+
+fn inputs() -> Vec<(&'static str, Vec<Input>)> {
+    let mut random = Random(20_261_031);
+    let mut long = Vec::new();
+    let mut names = Vec::new();
+    for (name, grow) in KINDS {
+        let mut bytes = Vec::new();
+        while bytes.len() < LONG {
+            grow(&mut random, &mut bytes);
+        }
+        long.push(Input { name, ends: vec![bytes.len()], bytes });
+
+        // A name has 20 bytes, or up to three fewer where the 20 would end inside a character.
+        let (mut bytes, mut ends) = (Vec::new(), Vec::new());
+        for _ in 0..NAMES {
+            let mut text = Vec::new();
+            while text.len() < NAME {
+                grow(&mut random, &mut text);
+            }
+            let end = match std::str::from_utf8(&text) {
+                Ok(s) => (0..=NAME).rev().find(|&n| s.is_char_boundary(n)).unwrap(),
+                Err(_) => NAME,
+            };
+            bytes.extend_from_slice(&text[..end]);
+            ends.push(bytes.len());
+        }
+        names.push(Input { name, bytes, ends });
+    }
+    vec![("one text of 1 MiB", long), ("names of 20 bytes", names)]
+}
+
+/// The shortest time of one pass over the input, tried again until `budget` is spent.
+fn best(budget: Duration, mut pass: impl FnMut()) -> f64 {
+    let begun = Instant::now();
+    let mut least = f64::INFINITY;
+    let mut tries = 0;
+    while tries < 5 || begun.elapsed() < budget {
+        let start = Instant::now();
+        pass();
+        least = least.min(start.elapsed().as_secs_f64());
+        tries += 1;
+    }
+    least
+}
+
+fn main() {
+    let seconds = std::env::args().nth(1).map_or(0.5, |a| a.parse().expect("a number of seconds"));
+    let budget = Duration::from_secs_f64(seconds);
+    if let Ok(info) = std::fs::read_to_string("/proc/cpuinfo") {
+        let model = info.lines().find(|l| l.starts_with("model name")).unwrap_or("");
+        println!("{}", model.split(':').nth(1).unwrap_or("").trim());
+    }
+    println!("Best of at least 5 passes, {seconds} s a cell. GB/s of input; a ratio above 1 means that decode_into");
+    println!("(or well_formed) takes less time than the call it is named after.\n");
+    let mut out = vec![0u8; 4 * LONG];
+    for (title, inputs) in inputs() {
+        println!("| {title} | decode_into | from_utf8_lossy | ratio | decode_plain | ratio | well_formed | from_utf8 | ratio |");
+        println!("|---|---|---|---|---|---|---|---|---|");
+        for input in &inputs {
+            let size = input.bytes.len() as f64 / 1e9;
+            let decode = best(budget, || {
+                input.each(|text| {
+                    black_box(proved::decode_into(black_box(text), &mut out, 0));
+                })
+            });
+            let lossy = best(budget, || {
+                input.each(|text| {
+                    black_box(String::from_utf8_lossy(black_box(text)).into_owned());
+                })
+            });
+            let plain = best(budget, || {
+                input.each(|text| {
+                    black_box(proved::decode_plain(black_box(text), &mut out, 0));
+                })
+            });
+            let formed = best(budget, || {
+                input.each(|text| {
+                    black_box(proved::well_formed(black_box(text)));
+                })
+            });
+            let utf8 = best(budget, || {
+                input.each(|text| {
+                    black_box(std::str::from_utf8(black_box(text)).is_ok());
+                })
+            });
+            let decoding = [size / decode, size / lossy, lossy / decode, size / plain, plain / decode];
+            // a single text that is ill-formed near its start says nothing of the speed
+            let stops = input.ends.len() == 1 && std::str::from_utf8(&input.bytes).is_err();
+            let judging = [size / formed, size / utf8, utf8 / formed].map(|x| if stops { f64::NAN } else { x });
+            let cells: Vec<String> = decoding
+                .iter()
+                .chain(&judging)
+                .map(|x| if x.is_nan() { "-".to_owned() } else { format!("{x:.2}") })
+                .collect();
+            println!("| {} | {} |", input.name, cells.join(" | "));
+        }
+        println!();
+    }
+}
