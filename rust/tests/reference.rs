@@ -73,3 +73,24 @@ fn ends_too_early() {
         assert_eq!((offset, requested_bytes), (at, 4));
     }
 }
+
+/// The target numbers of each of the letters, as document 01 has them.
+#[test]
+fn target_numbers() {
+    let numbers = [
+        ("FLCC", 16), ("FLCT", 2), ("FLPA", 10), ("FLVC", 17), ("FLVI", 1), ("FLDS", 19), ("FLMT", 5), ("FLPS", 52), ("FLWN", 4),
+        ("FSMA", 1), ("FLAC", 1), ("FLFS", 7), ("FLIM", 3), ("FLMC", 28), ("FLTS", 5), ("FLTP", 1), ("FTBR", 7), ("FVGA", 1),
+    ];
+    for (letters, number) in numbers {
+        let code = u32::from_le_bytes(letters.as_bytes().try_into().unwrap());
+        let kind = AnimInfoType::from(code);
+        assert_eq!(u32::from(kind), code);
+        for raw in 0..=255 {
+            let wanted = if raw < number { raw } else { 0 };
+            assert_eq!(TargetIndex::resolve(&kind, raw).to_raw(), wanted, "{letters} {raw}");
+        }
+    }
+    let unlisted = AnimInfoType::from(u32::from_le_bytes(*b"XXXX"));
+    assert_eq!(u32::from(unlisted), 0);
+    assert_eq!(TargetIndex::resolve(&unlisted, 3).to_raw(), 255);
+}
