@@ -148,6 +148,7 @@ ill-or-end =
         let d = length-drop (more x xs) xs in
         let k = h (ap illSize (drop-drop (sound (drop (more x xs) xs)) (suc (more x xs)) (x ∷ xs)) ∙ ap (λ (n : ℕ). illSize (drop n (x ∷ xs))) (sym g) ∙ q) in
         omega arith
+
     off : (x : ℕ) (xs : List ℕ) → sound (x ∷ xs) ≡ 0 → illSize (x ∷ xs) ≡ suc (more x xs) → illSize (drop (sound (x ∷ xs)) (x ∷ xs)) ≡ 0 → ⊥
     off x xs w z q = let r : illSize (x ∷ xs) ≡ 0 = rw w at q in omega arith
 
@@ -210,10 +211,11 @@ module _ (b : List ℕ) where
       let s : sound (x ∷ (xs ++ b)) ≡ suc (more x xs) + sound (drop (more x xs) xs ++ b) = sound-good x (xs ++ b) (k .0) ∙ rw (d, k .1) in
       record {
         kept =
-          decode-good x (xs ++ b) (k .0)
-          ∙ rw (t, d, r .kept) (ap (λ (y : List ℕ). x ∷ y) (sym (append-assoc (take (more x xs) xs) (drop (more x xs) xs) (decode b)) ∙ ap (λ (y : List ℕ). y ++ decode b) (take-append-drop (more x xs) xs)))
-      ; reach = omega (arith, r .reach)
-      ; fault = well-good x (xs ++ b) (k .0) ∙ rw d (r .fault) }
+            decode-good x (xs ++ b) (k .0)
+            ∙ rw (t, d, r .kept) (ap (λ (y : List ℕ). x ∷ y) (sym (append-assoc (take (more x xs) xs) (drop (more x xs) xs) (decode b)) ∙ ap (λ (y : List ℕ). y ++ decode b) (take-append-drop (more x xs) xs)));
+        reach = omega (arith, r .reach);
+        fault = well-good x (xs ++ b) (k .0) ∙ rw d (r .fault);
+      }
 
   before-all : (a : List ℕ) → wellFormed a ≡ true → Before a b
   before-all =
@@ -277,30 +279,30 @@ pub decode-long : (t : List ℕ) → length t ≤ length (decode t)
 decode-long =
     by-kind (λ t. length t ≤ length (decode t)) (omega arith)
     (λ x xs e h.
-      let m = more-within x xs in
-      let d = length-drop (more x xs) xs in
-      let l = length-take-le (more x xs) xs m in
-      let a = length-append (x ∷ take (more x xs) xs) (decode (drop (more x xs) xs)) in
-      rw (decode-good x xs e) (omega arith))
+    let m = more-within x xs in
+    let d = length-drop (more x xs) xs in
+    let l = length-take-le (more x xs) xs m in
+    let a = length-append (x ∷ take (more x xs) xs) (decode (drop (more x xs) xs)) in
+    rw (decode-good x xs e) (omega arith))
     (λ x xs e h.
-      let b = bad-short x xs e in
-      let m = more-within x xs in
-      let d = length-drop (more x xs) xs in
-      rw (decode-bad x xs e) (omega arith))
+    let b = bad-short x xs e in
+    let m = more-within x xs in
+    let d = length-drop (more x xs) xs in
+    rw (decode-bad x xs e) (omega arith))
 
 pub decode-bound : (t : List ℕ) → length (decode t) ≤ 3 * length t
 decode-bound =
     by-kind (λ t. length (decode t) ≤ 3 * length t) (rw decode-nil (omega arith))
     (λ x xs e h.
-      let m = more-within x xs in
-      let d = length-drop (more x xs) xs in
-      let l = length-take-le (more x xs) xs m in
-      let a = length-append (x ∷ take (more x xs) xs) (decode (drop (more x xs) xs)) in
-      rw (decode-good x xs e) (omega arith))
+    let m = more-within x xs in
+    let d = length-drop (more x xs) xs in
+    let l = length-take-le (more x xs) xs m in
+    let a = length-append (x ∷ take (more x xs) xs) (decode (drop (more x xs) xs)) in
+    rw (decode-good x xs e) (omega arith))
     (λ x xs e h.
-      let m = more-within x xs in
-      let d = length-drop (more x xs) xs in
-      rw (decode-bad x xs e) (omega arith))
+    let m = more-within x xs in
+    let d = length-drop (more x xs) xs in
+    rw (decode-bad x xs e) (omega arith))
 
 -- ---- what holds of every byte of a text, and of those of U+FFFD, holds of every byte of its decoding
 
