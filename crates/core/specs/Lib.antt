@@ -1,2 +1,3 @@
 pub mod Choice
+pub mod Fill
 pub mod Number
