@@ -5,18 +5,25 @@ ghost use lib.ListN.{replicate};
 ghost use lib.Seq.{sets};
 ghost use Rattle.core.specs.Fill.{paddingOf};
 
+// How many places below `size` there are from `at` on.
+pub(crate) fn ahead(at: usize, size: usize) -> usize
+    ensures { λ r. ⌜ r ≡ size - at ⌝ }
+{
+    if at < size {
+        return size - at;
+    }
+    0
+}
+
 // How many of the `n` places from `at` on lie below `size`.
 pub(crate) fn room(n: usize, at: usize, size: usize) -> usize
     ensures { λ r. ⌜ r ≡ min n (size - at) ⌝ }
 {
-    if size <= at {
-        return 0;
-    }
-    let left = size - at;
-    if n <= left {
+    let most = ahead(at, size);
+    if n < most {
         return n;
     }
-    left
+    most
 }
 
 // The bytes of `src`, from `at` on. The loop asks nothing of the bounds, so that it can become one move of memory.
