@@ -1,3 +1,6 @@
+pub mod Apart
 pub mod Filling
 pub mod Numbers
+pub mod Parts
+pub mod Seeks
 pub mod Stores

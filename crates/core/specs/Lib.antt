@@ -1,3 +1,5 @@
 pub mod Choice
 pub mod Fill
 pub mod Number
+pub mod Part
+pub mod Seek
