@@ -1,0 +1,5 @@
+pub mod Steps
+pub mod Pieces
+pub mod Laws
+pub mod Automaton
+pub mod Turns

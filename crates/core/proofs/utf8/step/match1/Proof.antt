@@ -1,0 +1,30 @@
+-- `utf8::step::match1` meets its contract.
+-- Assumes nothing.
+use mathlib.Core.Path.{sym, _∙_}
+use native.Mathlib.Omega.{arith}
+use Rattle.core.proofs.utf8.Steps.{matched-past, matched-hit, matched-miss, matched-none, matched-small}
+use borrow.Author.Needs.{needs}
+use Rattle.core.proofs.utf8.step.match1.Statement.{statement}
+use Rattle.core.proofs.utf8.step.match1.Tie as tie
+use Rattle.core.proofs.utf8.step.match1.Reads as reads
+use Rattle.core.proofs.utf8.step.match1.Lts as lts
+use Rattle.core.proofs.utf8.step.inside.Reads as inside-reads
+
+shared-slice-read-inside : tie.Need-shared-slice-read-inside
+shared-slice-read-inside c = search needs
+
+inside-requires : tie.Need-inside-requires
+inside-requires c κs = search needs
+
+returns : tie.Need-returns
+returns c = matched-hit _ _ _ _ (c .before .before .before .if1 .taken) (sym (c .before .inside .ensures) ∙ c .if2 .taken) 0 (matched-none _)
+
+returns-2 : tie.Need-returns-2
+returns-2 c = matched-miss _ _ _ _ (c .before .before .before .if1 .taken) (sym (c .before .inside .ensures) ∙ c .if2 .left)
+
+returns-3 : tie.Need-returns-3
+returns-3 c = matched-past _ _ _ _ (c .if1 .left)
+
+pub match1-spec : {M : Type 1} → statement M
+match1-spec =
+    tie.close (tie.spec shared-slice-read-inside inside-requires returns returns-2 returns-3)

@@ -1,0 +1,144 @@
+-- `utf8::step::step_at` meets its contract: by the class of the first byte.
+-- Assumes nothing.
+use mathlib.Core.Path.{_≡_, refl, sym, _∙_}
+use mathlib.Core.Logic.{⊎-elim}
+use Prim.Native.Nat.{ℕ, _<_}
+use native.Mathlib.Omega.{arith}
+use Rattle.core.specs.Utf8.{laterOf, rows}
+use Rattle.core.proofs.utf8.Steps.{matched-small, class-below, only-nine, step-none, step-one, step-by}
+use borrow.Author.Needs.{needs}
+use Rattle.core.proofs.utf8.step.step_at.Statement.{statement}
+use Rattle.core.proofs.utf8.step.step_at.Tie as tie
+use Rattle.core.proofs.utf8.step.step_at.Reads as reads
+use Rattle.core.proofs.utf8.step.step_at.Lts as lts
+use Rattle.core.proofs.utf8.class.class_of.Reads as class-of-reads
+use Rattle.core.proofs.utf8.step.judged.Reads as judged-reads
+use Rattle.core.proofs.utf8.step.match1.Reads as match1-reads
+use Rattle.core.proofs.utf8.step.match2.Reads as match2-reads
+use Rattle.core.proofs.utf8.step.match3.Reads as match3-reads
+
+shared-slice-read-class-of : tie.Need-shared-slice-read-class-of
+shared-slice-read-class-of c = search needs
+
+class-of-requires : tie.Need-class-of-requires
+class-of-requires c κs = search needs
+
+add-next : tie.Need-add-next
+add-next c = search needs
+
+match1-requires : tie.Need-match1-requires
+match1-requires c κs = search needs
+
+judged-requires : tie.Need-judged-requires
+judged-requires c κs = let h = matched-small _ _ _ (c .match1 .ensures) in omega arith
+
+match2-requires : tie.Need-match2-requires
+match2-requires c κs = search needs
+
+judged-requires-2 : tie.Need-judged-requires-2
+judged-requires-2 c κs = let h = matched-small _ _ _ (c .match2 .ensures) in omega arith
+
+match2-requires-2 : tie.Need-match2-requires-2
+match2-requires-2 c κs = search needs
+
+judged-requires-3 : tie.Need-judged-requires-3
+judged-requires-3 c κs = let h = matched-small _ _ _ (c .match22 .ensures) in omega arith
+
+match2-requires-3 : tie.Need-match2-requires-3
+match2-requires-3 c κs = search needs
+
+judged-requires-4 : tie.Need-judged-requires-4
+judged-requires-4 c κs = let h = matched-small _ _ _ (c .match23 .ensures) in omega arith
+
+match3-requires : tie.Need-match3-requires
+match3-requires c κs = search needs
+
+judged-requires-5 : tie.Need-judged-requires-5
+judged-requires-5 c κs = let h = matched-small _ _ _ (c .match3 .ensures) in omega arith
+
+match3-requires-2 : tie.Need-match3-requires-2
+match3-requires-2 c κs = search needs
+
+judged-requires-6 : tie.Need-judged-requires-6
+judged-requires-6 c κs = let h = matched-small _ _ _ (c .match32 .ensures) in omega arith
+
+match3-requires-3 : tie.Need-match3-requires-3
+match3-requires-3 c κs = search needs
+
+judged-requires-7 : tie.Need-judged-requires-7
+judged-requires-7 c κs = let h = matched-small _ _ _ (c .match33 .ensures) in omega arith
+
+returns : tie.Need-returns
+returns c = step-none _ _ _ (c .before .class-of .ensures) (c .match .keys1)
+
+returns-2 : tie.Need-returns-2
+returns-2 c = step-one _ _ _ (c .before .class-of .ensures) (c .match .keys2)
+
+returns-3 : tie.Need-returns-3
+unfolding laterOf rows
+returns-3 c = step-by _ _ 1 _ _ _ _ refl (c .before .before .before .class-of .ensures) (c .before .before .match .keys3) (c .before .match1 .ensures) (c .judged .ensures)
+
+returns-4 : tie.Need-returns-4
+unfolding laterOf rows
+returns-4 c = step-by _ _ 2 _ _ _ _ refl (c .before .before .before .class-of .ensures) (c .before .before .match .keys4) (c .before .match2 .ensures) (c .judged2 .ensures)
+
+returns-5 : tie.Need-returns-5
+unfolding laterOf rows
+returns-5 c =
+    ⊎-elim (λ e. step-by _ _ 3 _ _ _ _ refl (c .before .before .before .class-of .ensures) e (c .before .match22 .ensures) (c .judged3 .ensures))
+    (λ e. step-by _ _ 5 _ _ _ _ refl (c .before .before .before .class-of .ensures) e (c .before .match22 .ensures) (c .judged3 .ensures))
+    (c .before .before .match .keys5)
+
+returns-6 : tie.Need-returns-6
+unfolding laterOf rows
+returns-6 c = step-by _ _ 4 _ _ _ _ refl (c .before .before .before .class-of .ensures) (c .before .before .match .keys6) (c .before .match23 .ensures) (c .judged4 .ensures)
+
+returns-7 : tie.Need-returns-7
+unfolding laterOf rows
+returns-7 c = step-by _ _ 6 _ _ _ _ refl (c .before .before .before .class-of .ensures) (c .before .before .match .keys7) (c .before .match3 .ensures) (c .judged5 .ensures)
+
+returns-8 : tie.Need-returns-8
+unfolding laterOf rows
+returns-8 c = step-by _ _ 7 _ _ _ _ refl (c .before .before .before .class-of .ensures) (c .before .before .match .keys8) (c .before .match32 .ensures) (c .judged6 .ensures)
+
+returns-9 : tie.Need-returns-9
+unfolding laterOf rows
+returns-9 c =
+    let cls = c .before .before .before .class-of .result in
+    let h : cls < 10 = rw (c .before .before .before .class-of .ensures) (class-below _) in
+    let no = c .before .before .match .rest in
+    let e : cls ≡ 9 =
+    only-nine cls h (no .0 .0 .0 .0 .0 .0 .0 .1) (no .0 .0 .0 .0 .0 .0 .1) (no .0 .0 .0 .0 .0 .1) (no .0 .0 .0 .0 .1) (no .0 .0 .0 .1) (no .0 .0 .1) (no .0 .1)
+    (no .1) in
+    step-by _ _ 8 _ _ _ _ refl (c .before .before .before .class-of .ensures) e (c .before .match33 .ensures) (c .judged7 .ensures)
+
+pub step-at-spec : {M : Type 1} → statement M
+step-at-spec =
+    tie.close
+    (tie.spec
+    shared-slice-read-class-of
+    class-of-requires
+    add-next
+    match1-requires
+    judged-requires
+    match2-requires
+    judged-requires-2
+    match2-requires-2
+    judged-requires-3
+    match2-requires-3
+    judged-requires-4
+    match3-requires
+    judged-requires-5
+    match3-requires-2
+    judged-requires-6
+    match3-requires-3
+    judged-requires-7
+    returns
+    returns-2
+    returns-3
+    returns-4
+    returns-5
+    returns-6
+    returns-7
+    returns-8
+    returns-9)

@@ -1,0 +1,21 @@
+// A position that reading is to go on from.
+ghost use mathlib.Core.Path.{_≡_};
+ghost use Rattle.core.specs.Seek.{seekOf};
+
+// What a seek gives.
+pub enum Sought {
+    // The position, which may be the slice's end.
+    At(usize),
+    // Beyond the end: the slice's length, and by how much.
+    Past(usize, usize),
+}
+
+pub fn seek(s: &[u8], to: usize) -> Sought
+    ensures { λ r. ⌜ r ≡ seekOf (now (s .entry)) to ⌝ }
+{
+    let size = s.len();
+    if to <= size {
+        return Sought::At(to);
+    }
+    Sought::Past(size, to - size)
+}
