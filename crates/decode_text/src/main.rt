@@ -1,6 +1,7 @@
 // Decodes texts: each line of standard input that has bytes in hexadecimal, as `C0 AF 41`, is answered by the number of bytes
 // of its decoding and these bytes. A blank line and one that starts with `#` are passed on. In any other line `#` begins a
 // remark, so that ` # nothing` is the empty text.
+use core::part::part;
 use libc::STDIN_FILENO;
 use libc::STDOUT_FILENO;
 ghost use mathlib.Core.Path.{_≡_};
@@ -30,11 +31,6 @@ struct Place {
     len: usize,
     number: u64,
     open: bool,
-}
-
-// The first n bytes, or all.
-fn first(s: &[u8], n: usize) -> &[u8] {
-    if n < s.len() { &s[0..n] } else { s }
 }
 
 // A number at u16.
@@ -169,10 +165,10 @@ fn answer(text: &[u8]) {
     let mut decoded = [0u8; DECODED];
     let n = decode_into(text, &mut decoded, 0);
     let mut shown = [0u8; SHOWN];
-    let k = put_hex(first(&decoded, n), &mut shown);
+    let k = put_hex(part(&decoded, 0, n), &mut shown);
     io::print_decimal(STDOUT_FILENO, n as u64);
     io::write_all(STDOUT_FILENO, b":");
-    io::write_all(STDOUT_FILENO, first(&shown, k));
+    io::write_all(STDOUT_FILENO, part(&shown, 0, k));
     end_line();
 }
 
@@ -201,7 +197,7 @@ fn vector(line: &[u8], number: u64) {
     let read = read_hex(line, &mut bytes);
     match read {
         Hex::Bytes(n) => {
-            answer(first(&bytes, n));
+            answer(part(&bytes, 0, n));
         }
         Hex::Bad(i) => {
             complain(number, b"no byte in hexadecimal at ", rest(line, i));
@@ -234,7 +230,7 @@ fn finish(line: &[u8], place: Place) {
         complain(place.number, b"more than 1024 characters", rest(line, len));
         return;
     }
-    answer_line(first(line, len), place.number);
+    answer_line(part(line, 0, len), place.number);
 }
 
 // The place at the start of the next line.
