@@ -42,10 +42,7 @@ fn copy_reference(here: &Path) {
         let from = source.join(file);
         println!("cargo::rerun-if-changed={}", from.display());
         let bytes = fs::read(&from).unwrap_or_else(|e| {
-            panic!(
-                "{}: {e}. Set NNBFL_SRC to the folder that has nnbfl/src (commit af30eaf9a9)",
-                from.display()
-            )
+            panic!("{}: {e}. Set NNBFL_SRC to the folder that has nnbfl/src (commit af30eaf9a9)", from.display())
         });
         fs::write(copy.join(file), bytes).unwrap();
     }

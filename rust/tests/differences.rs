@@ -148,16 +148,14 @@ fn entry_7_records_with_no_flat_form_are_written() {
     let section = serialize(&record);
     assert!(parse(&section).is_err() || read(&section) != record);
     // standard targets under the letters FLEU
-    let odd = AnimInfo::Standard { anim_type: AnimInfoType::ExtendedUserDataAnim, targets: vec![visible(Curve::default())] };
+    let odd =
+        AnimInfo::Standard { anim_type: AnimInfoType::ExtendedUserDataAnim, targets: vec![visible(Curve::default())] };
     let record = with_contents(vec![content("P", vec![odd])]);
     let section = serialize(&record);
     assert!(parse(&section).is_err() || read(&section) != record);
     // a target of another kind than its letters: written as 9, and read as 0
-    let target = AnimTarget {
-        layer: 0,
-        target: TargetIndex::resolve(&AnimInfoType::PaneSrtAnim, 9),
-        curve: Curve::default(),
-    };
+    let target =
+        AnimTarget { layer: 0, target: TargetIndex::resolve(&AnimInfoType::PaneSrtAnim, 9), curve: Curve::default() };
     let section = serialize(&with_contents(vec![content("P", vec![info(vec![target])])]));
     assert_eq!(section[72 + 1], 9);
     assert_eq!(read(&section), with_contents(vec![content("P", vec![info(vec![visible(Curve::default())])])]));

@@ -21,9 +21,7 @@ fn word(bytes: &[u8], at: usize) -> u32 {
 
 #[test]
 fn words_60_1_0_0() {
-    let bytes = [
-        0x70, 0x61, 0x69, 0x31, 0x14, 0, 0, 0, 0x3C, 0, 1, 0, 0, 0, 0, 0, 0x14, 0, 0, 0,
-    ];
+    let bytes = [0x70, 0x61, 0x69, 0x31, 0x14, 0, 0, 0, 0x3C, 0, 1, 0, 0, 0, 0, 0, 0x14, 0, 0, 0];
     let info = both_ways(&bytes);
     assert_eq!((info.frame_count, info.is_looping), (60, true));
     assert!(info.textures.is_empty() && info.contents.is_empty());
@@ -78,8 +76,24 @@ fn ends_too_early() {
 #[test]
 fn target_numbers() {
     let numbers = [
-        ("FLCC", 16), ("FLCT", 2), ("FLPA", 10), ("FLVC", 17), ("FLVI", 1), ("FLDS", 19), ("FLMT", 5), ("FLPS", 52), ("FLWN", 4),
-        ("FSMA", 1), ("FLAC", 1), ("FLFS", 7), ("FLIM", 3), ("FLMC", 28), ("FLTS", 5), ("FLTP", 1), ("FTBR", 7), ("FVGA", 1),
+        ("FLCC", 16),
+        ("FLCT", 2),
+        ("FLPA", 10),
+        ("FLVC", 17),
+        ("FLVI", 1),
+        ("FLDS", 19),
+        ("FLMT", 5),
+        ("FLPS", 52),
+        ("FLWN", 4),
+        ("FSMA", 1),
+        ("FLAC", 1),
+        ("FLFS", 7),
+        ("FLIM", 3),
+        ("FLMC", 28),
+        ("FLTS", 5),
+        ("FLTP", 1),
+        ("FTBR", 7),
+        ("FVGA", 1),
     ];
     for (letters, number) in numbers {
         let code = u32::from_le_bytes(letters.as_bytes().try_into().unwrap());

@@ -113,7 +113,9 @@ fn main() {
     println!("(or well_formed) takes less time than the call it is named after.\n");
     let mut out = vec![0u8; 4 * LONG];
     for (title, inputs) in inputs() {
-        println!("| {title} | decode_into | from_utf8_lossy | ratio | decode_plain | ratio | well_formed | from_utf8 | ratio |");
+        println!(
+            "| {title} | decode_into | from_utf8_lossy | ratio | decode_plain | ratio | well_formed | from_utf8 | ratio |"
+        );
         println!("|---|---|---|---|---|---|---|---|---|");
         for input in &inputs {
             let size = input.bytes.len() as f64 / 1e9;
