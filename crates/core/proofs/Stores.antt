@@ -3,6 +3,9 @@
 use Prim.Native.Nat.{ℕ, zero, suc, _+_, _-_, _<_, _≤_, min}
 use mathlib.Core.Path.{_≡_, refl, ap, sym, _∙_}
 use mathlib.Core.List.{List, [], _∷_, _++_}
+use mathlib.Core.Bool.{Bool, true, false}
+use borrow.Author.Tests.{leb-true, leb-false}
+use lib.Dec.{leb}
 use native.Mathlib.Nat.{add-zero, add-suc, suc-add}
 use native.Mathlib.Numerals.{add-one}
 use native.Mathlib.Omega.{arith}
@@ -59,3 +62,13 @@ sets-turn l o v a b m p ev em ep = rw (ev, em, ep) (sym (sets-append l o a b))
 -- one turn of a loop that copies
 pub sets-step : (l : List ℕ) (o i to : ℕ) (s : List ℕ) → i < to → to ≤ length s → sets l o (slice i to s) ≡ sets (set l o (getD s i 0)) (o + 1) (slice (i + 1) to s)
 sets-step l o i to s h k = rw (add-one i, add-one o, slice-cons i to s 0 h k)
+
+-- a turn that moves on by what it stored, but not past the end
+pub sets-moved : (l : List ℕ) (o : ℕ) (v a b m : List ℕ) (p : ℕ) → v ≡ a ++ b → m ≡ sets l o a → p ≡ min (o + length a) (length m) → sets m p b ≡ sets l o v
+sets-moved l o v a b m p ev em ep = go (leb (o + length a) (length m)) refl
+  where
+    go : (t : Bool) → leb (o + length a) (length m) ≡ t → sets m p b ≡ sets l o v
+    go true e = let h = leb-true (o + length a) (length m) e in sets-turn l o v a b m p ev em (omega arith)
+    go false e =
+        let h = leb-false (o + length a) (length m) e in
+        sets-at-end m p (o + length a) b (omega arith) (omega arith) ∙ sets-turn l o v a b m (o + length a) ev em refl

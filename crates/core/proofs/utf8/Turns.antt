@@ -1,27 +1,28 @@
 -- What a step of the code does at a position of a text.
 -- Assumes nothing.
-use Prim.Native.Nat.{ℕ, zero, suc, _+_, _-_, _<_, _≤_}
+use Prim.Native.Nat.{ℕ, zero, suc, min, _+_, _-_, _*_, _<_, _≤_}
 use mathlib.Core.Path.{_≡_, refl, ap, sym, _∙_, subst}
 use mathlib.Core.Bool.{Bool, true, false, _&&_}
-use mathlib.Core.List.{List, [], _∷_, _++_}
+use mathlib.Core.List.{List, [], _∷_, _++_, append-nil}
 use native.Mathlib.Nat.{add-zero, zero-add}
 use native.Mathlib.Numerals.{add-one}
 use native.Mathlib.Omega.{arith}
 use borrow.Author.Tests.{le-leb}
 use lib.Dec.{leb, eqb}
-use lib.ListN.{length, getD, take, drop, length-drop, drop-of-length-le}
-use lib.Seq.{slice, drop-cons, drop-drop, take-take, take-nil}
+use lib.ListN.{length, getD, take, drop, length-append, length-drop, drop-of-length-le}
+use lib.Seq.{sets, slice, slice-empty, length-slice, drop-cons, drop-drop, take-nil}
 use Rattle.core.specs.Choice.{pick}
 use Rattle.core.specs.declared.utf8.step.Step.{Step}
 use Rattle.core.specs.declared.utf8.step.Step.the-variants.{Good, Bad}
-use Rattle.core.specs.Utf8.{rows, within, classOf, laterOf, matched, more, good, stepOf, replacement, decode, sound, illSize}
+use Rattle.core.specs.Utf8.{rows, within, classOf, laterOf, matched, more, good, stepOf, replacement, decode, decodedSize, sound, illSize}
+use Rattle.core.proofs.Stores.{sets-moved}
 use Rattle.core.proofs.utf8.Steps.{matched-none}
-use Rattle.core.proofs.utf8.Pieces.{more-within, step-good, step-bad, decode-good, decode-bad, sound-nil, sound-good, sound-bad, ill-nil, ill-bad}
-use Rattle.core.proofs.utf8.Laws.{good-from}
+use Rattle.core.proofs.utf8.Pieces.{more-within, step-good, step-bad, decode-nil, decode-good, decode-bad, sound-nil, sound-good, sound-bad, ill-nil, ill-bad}
+use Rattle.core.proofs.utf8.Laws.{good-from, sound-le, decode-front, ill-short, ill-within, ill-or-end, decode-ill}
 
 -- ---- parts of a list
 
-take-drop : (i k : ℕ) (l : List ℕ) → take k (drop i l) ≡ slice i (i + k) l
+pub take-drop : (i k : ℕ) (l : List ℕ) → take k (drop i l) ≡ slice i (i + k) l
 take-drop zero k l = rw zero-add
 take-drop (suc i) k [] = simp take-nil
 take-drop (suc i) k (x ∷ l) = rw (native.Mathlib.Nat.suc-add i k) (take-drop i k l)
@@ -74,7 +75,11 @@ module _ (s : List ℕ) (i k : ℕ) (h : i < length s) where
         some = b .0;
         reach = b .1;
         on = omega (arith, a, d, g .1);
-        split = ap decode cut ∙ decode-good x xs (g .0) ∙ rw (w, rest (g .1));
+        split =
+            ap decode cut
+            ∙ decode-good x xs (g .0)
+            ∙ ap (λ (l : List ℕ). l ++ decode (drop (more x xs) xs)) w
+            ∙ ap (λ (l : List ℕ). slice i (i + k) s ++ decode l) (rest (g .1));
       }
 
   pub bad-at : (r : Step) → r ≡ stepOf (getD s i 0) (drop (i + 1) s) → r ≡ Bad k → BadAt s i k
@@ -121,3 +126,131 @@ pub run-end : (s : List ℕ) (from end skip : ℕ) → end + sound (drop end s) 
     → (0 < skip → (skip ≡ illSize (drop end s)) × (sound (drop end s) ≡ 0)) → (end ≡ from + sound (drop from s)) × (skip ≡ illSize (drop end s))
 run-end s from end zero e last bad = (omega (arith, e, sound-end s end (last refl)), sym (ill-end s end (last refl)))
 run-end s from end (suc k) e last bad = let b = bad (omega arith) in (omega (arith, e, b .1), b .0)
+
+-- ---- a run: the characters from i on, and the ill-formed subpart behind them
+
+pub record RunAt (s : List ℕ) (i end skip : ℕ) : Type 0 where
+  pub start : i ≤ end
+  pub reach : end + skip ≤ length s
+  pub short : skip ≤ 3
+  pub last : skip ≡ 0 → end ≡ length s
+  pub whole : skip ≡ 0 → decode (drop i s) ≡ slice i end s
+  pub split : 0 < skip → decode (drop i s) ≡ slice i end s ++ (replacement ++ decode (drop (end + skip) s))
+
+module _ (s : List ℕ) (i end skip : ℕ) (h : i ≤ length s) (e : end ≡ i + sound (drop i s)) (k : skip ≡ illSize (drop end s)) where
+  behind : drop (sound (drop i s)) (drop i s) ≡ drop end s
+  behind = drop-drop (sound (drop i s)) i s ∙ rw (← e)
+
+  bounds : (i ≤ end) × (end ≤ length s)
+  bounds = let l = sound-le (drop i s) in let d = length-drop i s in omega (arith, l, d, e)
+
+  front : decode (drop i s) ≡ slice i end s ++ decode (drop end s)
+  front =
+      decode-front (drop i s)
+      ∙ ap (λ (l : List ℕ). l ++ decode (drop (sound (drop i s)) (drop i s))) (take-drop i (sound (drop i s)) s ∙ ap (λ (n : ℕ). slice i n s) (sym e))
+      ∙ ap (λ (l : List ℕ). slice i end s ++ decode l) behind
+
+  ended : skip ≡ 0 → end ≡ length s
+  ended q =
+      let z : illSize (drop (sound (drop i s)) (drop i s)) ≡ 0 = ap illSize behind ∙ sym k ∙ q in
+      let w = ill-or-end (drop i s) z in
+      let d = length-drop i s in
+      omega (arith, w, d, e)
+
+  pub run-at : RunAt s i end skip
+  run-at =
+      let b = bounds in
+      let w = ill-within (drop end s) in
+      let d = length-drop end s in
+      record {
+        start = b .0;
+        reach = omega (arith, b .1, w, d, k);
+        short = rw k (ill-short (drop end s));
+        last = ended;
+        whole = λ q. front ∙ ap (λ (l : List ℕ). slice i end s ++ decode l) (none q) ∙ ap (λ (l : List ℕ). slice i end s ++ l) decode-nil ∙ append-nil (slice i end s);
+        split = λ q. front ∙ ap (λ (l : List ℕ). slice i end s ++ l) (there q);
+      }
+    where
+      none : skip ≡ 0 → drop end s ≡ []
+      none q = let w : length s ≤ end = omega (arith, ended q) in drop-of-length-le s w
+
+      there : 0 < skip → decode (drop end s) ≡ replacement ++ decode (drop (end + skip) s)
+      there q =
+          decode-ill (drop end s) (omega (arith, q, k))
+          ∙ ap (λ (l : List ℕ). replacement ++ decode l) (ap (λ (n : ℕ). drop n (drop end s)) (sym k) ∙ drop-drop skip end s)
+
+-- ---- lengths, for the loops that decode: `grown` is how much longer the decoding of what was passed is
+
+abbrev pub Counted : List ℕ → ℕ → ℕ → Type 0
+Counted s i grown = (i ≤ length s) × (length (decode (drop i s)) + i + grown ≡ length (decode s)) × (grown ≤ 2 * i)
+
+pub counted-start : (s : List ℕ) → Counted s 0 0
+counted-start s = (omega arith, omega arith, omega arith)
+
+pub counted-run : (s : List ℕ) (i grown end skip : ℕ) → Counted s i grown → RunAt s i end skip → 0 < skip → Counted s (end + skip) (grown + (3 - skip))
+counted-run s i grown end skip c r h =
+    let a = ap length (r .split h) in
+    let b = length-append (slice i end s) (replacement ++ decode (drop (end + skip) s)) in
+    let l = length-slice i end s (omega (arith, r .reach)) in
+    let st = r .start in
+    let sh = r .short in
+    (r .reach, omega (arith, c .1, a, b, l, st, sh), omega (arith, c .2, st, sh))
+
+-- at the end
+pub counted-last : (s : List ℕ) (i grown end skip : ℕ) → Counted s i grown → RunAt s i end skip → skip ≡ 0 → length s + grown ≡ length (decode s)
+counted-last s i grown end skip c r q =
+    let a = ap length (r .whole q) in
+    let e = r .last q in
+    let l = length-slice i end s (omega (arith, e)) in
+    omega (arith, c .0, c .1, a, l, e)
+
+pub counted-size : (s : List ℕ) (n r : ℕ) → n ≡ length (decode s) → r ≡ min n 18446744073709551615 → r ≡ decodedSize s
+unfolding decodedSize
+counted-size s n r e q = rw (← e) q
+
+-- ---- stores, for the same loops: what is still to be decoded, stored from here on, makes the list that all of it makes
+
+pub sets-run : (s out : List ℕ) (o i end skip : ℕ) (part m n : List ℕ) (p q : ℕ) → RunAt s i end skip → 0 < skip → part ≡ slice i end s → m ≡ sets out o part
+    → p ≡ min (o + (end - i)) (length m) → n ≡ sets m p replacement → q ≡ min (p + 3) (length n) → sets n q (decode (drop (end + skip) s)) ≡ sets out o (decode (drop i s))
+sets-run s out o i end skip part m n p q r h es em ep en eq =
+    let l = length-slice i end s (omega (arith, r .reach)) in
+    sets-moved m p (replacement ++ decode (drop (end + skip) s)) replacement (decode (drop (end + skip) s)) n q refl en eq
+    ∙ sets-moved out o (decode (drop i s)) (slice i end s) (replacement ++ decode (drop (end + skip) s)) m p (r .split h) (rw es at em) (rw l ep)
+
+-- a part of the code, `&s[i..end]`
+pub part-is : (i end : ℕ) (s : List ℕ) → i ≤ end → take (end - i) (drop i s) ≡ slice i end s
+part-is i end s h = let e : i + (end - i) ≡ end = omega arith in take-drop i (end - i) s ∙ ap (λ (n : ℕ). slice i n s) e
+
+-- ---- the same for one step at a time
+
+pub counted-good : (s : List ℕ) (i grown k : ℕ) → Counted s i grown → GoodAt s i k → Counted s (i + k) grown
+counted-good s i grown k c g =
+    let a = ap length (g .split) in
+    let b = length-append (slice i (i + k) s) (decode (drop (i + k) s)) in
+    let l = length-slice i (i + k) s (g .reach) in
+    (g .reach, omega (arith, c .1, a, b, l), omega (arith, c .2))
+
+-- an ill-formed subpart is a run of no characters with it behind
+pub run-bad : (s : List ℕ) (i k : ℕ) → BadAt s i k → RunAt s i i k
+run-bad s i k b = run-at s i i k (omega (arith, b .reach)) (omega (arith, b .here)) (b .size)
+
+pub counted-end : (s : List ℕ) (i grown : ℕ) → Counted s i grown → length s ≤ i → length s + grown ≡ length (decode s)
+counted-end s i grown c h =
+    let a : length (decode (drop i s)) ≡ 0 = rw (drop-of-length-le s h, decode-nil) refl in
+    omega (arith, c .0, c .1, a)
+
+pub decode-end : (s : List ℕ) (i : ℕ) → length s ≤ i → decode (drop i s) ≡ []
+decode-end s i h = rw (drop-of-length-le s h) decode-nil
+
+pub sets-good : (s out : List ℕ) (o i k : ℕ) (part m : List ℕ) (p : ℕ) → GoodAt s i k → part ≡ slice i (i + k) s → m ≡ sets out o part
+    → p ≡ min (o + k) (length m) → sets m p (decode (drop (i + k) s)) ≡ sets out o (decode (drop i s))
+sets-good s out o i k part m p g es em ep =
+    let l = length-slice i (i + k) s (g .reach) in
+    let n : length (slice i (i + k) s) ≡ k = omega (arith, l) in
+    sets-moved out o (decode (drop i s)) (slice i (i + k) s) (decode (drop (i + k) s)) m p (g .split) (rw es at em) (rw n ep)
+
+pub sets-bad : (s out : List ℕ) (o i k : ℕ) (m : List ℕ) (p : ℕ) → BadAt s i k → m ≡ sets out o replacement → p ≡ min (o + 3) (length m)
+    → sets m p (decode (drop (i + k) s)) ≡ sets out o (decode (drop i s))
+sets-bad s out o i k m p b em ep =
+    let r = run-bad s i k b in
+    sets-moved out o (decode (drop i s)) replacement (decode (drop (i + k) s)) m p (r .split (b .some) ∙ ap (λ (l : List ℕ). l ++ (replacement ++ decode (drop (i + k) s))) (slice-empty i s)) em ep
