@@ -163,17 +163,13 @@ fn end_line() {
 // Writes the decoding of a text.
 fn answer(text: &[u8]) {
     let mut decoded = [0u8; DECODED];
-    let n = decode_into(text, &mut decoded, 0);
+    let n = core::utf8::decode_into(text, &mut decoded, 0);
     let mut shown = [0u8; SHOWN];
     let k = put_hex(part(&decoded, 0, n), &mut shown);
     io::print_decimal(STDOUT_FILENO, n as u64);
     io::write_all(STDOUT_FILENO, b":");
     io::write_all(STDOUT_FILENO, part(&shown, 0, k));
     end_line();
-}
-
-fn decode_into(text: &[u8], out: &mut [u8], at: usize) -> usize {
-    0
 }
 
 // The bytes from i on, or none.
