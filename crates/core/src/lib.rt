@@ -1,2 +1,3 @@
 // Bytes and text: what every layer above is made of. No function that another crate can call asks anything of its caller.
 pub mod number;
+pub mod text;

@@ -1,0 +1,231 @@
+-- The first zero of a text: where it can stand, over a text in two parts, at a position of a slice; and what a text that was found says of its bounds.
+-- Assumes nothing.
+use Prim.Native.Nat.{ℕ, zero, suc, _+_, _-_, _<_, _≤_, min}
+use mathlib.Core.Path.{_≡_, refl, sym, ap, _∙_}
+use mathlib.Core.Bool.{Bool, true, false}
+use mathlib.Core.List.{List, [], _∷_, _++_}
+use native.Mathlib.Nat.{zero-add, add-zero}
+use native.Mathlib.Numerals.{add-one}
+use native.Mathlib.Omega.{arith}
+use borrow.Author.Tests.{eq-eqb, ne-eqb, eqb-true, eqb-false, ltb-true, ltb-false, lt-ltb, le-ltb}
+use lib.Dec.{eqb, ltb}
+use mir.Val.{boolByte}
+use lib.ListN.{length, getD, take, drop, length-append, length-take, length-drop, take-append-drop, drop-of-length-le}
+use lib.Seq.{slice, slice-cons, slice-empty, length-slice, drop-cons, drop-drop, drop-length}
+use Rattle.core.specs.Choice.{pick}
+use Rattle.core.specs.Text.{beforeZero, zeros, fixedOf, endedOf}
+use Rattle.core.specs.declared.text.TextAt.{TextAt}
+use Rattle.core.specs.declared.text.TextAt.the-variants.{Text, Past, Unended}
+
+-- ---- one byte
+
+-- a zero stands before nothing
+pub before-zero : (b : ℕ) (bs : List ℕ) → b ≡ 0 → beforeZero (b ∷ bs) ≡ 0
+unfolding beforeZero
+before-zero b bs e = rw (eq-eqb _ _ e)
+
+-- another byte is one more
+pub before-other : (b : ℕ) (bs : List ℕ) → (b ≡ 0 → ⊥) → beforeZero (b ∷ bs) ≡ suc (beforeZero bs)
+unfolding beforeZero
+before-other b bs e = rw (ne-eqb _ _ e)
+
+-- and counts as one, or not
+count-zero : (b : ℕ) (bs : List ℕ) → b ≡ 0 → zeros (b ∷ bs) ≡ 1 + zeros bs
+unfolding zeros
+count-zero b bs e = rw (eq-eqb _ _ e)
+
+count-other : (b : ℕ) (bs : List ℕ) → (b ≡ 0 → ⊥) → zeros (b ∷ bs) ≡ 0 + zeros bs
+unfolding zeros
+count-other b bs e = rw (ne-eqb _ _ e)
+
+-- ---- lists
+
+-- a byte is zero or not
+by-byte {ℓ} : {A : Type ℓ} (b : ℕ) → (b ≡ 0 → A) → ((b ≡ 0 → ⊥) → A) → A
+by-byte {A = A} b f g = go (eqb b 0) refl
+  where
+    go : (t : Bool) → eqb b 0 ≡ t → A
+    go true q = f (eqb-true b 0 q)
+    go false q = g (eqb-false b 0 q)
+
+pub before-le : (s : List ℕ) → beforeZero s ≤ length s
+before-le [] = unfold beforeZero in omega arith
+before-le (b ∷ bs) = by-byte b (λ e. omega (arith, before-zero b bs e)) (λ e. omega (arith, before-other b bs e, before-le bs))
+
+-- a zero in the first part is the first of the whole
+pub before-append : (a b : List ℕ) → beforeZero a < length a → beforeZero (a ++ b) ≡ beforeZero a
+before-append [] b h = absurd (omega arith)
+before-append (x ∷ a) b h =
+    by-byte x (λ e. before-zero x (a ++ b) e ∙ sym (before-zero x a e))
+    (λ e. before-other x (a ++ b) e ∙ ap suc (before-append a b (omega (arith, before-other x a e))) ∙ sym (before-other x a e))
+
+-- a first part with no zero is passed
+pub before-free : (a b : List ℕ) → beforeZero a ≡ length a → beforeZero (a ++ b) ≡ length a + beforeZero b
+before-free [] b h = sym (zero-add _)
+before-free (x ∷ a) b h =
+    by-byte x (λ e. absurd (omega (arith, before-zero x a e)))
+    (λ e. omega (arith, before-other x (a ++ b) e, before-free a b (omega (arith, before-other x a e))))
+
+-- a list none of whose bytes is zero has no zero, and no byte before the first zero is one
+pub free-of : (s : List ℕ) → ((i : ℕ) → i < length s → getD s i 0 ≡ 0 → ⊥) → beforeZero s ≡ length s
+free-of [] h = unfold beforeZero in refl
+free-of (b ∷ bs) h = before-other b bs (h 0 (omega arith)) ∙ ap suc (free-of bs (λ i k. h (suc i) (omega arith)))
+
+pub free-at : (s : List ℕ) (i : ℕ) → i < beforeZero s → getD s i 0 ≡ 0 → ⊥
+free-at [] i h e = unfold beforeZero in omega arith
+free-at (b ∷ bs) zero h e = omega (arith, before-zero b bs e)
+free-at (b ∷ bs) (suc i) h e =
+    by-byte b (λ z. omega (arith, before-zero b bs z)) (λ z. free-at bs i (omega (arith, before-other b bs z)) e)
+
+-- what stands at the first zero is zero
+pub zero-at : (s : List ℕ) → beforeZero s < length s → getD s (beforeZero s) 0 ≡ 0
+zero-at [] h = absurd (omega arith)
+zero-at (b ∷ bs) h =
+    by-byte b (λ e. rw (before-zero b bs e) e) (λ e. rw (before-other b bs e) (zero-at bs (omega (arith, before-other b bs e))))
+
+-- the text before the first zero has none
+pub before-text : (s : List ℕ) → beforeZero (take (beforeZero s) s) ≡ beforeZero s
+before-text [] = unfold beforeZero in refl
+before-text (b ∷ bs) =
+    by-byte b (λ e. rw (before-zero b bs e) (unfold beforeZero in refl))
+    (λ e. rw (before-other b bs e) (before-other b (take (beforeZero bs) bs) e ∙ ap suc (before-text bs)))
+
+-- where none of the bytes counts as a zero there is none
+pub none-free : (s : List ℕ) → zeros s ≡ 0 → beforeZero s ≡ length s
+none-free [] h = unfold beforeZero in refl
+none-free (b ∷ bs) h =
+    by-byte b (λ e. absurd (omega (arith, count-zero b bs e)))
+    (λ e. before-other b bs e ∙ ap suc (none-free bs (omega (arith, count-other b bs e))))
+
+-- ---- positions
+
+module _ (s : List ℕ) (i : ℕ) (h : i < length s) where
+  -- the byte at a position is the first zero, or one more before it
+  pub zero-here : getD s i 0 ≡ 0 → beforeZero (drop i s) ≡ 0
+  zero-here e = rw (drop-cons s i 0 h) (before-zero _ _ e)
+
+  pub zero-later : (getD s i 0 ≡ 0 → ⊥) → beforeZero (drop i s) ≡ suc (beforeZero (drop (i + 1) s))
+  zero-later e = rw (add-one, drop-cons s i 0 h) (before-other _ _ e)
+
+-- at or past the end there is nothing
+pub zero-none : (s : List ℕ) (i : ℕ) → length s ≤ i → beforeZero (drop i s) ≡ 0
+zero-none s i h = rw (drop-of-length-le s h) (unfold beforeZero in refl)
+
+-- k bytes with no zero are passed
+pub zero-block : (s : List ℕ) (i k : ℕ) → i + k ≤ length s → zeros (take k (drop i s)) ≡ 0 → beforeZero (drop i s) ≡ k + beforeZero (drop (i + k) s)
+zero-block s i k h e =
+    let l : length (take k (drop i s)) ≡ k = simp (length-take, length-drop) (omega arith) in
+    ap beforeZero (sym (take-append-drop k (drop i s))) ∙ before-free (take k (drop i s)) (drop k (drop i s)) (none-free _ e)
+    ∙ rw (l, drop-drop)
+
+-- a turn of a loop that counts the zeros of k bytes: n are counted of the first i
+pub zeros-turn : (s : List ℕ) (at k i n all : ℕ) → at + k ≤ length s → i < k → n + zeros (take (k - i) (drop (at + i) s)) ≡ all
+    → n + boolByte (eqb (getD s (at + i) 0) 0) + zeros (take (k - (i + 1)) (drop (at + (i + 1)) s)) ≡ all
+zeros-turn s at k i n all h l e =
+    let m : k - i ≡ suc (k - (i + 1)) = omega arith in
+    let p : at + (i + 1) ≡ suc (at + i) = omega arith in
+    let q = rw (m, drop-cons s (at + i) 0 (omega arith)) at e in
+    rw p (step (getD s (at + i) 0) (take (k - (i + 1)) (drop (suc (at + i)) s)) n all q)
+  where
+    step : (b : ℕ) (bs : List ℕ) (n all : ℕ) → n + zeros (b ∷ bs) ≡ all → n + boolByte (eqb b 0) + zeros bs ≡ all
+    step b bs n all e =
+        by-byte b (λ z. rw (eq-eqb _ _ z) (omega (arith, count-zero b bs z))) (λ z. rw (ne-eqb _ _ z) (omega (arith, count-other b bs z)))
+
+-- its end: all k are counted
+pub zeros-done : (l : List ℕ) (k i n all : ℕ) → k ≤ i → n + zeros (take (k - i) l) ≡ all → n ≡ all
+unfolding zeros
+zeros-done l k i n all h e =
+    let m : k - i ≡ 0 = omega arith in
+    let q = rw m at e in
+    omega arith
+
+-- a test counts for one at most
+pub bool-le : (t : Bool) → boolByte t ≤ 1
+bool-le true = omega arith
+bool-le false = omega arith
+
+-- ---- the answers, taken apart
+
+-- a text of a field: it lies within the field, and the field within the slice
+pub record Fixed (n : ℕ) (s : List ℕ) (at len next : ℕ) : Type 0 where
+  pub starts : at < length s
+  pub text : len ≡ beforeZero (take n (drop at s))
+  pub within : at + len ≤ next
+  pub field : next ≤ at + n
+  pub fits : next ≤ length s
+
+pub fixed-text : (n : ℕ) (s : List ℕ) (at len next : ℕ) → fixedOf n s at ≡ Text len next → Fixed n s at len next
+unfolding fixedOf
+fixed-text n s at len next e = go (ltb at (length s)) refl e
+  where
+    go : (t : Bool) → ltb at (length s) ≡ t
+        → pick t (Text (beforeZero (take n (drop at s))) (at + length (take n (drop at s)))) (Past at n) ≡ Text len next
+        → Fixed n s at len next
+    go true q e =
+        let i : at < length s = ltb-true _ _ q in
+        let a : beforeZero (take n (drop at s)) ≡ len = cc in
+        let b : at + length (take n (drop at s)) ≡ next = cc in
+        let l : length (take n (drop at s)) ≡ min n (length s - at) = simp (length-take, length-drop) in
+        let z = before-le (take n (drop at s)) in
+        record { starts = i; text = sym a; within = omega arith; field = omega arith; fits = omega arith }
+    go false q e = let z : _≡_ {A = ℕ} 0 1 = cc in absurd (omega arith)
+
+-- a field that is refused: nothing of the slice is left for it
+pub fixed-past : (n : ℕ) (s : List ℕ) (at o m : ℕ) → fixedOf n s at ≡ Past o m → (length s ≤ at) × (o ≡ at) × (m ≡ n)
+unfolding fixedOf
+fixed-past n s at o m e = go (ltb at (length s)) refl e
+  where
+    go : (t : Bool) → ltb at (length s) ≡ t
+        → pick t (Text (beforeZero (take n (drop at s))) (at + length (take n (drop at s)))) (Past at n) ≡ Past o m
+        → (length s ≤ at) × (o ≡ at) × (m ≡ n)
+    go true q e = let z : _≡_ {A = ℕ} 0 1 = cc in absurd (omega arith)
+    go false q e = (ltb-false _ _ q, cc, cc)
+
+-- and it is never refused for want of a zero
+pub fixed-ends : (n : ℕ) (s : List ℕ) (at a : ℕ) → fixedOf n s at ≡ Unended a → ⊥
+unfolding fixedOf
+fixed-ends n s at a e = go (ltb at (length s)) e
+  where
+    go : (t : Bool) → pick t (Text (beforeZero (take n (drop at s))) (at + length (take n (drop at s)))) (Past at n) ≡ Unended a → ⊥
+    go true e = let z : _≡_ {A = ℕ} 0 1 = cc in omega arith
+    go false e = let z : _≡_ {A = ℕ} 0 1 = cc in omega arith
+
+-- a text that ends at a zero: the zero lies within the slice, and the next position after it
+pub record Ended (s : List ℕ) (at len next : ℕ) : Type 0 where
+  pub text : len ≡ beforeZero (drop at s)
+  pub after : next ≡ at + len + 1
+  pub fits : next ≤ length s
+
+pub ended-text : (s : List ℕ) (at len next : ℕ) → endedOf s at ≡ Text len next → Ended s at len next
+unfolding endedOf
+ended-text s at len next e = go (ltb (at + beforeZero (drop at s)) (length s)) refl e
+  where
+    go : (t : Bool) → ltb (at + beforeZero (drop at s)) (length s) ≡ t
+        → pick t (Text (beforeZero (drop at s)) (at + beforeZero (drop at s) + 1)) (Unended at) ≡ Text len next
+        → Ended s at len next
+    go true q e =
+        let i : at + beforeZero (drop at s) < length s = ltb-true _ _ q in
+        let a : beforeZero (drop at s) ≡ len = cc in
+        let b : at + beforeZero (drop at s) + 1 ≡ next = cc in
+        record { text = sym a; after = omega arith; fits = omega arith }
+    go false q e = let z : _≡_ {A = ℕ} 0 1 = cc in absurd (omega arith)
+
+-- a text that is refused: no zero from its start on
+pub ended-unended : (s : List ℕ) (at a : ℕ) → endedOf s at ≡ Unended a → (length s ≤ at + beforeZero (drop at s)) × (a ≡ at)
+unfolding endedOf
+ended-unended s at a e = go (ltb (at + beforeZero (drop at s)) (length s)) refl e
+  where
+    go : (t : Bool) → ltb (at + beforeZero (drop at s)) (length s) ≡ t
+        → pick t (Text (beforeZero (drop at s)) (at + beforeZero (drop at s) + 1)) (Unended at) ≡ Unended a
+        → (length s ≤ at + beforeZero (drop at s)) × (a ≡ at)
+    go true q e = let z : _≡_ {A = ℕ} 0 1 = cc in absurd (omega arith)
+    go false q e = (ltb-false _ _ q, cc)
+
+-- and it is refused for nothing else
+pub ended-never-past : (s : List ℕ) (at o m : ℕ) → endedOf s at ≡ Past o m → ⊥
+unfolding endedOf
+ended-never-past s at o m e = go (ltb (at + beforeZero (drop at s)) (length s)) e
+  where
+    go : (t : Bool) → pick t (Text (beforeZero (drop at s)) (at + beforeZero (drop at s) + 1)) (Unended at) ≡ Past o m → ⊥
+    go true e = let z : _≡_ {A = ℕ} 0 1 = cc in omega arith
+    go false e = let z : _≡_ {A = ℕ} 0 1 = cc in omega arith
