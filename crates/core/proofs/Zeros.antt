@@ -2,18 +2,17 @@
 -- Assumes nothing.
 use Prim.Native.Nat.{ℕ, zero, suc, _+_, _-_, _<_, _≤_, min}
 use mathlib.Core.Path.{_≡_, refl, sym, ap, _∙_}
-use mathlib.Core.Bool.{Bool, true, false}
+use mathlib.Core.Bool.{Bool, true, false, not, _&&_, and-assoc, and-true, true≢false}
 use mathlib.Core.List.{List, [], _∷_, _++_}
 use native.Mathlib.Nat.{zero-add, add-zero}
 use native.Mathlib.Numerals.{add-one}
 use native.Mathlib.Omega.{arith}
 use borrow.Author.Tests.{eq-eqb, ne-eqb, eqb-true, eqb-false, ltb-true, ltb-false, lt-ltb, le-ltb}
 use lib.Dec.{eqb, ltb}
-use mir.Val.{boolByte}
 use lib.ListN.{length, getD, take, drop, length-append, length-take, length-drop, take-append-drop, drop-of-length-le}
 use lib.Seq.{slice, slice-cons, slice-empty, length-slice, drop-cons, drop-drop, drop-length}
 use Rattle.core.specs.Choice.{pick}
-use Rattle.core.specs.Text.{beforeZero, zeros, fixedOf, endedOf}
+use Rattle.core.specs.Text.{beforeZero, zeroFree, fixedOf, endedOf}
 use Rattle.core.specs.declared.text.TextAt.{TextAt}
 use Rattle.core.specs.declared.text.TextAt.the-variants.{Text, Past, Unended}
 
@@ -29,14 +28,14 @@ pub before-other : (b : ℕ) (bs : List ℕ) → (b ≡ 0 → ⊥) → beforeZer
 unfolding beforeZero
 before-other b bs e = rw (ne-eqb _ _ e)
 
--- and counts as one, or not
-count-zero : (b : ℕ) (bs : List ℕ) → b ≡ 0 → zeros (b ∷ bs) ≡ 1 + zeros bs
-unfolding zeros
-count-zero b bs e = rw (eq-eqb _ _ e)
+-- and the test of all bytes fails at a zero, or goes on
+free-zero : (b : ℕ) (bs : List ℕ) → b ≡ 0 → zeroFree (b ∷ bs) ≡ false
+unfolding zeroFree
+free-zero b bs e = rw (eq-eqb _ _ e)
 
-count-other : (b : ℕ) (bs : List ℕ) → (b ≡ 0 → ⊥) → zeros (b ∷ bs) ≡ 0 + zeros bs
-unfolding zeros
-count-other b bs e = rw (ne-eqb _ _ e)
+free-other : (b : ℕ) (bs : List ℕ) → (b ≡ 0 → ⊥) → zeroFree (b ∷ bs) ≡ zeroFree bs
+unfolding zeroFree
+free-other b bs e = rw (ne-eqb _ _ e)
 
 -- ---- lists
 
@@ -90,12 +89,12 @@ before-text (b ∷ bs) =
     by-byte b (λ e. rw (before-zero b bs e) (unfold beforeZero in refl))
     (λ e. rw (before-other b bs e) (before-other b (take (beforeZero bs) bs) e ∙ ap suc (before-text bs)))
 
--- where none of the bytes counts as a zero there is none
-pub none-free : (s : List ℕ) → zeros s ≡ 0 → beforeZero s ≡ length s
+-- and that is what the test of all bytes says
+pub none-free : (s : List ℕ) → zeroFree s ≡ true → beforeZero s ≡ length s
 none-free [] h = unfold beforeZero in refl
 none-free (b ∷ bs) h =
-    by-byte b (λ e. absurd (omega (arith, count-zero b bs e)))
-    (λ e. before-other b bs e ∙ ap suc (none-free bs (omega (arith, count-other b bs e))))
+    by-byte b (λ e. let z : true ≡ false = sym h ∙ free-zero b bs e in absurd (true≢false z))
+    (λ e. before-other b bs e ∙ ap suc (none-free bs (sym (free-other b bs e) ∙ h)))
 
 -- ---- positions
 
@@ -112,37 +111,27 @@ pub zero-none : (s : List ℕ) (i : ℕ) → length s ≤ i → beforeZero (drop
 zero-none s i h = rw (drop-of-length-le s h) (unfold beforeZero in refl)
 
 -- k bytes with no zero are passed
-pub zero-block : (s : List ℕ) (i k : ℕ) → i + k ≤ length s → zeros (take k (drop i s)) ≡ 0 → beforeZero (drop i s) ≡ k + beforeZero (drop (i + k) s)
+pub zero-block : (s : List ℕ) (i k : ℕ) → i + k ≤ length s → zeroFree (take k (drop i s)) ≡ true → beforeZero (drop i s) ≡ k + beforeZero (drop (i + k) s)
 zero-block s i k h e =
     let l : length (take k (drop i s)) ≡ k = simp (length-take, length-drop) (omega arith) in
     ap beforeZero (sym (take-append-drop k (drop i s))) ∙ before-free (take k (drop i s)) (drop k (drop i s)) (none-free _ e)
     ∙ rw (l, drop-drop)
 
--- a turn of a loop that counts the zeros of k bytes: n are counted of the first i
-pub zeros-turn : (s : List ℕ) (at k i n all : ℕ) → at + k ≤ length s → i < k → n + zeros (take (k - i) (drop (at + i) s)) ≡ all
-    → n + boolByte (eqb (getD s (at + i) 0) 0) + zeros (take (k - (i + 1)) (drop (at + (i + 1)) s)) ≡ all
-zeros-turn s at k i n all h l e =
+-- a turn of a loop that tests k bytes, of which it has tested i
+pub clear-turn : (s : List ℕ) (at k i : ℕ) (t all : Bool) → at + k ≤ length s → i < k → t && zeroFree (take (k - i) (drop (at + i) s)) ≡ all
+    → (t && not (eqb (getD s (at + i) 0) 0)) && zeroFree (take (k - (i + 1)) (drop (at + (i + 1)) s)) ≡ all
+unfolding zeroFree
+clear-turn s at k i t all h l e =
     let m : k - i ≡ suc (k - (i + 1)) = omega arith in
     let p : at + (i + 1) ≡ suc (at + i) = omega arith in
-    let q = rw (m, drop-cons s (at + i) 0 (omega arith)) at e in
-    rw p (step (getD s (at + i) 0) (take (k - (i + 1)) (drop (suc (at + i)) s)) n all q)
-  where
-    step : (b : ℕ) (bs : List ℕ) (n all : ℕ) → n + zeros (b ∷ bs) ≡ all → n + boolByte (eqb b 0) + zeros bs ≡ all
-    step b bs n all e =
-        by-byte b (λ z. rw (eq-eqb _ _ z) (omega (arith, count-zero b bs z))) (λ z. rw (ne-eqb _ _ z) (omega (arith, count-other b bs z)))
+    rw (and-assoc, p) (rw (m, drop-cons s (at + i) 0 (omega arith)) at e)
 
--- its end: all k are counted
-pub zeros-done : (l : List ℕ) (k i n all : ℕ) → k ≤ i → n + zeros (take (k - i) l) ≡ all → n ≡ all
-unfolding zeros
-zeros-done l k i n all h e =
+-- its end: all k are tested
+pub clear-done : (l : List ℕ) (k i : ℕ) (t all : Bool) → k ≤ i → t && zeroFree (take (k - i) l) ≡ all → t ≡ all
+unfolding zeroFree
+clear-done l k i t all h e =
     let m : k - i ≡ 0 = omega arith in
-    let q = rw m at e in
-    omega arith
-
--- a test counts for one at most
-pub bool-le : (t : Bool) → boolByte t ≤ 1
-bool-le true = omega arith
-bool-le false = omega arith
+    sym (and-true t) ∙ (rw m at e)
 
 -- ---- the answers, taken apart
 

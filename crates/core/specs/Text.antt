@@ -1,5 +1,6 @@
 -- Texts among bytes (document 01, 'Bytes and text'): up to the first zero, in a field of fixed length or up to the zero that ends it.
 use Prim.Native.Nat.{ℕ, suc, _+_}
+use mathlib.Core.Bool.{Bool, true, not, _&&_}
 use mathlib.Core.List.{List, [], _∷_}
 use lib.Dec.{ltb, eqb}
 use lib.ListN.{length, take, drop}
@@ -12,10 +13,10 @@ unfoldable pub beforeZero : List ℕ → ℕ
 beforeZero [] = 0
 beforeZero (b ∷ bs) = pick (eqb b 0) 0 (suc (beforeZero bs))
 
--- how many bytes are zero
-unfoldable pub zeros : List ℕ → ℕ
-zeros [] = 0
-zeros (b ∷ bs) = pick (eqb b 0) 1 0 + zeros bs
+-- whether none of the bytes is zero
+unfoldable pub zeroFree : List ℕ → Bool
+zeroFree [] = true
+zeroFree (b ∷ bs) = not (eqb b 0) && zeroFree bs
 
 -- a field of n bytes, read up to its first zero; where the slice ends within it, what remains is the field, and where nothing remains it is refused
 unfoldable pub fixedOf : ℕ → List ℕ → ℕ → TextAt

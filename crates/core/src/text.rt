@@ -2,7 +2,7 @@
 ghost use mathlib.Core.Path.{_≡_};
 ghost use Prim.Native.Nat.{_+_, _≤_};
 ghost use lib.ListN.{length, take, drop};
-ghost use Rattle.core.specs.Text.{beforeZero, zeros, fixedOf, endedOf};
+ghost use Rattle.core.specs.Text.{beforeZero, zeroFree, fixedOf, endedOf};
 
 // Where a text was looked for, what is there.
 pub enum TextAt {
@@ -14,18 +14,18 @@ pub enum TextAt {
     Unended(usize),
 }
 
-// How many of the 32 bytes from `at` on are zero. The loop has a constant length and one way out, so that it runs as a few vector instructions.
-fn zeros32(text: &[u8], at: usize) -> u8
+// Whether none of the 32 bytes from `at` on is zero. The loop has a constant length and one way out, so that it runs as a few vector instructions.
+fn clear32(text: &[u8], at: usize) -> bool
     requires { ⌜ at + 32 ≤ length (now text) ⌝ }
-    ensures { λ r. ⌜ r ≡ zeros (take 32 (drop at (now (text .entry)))) ⌝ }
+    ensures { λ r. ⌜ r ≡ zeroFree (take 32 (drop at (now (text .entry)))) ⌝ }
 {
-    let mut n: u8 = 0;
+    let mut clear = true;
     let mut i: usize = 0;
     while i < 32 {
-        n += (text[at + i] == 0) as u8;
+        clear = clear & (text[at + i] != 0);
         i += 1;
     }
-    n
+    clear
 }
 
 // How many bytes stand in leading blocks of 32 bytes with no zero.
@@ -34,10 +34,11 @@ fn clear_blocks(text: &[u8]) -> usize
 {
     let mut at: usize = 0;
     while text.len() - at >= 32 {
-        if zeros32(text, at) != 0 {
+        if clear32(text, at) {
+            at += 32;
+        } else {
             return at;
         }
-        at += 32;
     }
     at
 }

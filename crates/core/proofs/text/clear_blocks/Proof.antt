@@ -23,11 +23,8 @@ loop-holds c = search needs
 sub-loop : tie.Need-sub-loop Inv-loop μ-loop
 sub-loop c = search needs
 
-zeros32-requires : tie.Need-zeros32-requires Inv-loop μ-loop
-zeros32-requires c κs = search needs
-
-returns : tie.Need-returns Inv-loop μ-loop
-returns c = search needs
+clear32-requires : tie.Need-clear32-requires Inv-loop μ-loop
+clear32-requires c κs = search needs
 
 add-at : tie.Need-add-at Inv-loop μ-loop
 add-at c = search needs
@@ -37,8 +34,11 @@ loop-less c = search needs
 
 loop-again : tie.Need-loop-again Inv-loop μ-loop
 loop-again c =
-    let z = zero-block (now (c .before .before .before .before .before .args .text)) (c .before .before .before .loop .at) 32 (search needs) (sym (c .before .zeros32 .ensures) ∙ c .if1 .left) in
+    let z = zero-block (now (c .before .before .before .before .before .args .text)) (c .before .before .before .loop .at) 32 (search needs) (sym (c .before .clear32 .ensures) ∙ c .if1 .taken) in
     (search needs, omega (arith, c .before .before .before .loop .inv .1))
+
+returns : tie.Need-returns Inv-loop μ-loop
+returns c = search needs
 
 returns-2 : tie.Need-returns-2 Inv-loop μ-loop
 returns-2 c = search needs
@@ -51,9 +51,9 @@ clear-blocks-spec =
     μ-loop
     loop-holds
     sub-loop
-    zeros32-requires
-    returns
+    clear32-requires
     add-at
     loop-less
     loop-again
+    returns
     returns-2)
