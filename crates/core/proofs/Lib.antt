@@ -1,2 +1,4 @@
+pub mod Filling
+pub mod Numbers
 pub mod Stores
 pub mod Zeros

@@ -1,3 +1,4 @@
 pub mod Choice
+pub mod Fill
 pub mod Number
 pub mod Text

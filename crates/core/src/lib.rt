@@ -1,3 +1,4 @@
 // Bytes and text: what every layer above is made of. No function that another crate can call asks anything of its caller.
+pub mod fill;
 pub mod number;
 pub mod text;

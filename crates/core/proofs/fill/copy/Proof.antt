@@ -1,0 +1,73 @@
+-- `fill::copy` meets its contract. The loop's invariant: what is still to be stored, stored, makes the list that all of it makes.
+-- Assumes nothing.
+use mathlib.Core.Path.{_≡_, sym, _∙_}
+use Prim.Native.Nat.{_+_, _-_}
+use native.Mathlib.Omega.{arith}
+use denote.Ref.{now}
+use borrow.Author.Needs.{needs}
+use lib.ListN.{length, drop, length-set}
+use lib.Seq.{sets}
+use Rattle.core.proofs.Filling.{fill-start, fill-turn, fill-end}
+use Rattle.core.proofs.fill.copy.Statement.{statement}
+use Rattle.core.proofs.fill.copy.Tie as tie
+
+abbrev Inv-loop : tie.InvT-loop
+Inv-loop src out₀ at n i₀ out i = (length out ≡ length out₀) × (sets out (at + i) (drop i src) ≡ sets out₀ at src)
+
+abbrev μ-loop : tie.MeasureT-loop
+μ-loop src out₀ at n i₀ out i = n - i
+
+room-requires : tie.Need-room-requires Inv-loop μ-loop
+room-requires c κs = search needs
+
+loop-holds : tie.Need-loop-holds Inv-loop μ-loop
+loop-holds c =
+    let a = c .before .before .before .args in
+    (search needs, fill-start (now (a .out)) (a .at) (now (a .src)))
+
+shared-slice-read-out : tie.Need-shared-slice-read-out Inv-loop μ-loop
+shared-slice-read-out c = omega arith
+
+add-out : tie.Need-add-out Inv-loop μ-loop
+add-out c = omega arith
+
+slice-write-out : tie.Need-slice-write-out Inv-loop μ-loop
+slice-write-out c = omega arith
+
+add-i : tie.Need-add-i Inv-loop μ-loop
+add-i c = omega arith
+
+loop-less : tie.Need-loop-less Inv-loop μ-loop
+loop-less c = omega arith
+
+loop-again : tie.Need-loop-again Inv-loop μ-loop
+loop-again c =
+    let a = c .before .before .before .before .before .before .args in
+    let l = c .before .before .loop in
+    (simp length-set (l .inv .0), fill-turn (l .out) (a .at) (l .i) (now (a .src)) (omega arith) ∙ l .inv .1)
+
+same-length : tie.Need-same-length Inv-loop μ-loop
+same-length c = omega arith
+
+returns : tie.Need-returns Inv-loop μ-loop
+returns c =
+    let a = c .before .before .before .before .before .args in
+    let l = c .before .loop in
+    sym (fill-end (l .out) (a .at) (l .i) (now (a .src)) (omega arith)) ∙ l .inv .1
+
+pub copy-spec : {M : Type 1} → statement M
+copy-spec =
+    tie.close
+    (tie.spec
+    Inv-loop
+    μ-loop
+    room-requires
+    loop-holds
+    shared-slice-read-out
+    add-out
+    slice-write-out
+    add-i
+    loop-less
+    loop-again
+    same-length
+    returns)

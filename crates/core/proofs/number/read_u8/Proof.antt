@@ -1,0 +1,36 @@
+-- `number::read_u8` meets its contract: the number is read byte by byte, as the laws of `get` go. Assumes nothing.
+use mathlib.Core.Path.{sym}
+use mathlib.Core.List.{List}
+use Prim.Native.Nat.{ℕ, _+_}
+use native.Mathlib.Omega.{arith}
+use denote.Ref.{now}
+use Rattle.core.proofs.Numbers.{get-zero, get-suc, read-short, read-is}
+use borrow.Author.Needs.{needs}
+use Rattle.core.proofs.number.read_u8.Statement.{statement}
+use Rattle.core.proofs.number.read_u8.Tie as tie
+
+ahead-requires : tie.Need-ahead-requires
+ahead-requires c κs = search needs
+
+returns : tie.Need-returns
+returns c = sym (read-short 1 (now (c .before .before .before .args .s)) (c .before .before .before .args .at) (omega arith))
+
+shared-slice-read-wide : tie.Need-shared-slice-read-wide
+shared-slice-read-wide c = search needs
+
+wide-requires : tie.Need-wide-requires
+wide-requires c κs = search needs
+
+add-t3 : tie.Need-add-t3
+add-t3 c = search needs
+
+returns-2 : tie.Need-returns-2
+returns-2 c =
+    let s : List ℕ = now (c .before .before .before .before .before .args .s) in
+    read-is 1 s (c .before .before .before .before .before .args .at) _ (omega arith)
+    (omega (arith, get-suc 0 s (c .before .before .before .before .before .args .at), get-zero s (c .before .before .before .before .before .args .at + 1)))
+
+pub read-u8-spec : {M : Type 1} → statement M
+read-u8-spec =
+    tie.close
+    (tie.spec ahead-requires returns shared-slice-read-wide wide-requires add-t3 returns-2)
