@@ -1,4 +1,5 @@
 pub mod Filling
+pub mod Floats
 pub mod Numbers
 pub mod Stores
 pub mod Zeros

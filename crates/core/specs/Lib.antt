@@ -1,4 +1,5 @@
 pub mod Choice
 pub mod Fill
+pub mod Float
 pub mod Number
 pub mod Text

@@ -1,7 +1,7 @@
 -- `text::ended_text` meets its contract.
 -- Assumes nothing.
 use Prim.Native.Nat.{ℕ, _+_, _-_, _<_, _≤_}
-use mathlib.Core.Path.{_≡_, sym, ap, _∙_}
+use mathlib.Core.Path.{_≡_, ap, _∙_}
 use mathlib.Core.List.{List}
 use native.Mathlib.Omega.{arith}
 use denote.Ref.{now}
@@ -11,7 +11,7 @@ use lib.ListN.{length, take, drop, length-drop}
 use lib.Seq.{take-all}
 use Rattle.core.specs.Text.{beforeZero, endedOf}
 use Rattle.core.specs.declared.text.TextAt.the-variants.{Text, Unended}
-use Rattle.core.proofs.Zeros.{before-le, zero-none}
+use Rattle.core.proofs.Zeros.{before-le}
 use Rattle.core.proofs.text.ended_text.Statement.{statement}
 use Rattle.core.proofs.text.ended_text.Tie as tie
 
