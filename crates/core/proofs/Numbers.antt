@@ -14,7 +14,8 @@ use lib.Seq.{sets, length-sets, sets-eq, take-nil, drop-nil, drop-at, take-at, l
 use Rattle.core.specs.Choice.{pick}
 use Rattle.core.specs.Number.{le, val, get, put, readOf}
 use Rattle.core.specs.declared.number.Read.the-variants.{Value, Past}
-use Rattle.core.proofs.Stores.{sets-out, sets-before, sets-behind, sets-sets}
+use Rattle.core.proofs.Apart.{Apart, sets-away, sets-past}
+use Rattle.core.proofs.Stores.{sets-out, sets-sets}
 
 -- ---- bytes, and the numbers that they are
 
@@ -175,15 +176,7 @@ put-end k s at i n h = put-none (k - i) s (at + i) n (omega arith)
 
 -- ---- what a write leaves
 
--- the j places from b on and the k places from at on have none in common
-abbrev pub Apart : ℕ → ℕ → ℕ → ℕ → Type 0
-Apart j b k at = (b + j ≤ at) ⊎ (at + k ≤ b)
-
 -- every other place
-pub sets-away : (s : List ℕ) (o : ℕ) (v : List ℕ) (i : ℕ) → Apart 1 i (length v) o → getD (sets s o v) i 0 ≡ getD s i 0
-sets-away s o v i (inl h) = sets-before s o v i (omega arith)
-sets-away s o v i (inr h) = sets-behind s o v i h
-
 pub put-away : (k : ℕ) (s : List ℕ) (at n i : ℕ) → Apart 1 i k at → getD (put k s at n) i 0 ≡ getD s i 0
 unfolding put
 put-away k s at n i h = sets-away s at (le k n) i (rw length-le h)
@@ -199,6 +192,13 @@ get-away (suc j) s o v b h =
 pub get-beside : (j k : ℕ) (s : List ℕ) (at n b : ℕ) → Apart j b k at → get j (put k s at n) b ≡ get j s b
 unfolding put
 get-beside j k s at n b h = get-away j s at (le k n) b (rw length-le h)
+
+-- a gap that is patched after other runs were stored beside it is as if the number had been written at once
+pub patch-late : (k : ℕ) (s : List ℕ) (at m n o : ℕ) (v : List ℕ) → Apart k at (length v) o → put k (sets (put k s at m) o v) at n ≡ sets (put k s at n) o v
+unfolding put
+patch-late k s at m n o v h =
+    let a : Apart (length (le k m)) at (length v) o = rw length-le h in
+    rw (sets-past s o v at (le k m) a, sets-past s o v at (le k n) (rw length-le h)) (sets-sets (sets s o v) at (le k m) (le k n) (length-le k m ∙ sym (length-le k n)))
 
 -- ---- reads that may be refused
 

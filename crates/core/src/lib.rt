@@ -2,4 +2,7 @@
 pub mod fill;
 pub mod float;
 pub mod number;
+pub mod part;
+pub mod placeholder;
+pub mod seek;
 pub mod text;

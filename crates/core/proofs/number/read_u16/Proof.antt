@@ -13,7 +13,9 @@ ahead-requires : tie.Need-ahead-requires
 ahead-requires c κs = search needs
 
 returns : tie.Need-returns
-returns c = sym (read-short 2 (now (c .before .before .before .args .s)) (c .before .before .before .args .at) (omega arith))
+returns c =
+    let a = c .before .before .before .args in
+    sym (read-short 2 (now (a .s)) (a .at) (omega arith))
 
 add-b1 : tie.Need-add-b1
 add-b1 c = search needs
@@ -31,19 +33,19 @@ wide-requires-2 : tie.Need-wide-requires-2
 wide-requires-2 c κs = search needs
 
 mul-t13 : tie.Need-mul-t13
-mul-t13 c = search needs
+mul-t13 c = omega arith
 
 add-t14 : tie.Need-add-t14
-add-t14 c = search needs
+add-t14 c = omega arith
 
 add-t4 : tie.Need-add-t4
-add-t4 c = search needs
+add-t4 c = omega arith
 
 returns-2 : tie.Need-returns-2
 returns-2 c =
     let s : List ℕ = now (c .before .before .before .before .before .before .before .args .s) in
-    read-is 2 s (c .before .before .before .before .before .before .before .args .at) _ (omega arith)
-    (omega (arith, get-suc 1 s (c .before .before .before .before .before .before .before .args .at), get-suc 0 s (c .before .before .before .before .before .before .before .args .at + 1), get-zero s (c .before .before .before .before .before .before .before .args .at + 1 + 1)))
+    let a : ℕ = c .before .before .before .before .before .before .before .args .at in
+    read-is 2 s a _ (omega arith) (omega (arith, get-suc 1 s a, get-suc 0 s (a + 1), get-zero s (a + 1 + 1)))
 
 pub read-u16-spec : {M : Type 1} → statement M
 read-u16-spec =

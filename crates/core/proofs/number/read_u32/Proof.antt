@@ -13,7 +13,9 @@ ahead-requires : tie.Need-ahead-requires
 ahead-requires c κs = search needs
 
 returns : tie.Need-returns
-returns c = sym (read-short 4 (now (c .before .before .before .args .s)) (c .before .before .before .args .at) (omega arith))
+returns c =
+    let a = c .before .before .before .args in
+    sym (read-short 4 (now (a .s)) (a .at) (omega arith))
 
 add-b1 : tie.Need-add-b1
 add-b1 c = search needs
@@ -49,31 +51,31 @@ wide-requires-4 : tie.Need-wide-requires-4
 wide-requires-4 c κs = search needs
 
 mul-t21 : tie.Need-mul-t21
-mul-t21 c = search needs
+mul-t21 c = omega arith
 
 add-t22 : tie.Need-add-t22
-add-t22 c = search needs
+add-t22 c = omega arith
 
 mul-t23 : tie.Need-mul-t23
-mul-t23 c = search needs
+mul-t23 c = omega arith
 
 add-t24 : tie.Need-add-t24
-add-t24 c = search needs
+add-t24 c = omega arith
 
 mul-t25 : tie.Need-mul-t25
-mul-t25 c = search needs
+mul-t25 c = omega arith
 
 add-t26 : tie.Need-add-t26
-add-t26 c = search needs
+add-t26 c = omega arith
 
 add-t6 : tie.Need-add-t6
-add-t6 c = search needs
+add-t6 c = omega arith
 
 returns-2 : tie.Need-returns-2
 returns-2 c =
     let s : List ℕ = now (c .before .before .before .before .before .before .before .before .before .before .before .args .s) in
-    read-is 4 s (c .before .before .before .before .before .before .before .before .before .before .before .args .at) _ (omega arith)
-    (omega (arith, get-suc 3 s (c .before .before .before .before .before .before .before .before .before .before .before .args .at), get-suc 2 s (c .before .before .before .before .before .before .before .before .before .before .before .args .at + 1), get-suc 1 s (c .before .before .before .before .before .before .before .before .before .before .before .args .at + 1 + 1), get-suc 0 s (c .before .before .before .before .before .before .before .before .before .before .before .args .at + 1 + 1 + 1), get-zero s (c .before .before .before .before .before .before .before .before .before .before .before .args .at + 1 + 1 + 1 + 1)))
+    let a : ℕ = c .before .before .before .before .before .before .before .before .before .before .before .args .at in
+    read-is 4 s a _ (omega arith) (omega (arith, get-suc 3 s a, get-suc 2 s (a + 1), get-suc 1 s (a + 1 + 1), get-suc 0 s (a + 1 + 1 + 1), get-zero s (a + 1 + 1 + 1 + 1)))
 
 pub read-u32-spec : {M : Type 1} → statement M
 read-u32-spec =

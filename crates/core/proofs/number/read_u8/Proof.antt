@@ -13,7 +13,9 @@ ahead-requires : tie.Need-ahead-requires
 ahead-requires c κs = search needs
 
 returns : tie.Need-returns
-returns c = sym (read-short 1 (now (c .before .before .before .args .s)) (c .before .before .before .args .at) (omega arith))
+returns c =
+    let a = c .before .before .before .args in
+    sym (read-short 1 (now (a .s)) (a .at) (omega arith))
 
 shared-slice-read-wide : tie.Need-shared-slice-read-wide
 shared-slice-read-wide c = search needs
@@ -22,13 +24,13 @@ wide-requires : tie.Need-wide-requires
 wide-requires c κs = search needs
 
 add-t3 : tie.Need-add-t3
-add-t3 c = search needs
+add-t3 c = omega arith
 
 returns-2 : tie.Need-returns-2
 returns-2 c =
     let s : List ℕ = now (c .before .before .before .before .before .args .s) in
-    read-is 1 s (c .before .before .before .before .before .args .at) _ (omega arith)
-    (omega (arith, get-suc 0 s (c .before .before .before .before .before .args .at), get-zero s (c .before .before .before .before .before .args .at + 1)))
+    let a : ℕ = c .before .before .before .before .before .args .at in
+    read-is 1 s a _ (omega arith) (omega (arith, get-suc 0 s a, get-zero s (a + 1)))
 
 pub read-u8-spec : {M : Type 1} → statement M
 read-u8-spec =
