@@ -4,12 +4,12 @@ use Prim.Native.Nat.{ℕ, zero, suc, _+_, _-_, _<_, _≤_, min}
 use mathlib.Core.Path.{_≡_, refl, sym, ap, _∙_}
 use mathlib.Core.Bool.{Bool, true, false, not, _&&_, and-assoc, and-true, true≢false}
 use mathlib.Core.List.{List, [], _∷_, _++_}
-use native.Mathlib.Nat.{zero-add}
+use native.Mathlib.Nat.{zero-add, add-zero}
 use native.Mathlib.Numerals.{add-one}
 use native.Mathlib.Omega.{arith}
-use borrow.Author.Tests.{eq-eqb, ne-eqb, eqb-true, eqb-false, ltb-true, ltb-false}
+use borrow.Author.Tests.{eq-eqb, ne-eqb, eqb-true, eqb-false, ltb-true, ltb-false, lt-ltb}
 use lib.Dec.{eqb, ltb}
-use lib.ListN.{length, getD, take, drop, length-take, length-drop, take-append-drop, drop-of-length-le}
+use lib.ListN.{length, getD, take, drop, length-append, length-take, length-drop, take-append-drop, drop-of-length-le}
 use lib.Seq.{drop-cons, drop-drop}
 use Rattle.core.specs.Choice.{pick}
 use Rattle.core.specs.Text.{beforeZero, zeroFree, fixedOf, endedOf}
@@ -139,7 +139,7 @@ pub record Fixed (n : ℕ) (s : List ℕ) (at len next : ℕ) : Type 0 where
   pub starts : at < length s
   pub text : len ≡ beforeZero (take n (drop at s))
   pub within : at + len ≤ next
-  pub field : next ≤ at + n
+  pub field : next ≡ at + min n (length s - at)
   pub fits : next ≤ length s
 
 pub fixed-text : (n : ℕ) (s : List ℕ) (at len next : ℕ) → fixedOf n s at ≡ Text len next → Fixed n s at len next
@@ -157,6 +157,15 @@ fixed-text n s at len next e = go (ltb at (length s)) refl e
         let z = before-le (take n (drop at s)) in
         record { starts = i; text = sym a; within = omega arith; field = omega arith; fits = omega arith }
     go false q e = let z : _≡_ {A = ℕ} 0 1 = cc in absurd (omega arith)
+
+-- a field that holds the text t and then nothing, or a zero
+pub fixed-there : (n : ℕ) (s : List ℕ) (at : ℕ) (t z : List ℕ) → at < length s → take n (drop at s) ≡ t ++ z → beforeZero t ≡ length t → beforeZero z ≡ 0
+    → fixedOf n s at ≡ Text (length t) (at + min n (length s - at))
+unfolding fixedOf
+fixed-there n s at t z h e f g =
+    let b : beforeZero (take n (drop at s)) ≡ length t = ap beforeZero e ∙ before-free t z f ∙ rw (g, add-zero) in
+    let l : length (take n (drop at s)) ≡ min n (length s - at) = simp (length-take, length-drop) in
+    rw (lt-ltb at (length s) h, b, l)
 
 -- a field that is refused: nothing of the slice is left for it
 pub fixed-past : (n : ℕ) (s : List ℕ) (at o m : ℕ) → fixedOf n s at ≡ Past o m → (length s ≤ at) × (o ≡ at) × (m ≡ n)
@@ -197,6 +206,14 @@ ended-text s at len next e = go (ltb (at + beforeZero (drop at s)) (length s)) r
         let b : at + beforeZero (drop at s) + 1 ≡ next = cc in
         record { text = sym a; after = omega arith; fits = omega arith }
     go false q e = let z : _≡_ {A = ℕ} 0 1 = cc in absurd (omega arith)
+
+-- where the text t stands, and a zero after it
+pub ended-there : (s : List ℕ) (at : ℕ) (t rest : List ℕ) → drop at s ≡ t ++ 0 ∷ rest → beforeZero t ≡ length t → endedOf s at ≡ Text (length t) (at + length t + 1)
+unfolding endedOf
+ended-there s at t rest e f =
+    let b : beforeZero (drop at s) ≡ length t = ap beforeZero e ∙ before-free t (0 ∷ rest) f ∙ rw (before-zero 0 rest refl, add-zero) in
+    let d : length s - at ≡ length t + suc (length rest) = sym (length-drop at s) ∙ ap length e ∙ length-append t (0 ∷ rest) in
+    rw (b, lt-ltb (at + length t) (length s) (omega arith))
 
 -- a text that is refused: no zero from its start on
 pub ended-unended : (s : List ℕ) (at a : ℕ) → endedOf s at ≡ Unended a → (length s ≤ at + beforeZero (drop at s)) × (a ≡ at)
