@@ -2,6 +2,7 @@ pub mod Apart
 pub mod Filling
 pub mod Floats
 pub mod Numbers
+pub mod Padding
 pub mod Parts
 pub mod Seeks
 pub mod Stores
