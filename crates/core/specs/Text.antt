@@ -1,10 +1,11 @@
 -- Texts among bytes (document 01, 'Bytes and text'): up to the first zero, in a field of fixed length or up to the zero that ends it.
-use Prim.Native.Nat.{ℕ, suc, _+_}
+use Prim.Native.Nat.{ℕ, suc, min, _+_}
 use mathlib.Core.Bool.{Bool, true, not, _&&_}
 use mathlib.Core.List.{List, [], _∷_}
 use lib.Dec.{ltb, eqb}
 use lib.ListN.{length, take, drop}
 use Rattle.core.specs.Choice.{pick}
+use Rattle.core.specs.Utf8.{sound}
 use Rattle.core.specs.declared.text.TextAt.{TextAt}
 use Rattle.core.specs.declared.text.TextAt.the-variants.{Text, Past, Unended}
 
@@ -12,6 +13,10 @@ use Rattle.core.specs.declared.text.TextAt.the-variants.{Text, Past, Une
 unfoldable pub beforeZero : List ℕ → ℕ
 beforeZero [] = 0
 beforeZero (b ∷ bs) = pick (eqb b 0) 0 (suc (beforeZero bs))
+
+-- where the first fault of a text stands, a zero or an ill-formed subpart; the length, where it has none
+unfoldable pub firstFault : List ℕ → ℕ
+firstFault t = min (beforeZero t) (sound t)
 
 -- whether none of the bytes is zero
 unfoldable pub zeroFree : List ℕ → Bool

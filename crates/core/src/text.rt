@@ -1,8 +1,9 @@
-// Texts among bytes: where the first zero stands, a field of fixed length, a text that ends at a zero.
+// Texts among bytes: where the first zero or the first fault stands, a field of fixed length, a text that ends at a zero.
 ghost use mathlib.Core.Path.{_≡_};
 ghost use Prim.Native.Nat.{_+_, _≤_};
 ghost use lib.ListN.{length, take, drop};
-ghost use Rattle.core.specs.Text.{beforeZero, zeroFree, fixedOf, endedOf};
+ghost use Rattle.core.specs.Text.{beforeZero, zeroFree, firstFault, fixedOf, endedOf};
+use crate::utf8::first_ill;
 
 // Where a text was looked for, what is there.
 pub enum TextAt {
@@ -64,6 +65,15 @@ pub fn first_zero(text: &[u8]) -> usize
 {
     let at = clear_blocks(text);
     zero_from(text, at)
+}
+
+// Where the first zero or the first ill-formed subpart stands, whichever is earlier; the length, where there is neither.
+pub fn first_fault(text: &[u8]) -> usize
+    ensures { λ r. ⌜ r ≡ firstFault (now (text .entry)) ⌝ }
+{
+    let zero = first_zero(text);
+    let ill = first_ill(text);
+    if zero < ill { zero } else { ill }
 }
 
 // A field of `n` bytes, read up to its first zero, and cut where the slice ends.
