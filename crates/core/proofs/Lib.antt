@@ -1,7 +1,11 @@
 pub mod Apart
+pub mod Exercises
 pub mod Filling
+pub mod Floats
 pub mod Numbers
+pub mod Padding
 pub mod Parts
 pub mod Seeks
 pub mod Stores
 pub mod Table
+pub mod Zeros

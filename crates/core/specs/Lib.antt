@@ -1,7 +1,10 @@
 pub mod Choice
 pub mod Fill
+pub mod Float
 pub mod Flow
 pub mod Number
+pub mod Outcome
 pub mod Part
 pub mod Seek
+pub mod Text
 pub mod Utf8

@@ -1,6 +1,7 @@
 // A position that reading is to go on from.
 ghost use mathlib.Core.Path.{_≡_};
 ghost use Rattle.core.specs.Seek.{seekOf};
+use crate::fill::ahead;
 
 // What a seek gives.
 pub enum Sought {
@@ -14,8 +15,9 @@ pub fn seek(s: &[u8], to: usize) -> Sought
     ensures { λ r. ⌜ r ≡ seekOf (now (s .entry)) to ⌝ }
 {
     let size = s.len();
-    if to <= size {
+    let excess = ahead(size, to);
+    if excess < 1 {
         return Sought::At(to);
     }
-    Sought::Past(size, to - size)
+    Sought::Past(size, excess)
 }

@@ -7,18 +7,18 @@ use borrow.Author.Needs.{needs}
 use Rattle.core.proofs.seek.seek.Statement.{statement}
 use Rattle.core.proofs.seek.seek.Tie as tie
 
+ahead-requires : tie.Need-ahead-requires
+ahead-requires c κs = search needs
+
 returns : tie.Need-returns
 returns c =
-    let a = c .before .args in
+    let a = c .before .before .before .args in
     sym (seek-there (now (a .s)) (a .to) (omega arith))
-
-sub-t5 : tie.Need-sub-t5
-sub-t5 c = search needs
 
 returns-2 : tie.Need-returns-2
 returns-2 c =
-    let a = c .before .args in
-    sym (seek-over (now (a .s)) (a .to) (omega arith))
+    let a = c .before .before .before .args in
+    rw (c .before .ahead .ensures) (sym (seek-over (now (a .s)) (a .to) (omega arith)))
 
 pub seek-spec : {M : Type 1} → statement M
-seek-spec = tie.close (tie.spec returns sub-t5 returns-2)
+seek-spec = tie.close (tie.spec ahead-requires returns returns-2)

@@ -1,0 +1,22 @@
+-- `float::bits_of` meets its contract: only a NaN differs from itself.
+-- Assumes nothing.
+use mathlib.Core.Path.{sym, ap}
+use borrow.Author.Needs.{needs}
+use lib.Ieee as Ieee
+use lib.Ieee.{binary32, toBits}
+use Rattle.core.proofs.Floats.{only-nan, no-nan}
+use Rattle.core.proofs.float.bits_of.Statement.{statement}
+use Rattle.core.proofs.float.bits_of.Tie as tie
+
+float-to-bits-result : tie.Need-float-to-bits-result
+float-to-bits-result c = no-nan _ (c .if1 .left)
+
+returns : tie.Need-returns
+unfolding Ieee.toBits
+returns c = sym (ap (toBits binary32) (only-nan _ (c .if1 .taken)))
+
+returns-2 : tie.Need-returns-2
+returns-2 c = search needs
+
+pub bits-of-spec : {M : Type 1} → statement M
+bits-of-spec = tie.close (tie.spec float-to-bits-result returns returns-2)

@@ -1,0 +1,64 @@
+-- The number and the values of an answer (document 01: the refusals' table, and 'Form by location' on an answer that is an enum).
+-- An accepted answer has the number 0.
+use Prim.Native.Nat.{ℕ}
+use mathlib.Core.List.{List, [], _∷_}
+use Rattle.core.specs.Float.{patternOf, patternsOf}
+use Rattle.core.specs.declared.number.Read.{Read}
+use Rattle.core.specs.declared.number.Read.the-variants.{Value, Past}
+use Rattle.core.specs.declared.seek.Sought.{Sought}
+use Rattle.core.specs.declared.seek.Sought.the-variants.{At, Past as SoughtPast}
+use Rattle.core.specs.declared.text.TextAt.{TextAt}
+use Rattle.core.specs.declared.text.TextAt.the-variants.{Text, Past as TextPast, Unended}
+use Rattle.core.specs.declared.float.ReadFloat.{ReadFloat}
+use Rattle.core.specs.declared.float.ReadFloat.the-variants.{Value as FloatValue, Past as FloatPast}
+use Rattle.core.specs.declared.float.ReadHermite.{ReadHermite}
+use Rattle.core.specs.declared.float.ReadHermite.the-variants.{Value as HermiteValue, Past as HermitePast}
+
+pub record Outcome : Type 0 where
+  pub number : ℕ
+  pub values : List ℕ
+
+-- the numbers of the refusals that a read, a seek or a text can meet
+abbrev pub pastEnd : ℕ
+pastEnd = 3
+
+abbrev pub noZero : ℕ
+noZero = 4
+
+-- an accepted answer with its values
+abbrev pub accepted : List ℕ → Outcome
+accepted vs = record { number = 0; values = vs }
+
+-- a read or a seek past the end: the offset and what was requested
+abbrev pub refusedPast : ℕ → ℕ → Outcome
+refusedPast offset requested = record { number = pastEnd; values = offset ∷ requested ∷ [] }
+
+-- a text without a zero: its start
+abbrev pub refusedNoZero : ℕ → Outcome
+refusedNoZero start = record { number = noZero; values = start ∷ [] }
+
+-- a read: the number and the position after it
+unfoldable pub ofRead : Read → Outcome
+ofRead (Value n next) = accepted (n ∷ next ∷ [])
+ofRead (Past offset requested) = refusedPast offset requested
+
+-- a seek: the position
+unfoldable pub ofSought : Sought → Outcome
+ofSought (At position) = accepted (position ∷ [])
+ofSought (SoughtPast offset requested) = refusedPast offset requested
+
+-- a text: its length and the position after it
+unfoldable pub ofText : TextAt → Outcome
+ofText (Text len next) = accepted (len ∷ next ∷ [])
+ofText (TextPast offset requested) = refusedPast offset requested
+ofText (Unended start) = refusedNoZero start
+
+-- a binary32: its pattern and the position after it
+unfoldable pub ofFloat : ReadFloat → Outcome
+ofFloat (FloatValue x next) = accepted (patternOf x ∷ next ∷ [])
+ofFloat (FloatPast offset requested) = refusedPast offset requested
+
+-- a Hermite key: the patterns of its frame, its value and its slope, and the position after it
+unfoldable pub ofHermite : ReadHermite → Outcome
+ofHermite (HermiteValue h next) = accepted (patternsOf h .0 ∷ patternsOf h .1 ∷ patternsOf h .2 ∷ next ∷ [])
+ofHermite (HermitePast offset requested) = refusedPast offset requested
