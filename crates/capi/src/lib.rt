@@ -3,6 +3,7 @@
 // that a call may change is in another of its slices.
 ghost use mathlib.Core.Path.{_≡_};
 ghost use lib.Seq.{sets};
+ghost use Rattle.core.specs.Text.{beforeZero, firstFault};
 ghost use Rattle.core.specs.Utf8.{decode, decodedSize, sound, wellFormed};
 
 #[no_mangle]
@@ -38,4 +39,18 @@ pub extern "C" fn nnbfl_first_ill(text: &[u8]) -> usize
     ensures { λ r. ⌜ r ≡ sound (now (text .entry)) ⌝ }
 {
     core::utf8::first_ill(text)
+}
+
+#[no_mangle]
+pub extern "C" fn nnbfl_first_zero(text: &[u8]) -> usize
+    ensures { λ r. ⌜ r ≡ beforeZero (now (text .entry)) ⌝ }
+{
+    core::text::first_zero(text)
+}
+
+#[no_mangle]
+pub extern "C" fn nnbfl_first_fault(text: &[u8]) -> usize
+    ensures { λ r. ⌜ r ≡ firstFault (now (text .entry)) ⌝ }
+{
+    core::text::first_fault(text)
 }

@@ -92,7 +92,7 @@ impl Run {
         self.same(text, "well_formed", proved::well_formed(text), ill.is_none());
         self.same(text, "first_ill", proved::first_ill(text), first_ill);
         self.same(text, "first_zero", proved::first_zero(text), zero);
-        self.same(text, "text_fault", proved::text_fault(text), zero.min(first_ill));
+        self.same(text, "first_fault", proved::first_fault(text), zero.min(first_ill));
 
         // an output that fits, with bytes to spare on both sides or none
         let (before, after) = match self.random.below(4) {
