@@ -50,7 +50,8 @@ fn copy_reference(here: &Path) {
 /// Proves and builds crates/capi, and links its archive.
 fn link_proved(here: &Path) {
     let root = here.parent().unwrap();
-    for watched in ["crates.txt", "crates/core", "crates/capi"] {
+    // the archive too: it is gone when the repository's target/ was removed
+    for watched in ["crates.txt", "crates/core", "crates/capi", "target/staticlib/libcapi.a"] {
         println!("cargo::rerun-if-changed={}", root.join(watched).display());
     }
     let status = Command::new("rt")
