@@ -1,7 +1,7 @@
 -- Runs of stores, `sets l o v`: cut in two, past the end, one over another, and what they leave.
 -- Assumes nothing.
 use Prim.Native.Nat.{ℕ, zero, suc, _+_, _-_, _<_, _≤_, min}
-use mathlib.Core.Path.{_≡_, refl, ap, sym, _∙_}
+use mathlib.Core.Path.{_≡_, refl, sym, _∙_}
 use mathlib.Core.List.{List, [], _∷_, _++_}
 use mathlib.Core.Bool.{Bool, true, false}
 use borrow.Author.Tests.{leb-true, leb-false}
@@ -10,7 +10,7 @@ use native.Mathlib.Nat.{add-zero, add-suc, suc-add}
 use native.Mathlib.Numerals.{add-one}
 use native.Mathlib.Omega.{arith}
 use lib.ListN.{length, getD, set, length-set}
-use lib.Seq.{sets, slice, slice-cons, length-sets, set-out, getD-set-same, getD-set-other, set-comm, set-set}
+use lib.Seq.{sets, slice, slice-cons, set-out, getD-set-same, getD-set-other, set-comm, set-set}
 
 -- a run, cut in two
 pub sets-append : (l : List ℕ) (o : ℕ) (a b : List ℕ) → sets l o (a ++ b) ≡ sets (sets l o a) (o + length a) b

@@ -2,7 +2,6 @@
 ghost use mathlib.Core.Path.{_≡_};
 ghost use Prim.Native.Nat.{_+_, min};
 ghost use lib.Seq.{sets};
-ghost use lib.ListN.{length};
 ghost use Rattle.core.specs.Utf8.{replacement, decode, decodedSize, sound, wellFormed};
 use crate::fill::copy;
 use crate::utf8::scan::next_run;

@@ -6,13 +6,13 @@ use mathlib.Core.Bool.{Bool, true, false}
 use mathlib.Core.List.{List, [], _∷_, _++_}
 use native.Mathlib.Numerals.{add-one}
 use native.Mathlib.Omega.{arith}
-use borrow.Author.Tests.{eqb-true, eq-eqb, ne-eqb, le-leb}
-use lib.Dec.{eqb, leb}
+use borrow.Author.Tests.{ne-eqb, le-leb}
+use lib.Dec.{eqb}
 use lib.ListN.{length, getD, take, drop, take-append-drop}
 use lib.Seq.{slice, slice-cons, slice-empty, length-slice, length-take-le, drop-append-le}
 use Rattle.core.specs.Choice.{pick}
-use Rattle.core.specs.Utf8.{Range, rows, within, classOf, laterOf, matched, more, good, sound, wellFormed}
-use Rattle.core.specs.Flow.{awaits, awaited, entered, passed, firstFits, stateAfter, flows, Flowing}
+use Rattle.core.specs.Utf8.{Range, rows, within, classOf, laterOf, matched, more, sound, wellFormed}
+use Rattle.core.specs.Flow.{awaits, entered, passed, firstFits, stateAfter, flows, Flowing}
 use Rattle.core.proofs.utf8.Steps.{class-below, matched-none}
 use Rattle.core.proofs.utf8.Pieces.{well-nil, well-good}
 use Rattle.core.proofs.utf8.Laws.{before, good-from}

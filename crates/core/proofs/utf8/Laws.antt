@@ -1,15 +1,15 @@
 -- The laws of decoding.
 -- Assumes nothing.
 use Prim.Native.Nat.{ℕ, zero, suc, _+_, _-_, _*_, _<_, _≤_}
-use mathlib.Core.Path.{_≡_, refl, ap, sym, _∙_, subst}
+use mathlib.Core.Path.{_≡_, refl, ap, sym, _∙_}
 use mathlib.Core.Bool.{Bool, true, false, _&&_}
 use mathlib.Core.List.{List, [], _∷_, _++_, append-assoc, append-nil}
-use native.Mathlib.Nat.{suc-add, zero-add, add-zero}
+use native.Mathlib.Nat.{zero-add}
 use native.Mathlib.Omega.{arith}
 use borrow.Author.Tests.{eqb-true, eq-eqb, ne-eqb, le-leb}
 use lib.Dec.{leb, eqb}
 use lib.ListN.{length, getD, take, drop, length-append, take-append-drop, length-drop}
-use lib.Seq.{length-take-le, take-add, take-append-le, drop-append-le, drop-drop, take-length, take-at, drop-at, drop-length}
+use lib.Seq.{length-take-le, take-add, take-append-le, drop-append-le, drop-drop, drop-length}
 use Rattle.core.specs.Choice.{pick}
 use Rattle.core.specs.Utf8.{Range, rows, within, classOf, laterOf, matched, more, good, replacement, decode, sound, illSize, wellFormed, clean, pieces, piecesAfter, pieceOf}
 use Rattle.core.proofs.utf8.Steps.{matched-le, class-below}

@@ -1,20 +1,15 @@
 -- The pieces of a text: its first piece and the pieces of the rest, an induction by pieces, and what each question about a text is by its first piece.
 -- Assumes nothing.
-use Prim.Native.Nat.{ℕ, zero, suc, _+_, _-_, _*_, _<_, _≤_}
-use mathlib.Core.Path.{_≡_, refl, ap, sym, _∙_, subst}
-use mathlib.Core.Bool.{Bool, true, false, _&&_}
-use mathlib.Core.List.{List, [], _∷_, _++_, append-assoc, append-nil}
-use native.Mathlib.Nat.{suc-add, zero-add, add-zero}
-use native.Mathlib.Numerals.{add-one}
+use Prim.Native.Nat.{ℕ, zero, suc, _+_, _-_, _≤_}
+use mathlib.Core.Path.{_≡_, refl, ap}
+use mathlib.Core.Bool.{Bool, true, false}
+use mathlib.Core.List.{List, [], _∷_, _++_}
 use native.Mathlib.Omega.{arith}
-use borrow.Author.Tests.{eqb-true, eq-eqb}
-use lib.Dec.{leb, eqb}
-use lib.ListN.{length, getD, take, drop, length-append, take-append-drop, length-drop}
-use lib.Seq.{slice, length-take-le, take-add, take-append-le, drop-drop, drop-cons, take-length, take-at}
+use lib.ListN.{length, take, drop}
+use lib.Seq.{length-take-le}
 use Rattle.core.specs.Choice.{pick}
-use Rattle.core.specs.declared.utf8.step.Step.{Step}
 use Rattle.core.specs.declared.utf8.step.Step.the-variants.{Good, Bad}
-use Rattle.core.specs.Utf8.{Range, rows, within, classOf, laterOf, matched, more, good, stepOf, Piece, character, ill, pieceOf, piecesAfter, pieces, replacement, shown, decoded, leading, illFirst, clean, decode, sound, illSize, wellFormed}
+use Rattle.core.specs.Utf8.{Range, within, classOf, laterOf, matched, more, good, stepOf, Piece, character, ill, pieceOf, piecesAfter, pieces, replacement, shown, decoded, leading, illFirst, clean, decode, sound, illSize, wellFormed}
 
 -- ---- the first piece
 

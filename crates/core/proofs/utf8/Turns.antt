@@ -1,23 +1,21 @@
 -- What a step of the code does at a position of a text.
 -- Assumes nothing.
 use Prim.Native.Nat.{ℕ, zero, suc, min, _+_, _-_, _*_, _<_, _≤_}
-use mathlib.Core.Path.{_≡_, refl, ap, sym, _∙_, subst}
-use mathlib.Core.Bool.{Bool, true, false, _&&_}
+use mathlib.Core.Path.{_≡_, refl, ap, sym, _∙_}
+use mathlib.Core.Bool.{true}
 use mathlib.Core.List.{List, [], _∷_, _++_, append-nil}
 use native.Mathlib.Nat.{add-zero, zero-add}
 use native.Mathlib.Numerals.{add-one}
 use native.Mathlib.Omega.{arith}
 use borrow.Author.Tests.{le-leb}
-use lib.Dec.{leb, eqb}
 use lib.ListN.{length, getD, take, drop, length-append, length-drop, drop-of-length-le}
 use lib.Seq.{sets, slice, slice-empty, length-slice, drop-cons, drop-drop, take-nil}
-use Rattle.core.specs.Choice.{pick}
 use Rattle.core.specs.declared.utf8.step.Step.{Step}
 use Rattle.core.specs.declared.utf8.step.Step.the-variants.{Good, Bad}
 use Rattle.core.specs.Utf8.{rows, within, classOf, laterOf, matched, more, good, stepOf, replacement, decode, decodedSize, sound, illSize}
 use Rattle.core.proofs.Stores.{sets-moved}
 use Rattle.core.proofs.utf8.Steps.{matched-none}
-use Rattle.core.proofs.utf8.Pieces.{more-within, step-good, step-bad, decode-nil, decode-good, decode-bad, sound-nil, sound-good, sound-bad, ill-nil, ill-bad}
+use Rattle.core.proofs.utf8.Pieces.{more-within, step-good, step-bad, decode-nil, decode-good, sound-nil, sound-good, sound-bad, ill-nil, ill-bad}
 use Rattle.core.proofs.utf8.Laws.{good-from, sound-le, decode-front, ill-short, ill-within, ill-or-end, decode-ill}
 
 -- ---- parts of a list

@@ -5,10 +5,6 @@ use Rattle.core.specs.Text.{firstFault}
 use borrow.Author.Needs.{needs}
 use Rattle.core.proofs.text.first_fault.Statement.{statement}
 use Rattle.core.proofs.text.first_fault.Tie as tie
-use Rattle.core.proofs.text.first_fault.Reads as reads
-use Rattle.core.proofs.text.first_fault.Lts as lts
-use Rattle.core.proofs.text.first_zero.Reads as first-zero-reads
-use Rattle.core.proofs.utf8.first_ill.Reads as first-ill-reads
 
 first-zero-requires : tie.Need-first-zero-requires
 first-zero-requires c κs = search needs

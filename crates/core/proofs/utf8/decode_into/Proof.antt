@@ -1,6 +1,6 @@
 -- `utf8::decode_into` meets its contract. The loop's invariant: what is still to be decoded, stored, makes the list that all of it makes.
 -- Assumes nothing.
-use Prim.Native.Nat.{ℕ, _+_, _-_, _<_}
+use Prim.Native.Nat.{ℕ, _-_, _<_}
 use mathlib.Core.Path.{_≡_, refl, sym, ap, _∙_}
 use native.Mathlib.Omega.{arith}
 use mathlib.Core.List.{List}
@@ -12,13 +12,6 @@ use Rattle.core.proofs.utf8.Turns.{part-is, RunAt, run-at, Counted, cou
 use borrow.Author.Needs.{needs}
 use Rattle.core.proofs.utf8.decode_into.Statement.{statement}
 use Rattle.core.proofs.utf8.decode_into.Tie as tie
-use Rattle.core.proofs.utf8.decode_into.Reads as reads
-use Rattle.core.proofs.utf8.decode_into.Lts as lts
-use Rattle.core.proofs.fill.copy.Reads as copy-reads
-use Rattle.core.proofs.utf8.moved.Reads as moved-reads
-use Rattle.core.proofs.utf8.put_replacement.Reads as put-replacement-reads
-use Rattle.core.proofs.utf8.scan.next_run.Reads as next-run-reads
-use Rattle.core.proofs.utf8.total.Reads as total-reads
 
 abbrev Inv-loop : tie.InvT-loop
 Inv-loop text out₀ at i₀ o₀ grown₀ out i o grown = Counted text i grown × (length out ≡ length out₀) × (sets out o (decode (drop i text)) ≡ sets out₀ at (decode text))

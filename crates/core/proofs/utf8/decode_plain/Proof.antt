@@ -6,19 +6,12 @@ use mathlib.Core.List.{List}
 use native.Mathlib.Omega.{arith}
 use denote.Ref.{now}
 use lib.ListN.{length, drop}
-use lib.Seq.{sets, slice}
+use lib.Seq.{sets}
 use Rattle.core.specs.Utf8.{decode}
 use Rattle.core.proofs.utf8.Turns.{part-is, GoodAt, BadAt, good-at, bad-at, run-bad, Counted, counted-start, counted-good, counted-run, counted-end, counted-size, decode-end, sets-good, sets-bad}
 use borrow.Author.Needs.{needs}
 use Rattle.core.proofs.utf8.decode_plain.Statement.{statement}
 use Rattle.core.proofs.utf8.decode_plain.Tie as tie
-use Rattle.core.proofs.utf8.decode_plain.Reads as reads
-use Rattle.core.proofs.utf8.decode_plain.Lts as lts
-use Rattle.core.proofs.fill.copy.Reads as copy-reads
-use Rattle.core.proofs.utf8.moved.Reads as moved-reads
-use Rattle.core.proofs.utf8.put_replacement.Reads as put-replacement-reads
-use Rattle.core.proofs.utf8.step.step_at.Reads as step-at-reads
-use Rattle.core.proofs.utf8.total.Reads as total-reads
 
 abbrev Inv-loop : tie.InvT-loop
 Inv-loop text out₀ at i₀ o₀ grown₀ out i o grown = Counted text i grown × (length out ≡ length out₀) × (sets out o (decode (drop i text)) ≡ sets out₀ at (decode text))

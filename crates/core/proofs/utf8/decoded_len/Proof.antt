@@ -1,7 +1,7 @@
 -- `utf8::decoded_len` meets its contract. The loop's invariant: what is passed, what it grew by and the decoding of the rest are as long as the whole decoding.
 -- Assumes nothing.
 use Prim.Native.Nat.{ℕ, _-_, _<_}
-use mathlib.Core.Path.{_≡_, refl}
+use mathlib.Core.Path.{_≡_}
 use native.Mathlib.Omega.{arith}
 use denote.Ref.{now}
 use lib.ListN.{length}
@@ -9,10 +9,6 @@ use Rattle.core.proofs.utf8.Turns.{RunAt, run-at, Counted, counted-star
 use borrow.Author.Needs.{needs}
 use Rattle.core.proofs.utf8.decoded_len.Statement.{statement}
 use Rattle.core.proofs.utf8.decoded_len.Tie as tie
-use Rattle.core.proofs.utf8.decoded_len.Reads as reads
-use Rattle.core.proofs.utf8.decoded_len.Lts as lts
-use Rattle.core.proofs.utf8.scan.next_run.Reads as next-run-reads
-use Rattle.core.proofs.utf8.total.Reads as total-reads
 
 abbrev Inv-loop : tie.InvT-loop
 Inv-loop text i₀ grown₀ i grown = Counted text i grown

@@ -5,9 +5,6 @@ use Rattle.core.proofs.utf8.Laws.{well-sound}
 use borrow.Author.Needs.{needs}
 use Rattle.core.proofs.utf8.well_formed.Statement.{statement}
 use Rattle.core.proofs.utf8.well_formed.Tie as tie
-use Rattle.core.proofs.utf8.well_formed.Reads as reads
-use Rattle.core.proofs.utf8.well_formed.Lts as lts
-use Rattle.core.proofs.utf8.first_ill.Reads as first-ill-reads
 
 first-ill-requires : tie.Need-first-ill-requires
 first-ill-requires c κs = search needs

@@ -1,7 +1,7 @@
 -- `utf8::flow::to_boundary` meets its contract. The loop's invariant: the automaton is on its way.
 -- Assumes nothing.
 use mathlib.Core.Path.{refl}
-use Prim.Native.Nat.{_+_, _-_}
+use Prim.Native.Nat.{_-_}
 use native.Mathlib.Omega.{arith}
 use lib.ListN.{length}
 use Rattle.core.specs.Flow.{Flowing}
@@ -9,9 +9,6 @@ use Rattle.core.proofs.utf8.Automaton.{flowing-turn, flowing-end}
 use borrow.Author.Needs.{needs}
 use Rattle.core.proofs.utf8.flow.to_boundary.Statement.{statement}
 use Rattle.core.proofs.utf8.flow.to_boundary.Tie as tie
-use Rattle.core.proofs.utf8.flow.to_boundary.Reads as reads
-use Rattle.core.proofs.utf8.flow.to_boundary.Lts as lts
-use Rattle.core.proofs.utf8.flow.next_state.Reads as next-state-reads
 
 abbrev Inv-loop : tie.InvT-loop
 Inv-loop s from at state j₀ q₀ j q = Flowing s from j q

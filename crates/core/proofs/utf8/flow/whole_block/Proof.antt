@@ -1,6 +1,6 @@
 -- `utf8::flow::whole_block` meets its contract. The loop's invariant: the automaton is on its way.
 -- Assumes nothing.
-use Prim.Native.Nat.{_+_, _-_, _≤_}
+use Prim.Native.Nat.{_-_, _≤_}
 use native.Mathlib.Omega.{arith}
 use lib.ListN.{length}
 use Rattle.core.specs.Flow.{Flowing}
@@ -8,10 +8,6 @@ use Rattle.core.proofs.utf8.Automaton.{flowing-start, flowing-turn}
 use borrow.Author.Needs.{needs}
 use Rattle.core.proofs.utf8.flow.whole_block.Statement.{statement}
 use Rattle.core.proofs.utf8.flow.whole_block.Tie as tie
-use Rattle.core.proofs.utf8.flow.whole_block.Reads as reads
-use Rattle.core.proofs.utf8.flow.whole_block.Lts as lts
-use Rattle.core.proofs.utf8.flow.next_state.Reads as next-state-reads
-use Rattle.core.proofs.utf8.flow.to_boundary.Reads as to-boundary-reads
 
 abbrev Inv-loop : tie.InvT-loop
 Inv-loop s from stop j₀ q₀ j q = (stop ≤ length s) × Flowing s from j q

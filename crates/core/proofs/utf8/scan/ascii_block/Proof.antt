@@ -1,6 +1,6 @@
 -- `utf8::scan::ascii_block` meets its contract. The loop's invariant: while the sum is 0, every byte passed is below 128.
 -- Assumes nothing.
-use Prim.Native.Nat.{ℕ, _+_, _-_, _/_, _≤_, _<_}
+use Prim.Native.Nat.{ℕ, _+_, _-_, _≤_, _<_}
 use mathlib.Core.Path.{_≡_}
 use native.Mathlib.Omega.{arith}
 use borrow.Author.Tests.{eqb-true}
@@ -9,8 +9,6 @@ use lib.ListN.{getD}
 use borrow.Author.Needs.{needs}
 use Rattle.core.proofs.utf8.scan.ascii_block.Statement.{statement}
 use Rattle.core.proofs.utf8.scan.ascii_block.Tie as tie
-use Rattle.core.proofs.utf8.scan.ascii_block.Reads as reads
-use Rattle.core.proofs.utf8.scan.ascii_block.Lts as lts
 
 abbrev Inv-loop : tie.InvT-loop
 Inv-loop s at n₀ k₀ n k = (k ≤ 32) × (n ≤ k) × (n ≡ 0 → (i : ℕ) → i < k → getD s (at + i) 0 < 128)

@@ -1,18 +1,13 @@
 -- `utf8::scan::blocks` meets its contract. The loop's invariant: from here on it is as far to the first ill-formed subpart as from the start.
 -- Assumes nothing.
-use mathlib.Core.Path.{_≡_, refl, sym, _∙_}
-use Prim.Native.Nat.{ℕ, _+_, _-_, _≤_, _<_}
+use mathlib.Core.Path.{_≡_, refl, _∙_}
+use Prim.Native.Nat.{_+_, _-_, _≤_}
 use native.Mathlib.Omega.{arith}
 use lib.ListN.{length, drop}
 use Rattle.core.specs.Utf8.{sound}
 use Rattle.core.proofs.utf8.Turns.{ascii-run}
-use borrow.Author.Needs.{needs}
 use Rattle.core.proofs.utf8.scan.blocks.Statement.{statement}
 use Rattle.core.proofs.utf8.scan.blocks.Tie as tie
-use Rattle.core.proofs.utf8.scan.blocks.Reads as reads
-use Rattle.core.proofs.utf8.scan.blocks.Lts as lts
-use Rattle.core.proofs.utf8.flow.whole_block.Reads as whole-block-reads
-use Rattle.core.proofs.utf8.scan.ascii_block.Reads as ascii-block-reads
 
 abbrev Inv-loop : tie.InvT-loop
 Inv-loop s from i₀ i = (from ≤ i) × (i ≤ length s) × (i + sound (drop i s) ≡ from + sound (drop from s))

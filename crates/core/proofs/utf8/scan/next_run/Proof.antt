@@ -1,15 +1,11 @@
 -- `utf8::scan::next_run` meets its contract.
 -- Assumes nothing.
-use mathlib.Core.Path.{_≡_, sym, _∙_}
+use mathlib.Core.Path.{_∙_}
 use native.Mathlib.Omega.{arith}
 use Rattle.core.proofs.utf8.Turns.{run-end}
 use borrow.Author.Needs.{needs}
 use Rattle.core.proofs.utf8.scan.next_run.Statement.{statement}
 use Rattle.core.proofs.utf8.scan.next_run.Tie as tie
-use Rattle.core.proofs.utf8.scan.next_run.Reads as reads
-use Rattle.core.proofs.utf8.scan.next_run.Lts as lts
-use Rattle.core.proofs.utf8.scan.blocks.Reads as blocks-reads
-use Rattle.core.proofs.utf8.scan.walk.Reads as walk-reads
 
 sub-if1 : tie.Need-sub-if1
 sub-if1 c = search needs

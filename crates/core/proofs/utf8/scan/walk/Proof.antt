@@ -1,7 +1,7 @@
 -- `utf8::scan::walk` meets its contract. The loop's invariant: from here on it is as far to the first ill-formed subpart as from the start.
 -- Assumes nothing.
-use mathlib.Core.Path.{_≡_, refl, sym, _∙_}
-use Prim.Native.Nat.{ℕ, _+_, _-_, _≤_, _<_}
+use mathlib.Core.Path.{_≡_, refl, _∙_}
+use Prim.Native.Nat.{_+_, _-_, _≤_}
 use native.Mathlib.Omega.{arith}
 use denote.Ref.{now}
 use lib.ListN.{length, drop}
@@ -10,9 +10,6 @@ use Rattle.core.proofs.utf8.Turns.{GoodAt, BadAt, good-at, bad-at}
 use borrow.Author.Needs.{needs}
 use Rattle.core.proofs.utf8.scan.walk.Statement.{statement}
 use Rattle.core.proofs.utf8.scan.walk.Tie as tie
-use Rattle.core.proofs.utf8.scan.walk.Reads as reads
-use Rattle.core.proofs.utf8.scan.walk.Lts as lts
-use Rattle.core.proofs.utf8.step.step_at.Reads as step-at-reads
 
 abbrev Inv-loop : tie.InvT-loop
 Inv-loop s from stop i₀ i = (from ≤ i) × (i ≤ length s) × (i + sound (drop i s) ≡ from + sound (drop from s))

@@ -2,11 +2,8 @@
 -- Assumes nothing.
 use borrow.Author.Tests.{le-leb, lt-leb}
 use Rattle.core.specs.Utf8.{within}
-use borrow.Author.Needs.{needs}
 use Rattle.core.proofs.utf8.step.inside.Statement.{statement}
 use Rattle.core.proofs.utf8.step.inside.Tie as tie
-use Rattle.core.proofs.utf8.step.inside.Reads as reads
-use Rattle.core.proofs.utf8.step.inside.Lts as lts
 
 returns : tie.Need-returns
 unfolding within

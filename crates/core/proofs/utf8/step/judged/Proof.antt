@@ -5,8 +5,6 @@ use native.Mathlib.Numerals.{add-one}
 use borrow.Author.Needs.{needs}
 use Rattle.core.proofs.utf8.step.judged.Statement.{statement}
 use Rattle.core.proofs.utf8.step.judged.Tie as tie
-use Rattle.core.proofs.utf8.step.judged.Reads as reads
-use Rattle.core.proofs.utf8.step.judged.Lts as lts
 
 add-t5 : tie.Need-add-t5
 add-t5 c = search needs

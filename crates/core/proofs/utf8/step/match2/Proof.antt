@@ -2,14 +2,10 @@
 -- Assumes nothing.
 use mathlib.Core.Path.{sym, _∙_}
 use native.Mathlib.Omega.{arith}
-use Rattle.core.proofs.utf8.Steps.{matched-past, matched-hit, matched-miss, matched-none, matched-small}
+use Rattle.core.proofs.utf8.Steps.{matched-past, matched-hit, matched-miss, matched-small}
 use borrow.Author.Needs.{needs}
 use Rattle.core.proofs.utf8.step.match2.Statement.{statement}
 use Rattle.core.proofs.utf8.step.match2.Tie as tie
-use Rattle.core.proofs.utf8.step.match2.Reads as reads
-use Rattle.core.proofs.utf8.step.match2.Lts as lts
-use Rattle.core.proofs.utf8.step.inside.Reads as inside-reads
-use Rattle.core.proofs.utf8.step.match1.Reads as match1-reads
 
 shared-slice-read-inside : tie.Need-shared-slice-read-inside
 shared-slice-read-inside c = search needs

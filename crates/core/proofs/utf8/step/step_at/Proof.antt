@@ -1,21 +1,14 @@
 -- `utf8::step::step_at` meets its contract: by the class of the first byte.
 -- Assumes nothing.
-use mathlib.Core.Path.{_≡_, refl, sym, _∙_}
+use mathlib.Core.Path.{_≡_, refl}
 use mathlib.Core.Logic.{⊎-elim}
-use Prim.Native.Nat.{ℕ, _<_}
+use Prim.Native.Nat.{_<_}
 use native.Mathlib.Omega.{arith}
 use Rattle.core.specs.Utf8.{laterOf, rows}
 use Rattle.core.proofs.utf8.Steps.{matched-small, class-below, only-nine, step-none, step-one, step-by}
 use borrow.Author.Needs.{needs}
 use Rattle.core.proofs.utf8.step.step_at.Statement.{statement}
 use Rattle.core.proofs.utf8.step.step_at.Tie as tie
-use Rattle.core.proofs.utf8.step.step_at.Reads as reads
-use Rattle.core.proofs.utf8.step.step_at.Lts as lts
-use Rattle.core.proofs.utf8.class.class_of.Reads as class-of-reads
-use Rattle.core.proofs.utf8.step.judged.Reads as judged-reads
-use Rattle.core.proofs.utf8.step.match1.Reads as match1-reads
-use Rattle.core.proofs.utf8.step.match2.Reads as match2-reads
-use Rattle.core.proofs.utf8.step.match3.Reads as match3-reads
 
 shared-slice-read-class-of : tie.Need-shared-slice-read-class-of
 shared-slice-read-class-of c = search needs
