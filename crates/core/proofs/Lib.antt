@@ -5,6 +5,7 @@ pub mod Floats
 pub mod Numbers
 pub mod Padding
 pub mod Parts
+pub mod Runs
 pub mod Seeks
 pub mod Stores
 pub mod Table

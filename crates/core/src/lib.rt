@@ -4,6 +4,7 @@ pub mod float;
 pub mod number;
 pub mod part;
 pub mod placeholder;
+pub mod run;
 pub mod seek;
 pub mod text;
 pub mod utf8;

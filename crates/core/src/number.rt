@@ -1,7 +1,8 @@
 // Little-endian numbers of one, two and four bytes at a position of a slice.
 ghost use mathlib.Core.Path.{_≡_};
-ghost use Prim.Native.Nat.{_<_};
-ghost use Rattle.core.specs.Number.{put, readOf};
+ghost use Prim.Native.Nat.{_+_, _<_, _≤_};
+ghost use lib.ListN.{length};
+ghost use Rattle.core.specs.Number.{get, put, readOf};
 use crate::fill::ahead;
 use crate::fill::room;
 
@@ -28,14 +29,32 @@ pub fn read_u8(s: &[u8], at: usize) -> Read
     Read::Value(wide(s[at]), at + 1)
 }
 
+// The two, and the four, bytes from `at` on.
+pub(crate) fn two(s: &[u8], at: usize) -> u32
+    requires { ⌜ at + 2 ≤ length (now s) ⌝ }
+    ensures { λ r. ⌜ (r ≡ get 2 (now (s .entry)) at) × (r < 65536) ⌝ }
+{
+    let b1 = at + 1;
+    wide(s[at]) + 256 * wide(s[b1])
+}
+
+pub(crate) fn four(s: &[u8], at: usize) -> u32
+    requires { ⌜ at + 4 ≤ length (now s) ⌝ }
+    ensures { λ r. ⌜ r ≡ get 4 (now (s .entry)) at ⌝ }
+{
+    let b1 = at + 1;
+    let b2 = b1 + 1;
+    let b3 = b2 + 1;
+    wide(s[at]) + 256 * (wide(s[b1]) + 256 * (wide(s[b2]) + 256 * wide(s[b3])))
+}
+
 pub fn read_u16(s: &[u8], at: usize) -> Read
     ensures { λ r. ⌜ r ≡ readOf 2 (now (s .entry)) at ⌝ }
 {
     if ahead(at, s.len()) < 2 {
         return Read::Past(at, 2);
     }
-    let b1 = at + 1;
-    Read::Value(wide(s[at]) + 256 * wide(s[b1]), at + 2)
+    Read::Value(two(s, at), at + 2)
 }
 
 pub fn read_u32(s: &[u8], at: usize) -> Read
@@ -44,13 +63,7 @@ pub fn read_u32(s: &[u8], at: usize) -> Read
     if ahead(at, s.len()) < 4 {
         return Read::Past(at, 4);
     }
-    let b1 = at + 1;
-    let b2 = b1 + 1;
-    let b3 = b2 + 1;
-    Read::Value(
-        wide(s[at]) + 256 * (wide(s[b1]) + 256 * (wide(s[b2]) + 256 * wide(s[b3]))),
-        at + 4,
-    )
+    Read::Value(four(s, at), at + 4)
 }
 
 // The first of the `k` bytes of `v`, as many as there is room for: the way of a write that runs past the end.

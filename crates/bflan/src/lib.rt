@@ -1,0 +1,2 @@
+// The pai1 section: read into a flat record.
+pub mod fault;

@@ -1,0 +1,76 @@
+// Runs of numbers: tested once, then read in a plain loop into a slice of words. What would stand past the end of that slice is dropped.
+ghost use mathlib.Core.Path.{_≡_};
+ghost use lib.ListN.{set};
+ghost use Rattle.core.specs.Run.{numbersAt, numbersOf, pairsAt, pairsOf, cutPair, storedRun};
+use crate::fill::ahead;
+use crate::fill::room;
+use crate::number::four;
+use crate::number::two;
+
+// What a run gives.
+pub enum Run {
+    // The position after it.
+    Next(usize),
+    // The slice ends within it: the position of the number that is not whole, and how many bytes that has.
+    Cut(usize, usize),
+}
+
+// One word at `at`.
+pub fn put_word(out: &mut [u32], at: usize, v: u32)
+    ensures { λ _. ⌜ now (out .exit) ≡ set (now (out .entry)) at v ⌝ }
+{
+    if at < out.len() {
+        out[at] = v;
+    }
+}
+
+// `n` numbers of four bytes from `at` on, stored from `o` on.
+pub fn read_numbers(s: &[u8], at: usize, n: usize, out: &mut [u32], o: usize) -> Run
+    ensures { λ r. ⌜ (r ≡ numbersOf n (now (s .entry)) at) × (now (out .exit) ≡ storedRun r (now (out .entry)) o (numbersAt n (now (s .entry)) at)) ⌝ }
+{
+    let whole = ahead(at, s.len()) / 4;
+    if whole < n {
+        return Run::Cut(at + 4 * whole, 4);
+    }
+    let m = room(n, o, out.len());
+    let mut k = 0;
+    while k < m {
+        out[o + k] = four(s, at + 4 * k);
+        k += 1;
+    }
+    Run::Next(at + 4 * n)
+}
+
+// `n` pairs of a number of four bytes and one of two, each pair in eight bytes, stored from `o` on.
+pub fn read_pairs(s: &[u8], at: usize, n: usize, out: &mut [u32], o: usize) -> Run
+    ensures { λ r. ⌜ (r ≡ pairsOf n (now (s .entry)) at) × (now (out .exit) ≡ storedRun r (now (out .entry)) o (pairsAt n (now (s .entry)) at)) ⌝ }
+{
+    let left = ahead(at, s.len());
+    let whole = (left + 2) / 8;
+    if whole < n {
+        return cut_pair(s, at + 8 * whole);
+    }
+    let m = room(2 * n, o, out.len());
+    let full = m / 2;
+    let mut k = 0;
+    while k < full {
+        out[o + 2 * k] = four(s, at + 8 * k);
+        out[o + 2 * k + 1] = two(s, at + 8 * k + 4);
+        k += 1;
+    }
+    if full < n {
+        put_word(out, o + 2 * full, four(s, at + 8 * full));
+        return Run::Next(at + 8 * n);
+    }
+    Run::Next(at + 8 * n)
+}
+
+// The answer where the pair at `at` is not whole.
+fn cut_pair(s: &[u8], at: usize) -> Run
+    ensures { λ r. ⌜ r ≡ cutPair (now (s .entry)) at ⌝ }
+{
+    if ahead(at, s.len()) < 4 {
+        return Run::Cut(at, 4);
+    }
+    Run::Cut(at + 4, 2)
+}
