@@ -5,8 +5,8 @@ use mathlib.Core.List.{List, [], _∷_, _++_, map}
 use lib.Dec.{leb, eqb}
 use Rattle.core.specs.Choice.{pick}
 use Rattle.bflan.specs.declared.fault.Fault.the-variants.{NotPai1}
-use Rattle.bflan.specs.Letters.{FLEU, lettersOf, targetOf}
-use Rattle.bflan.specs.Reader.{P, ret, given, fail, here, Item, word, num, seekTo, skip, fixedText, endedText, numbers, many, visit}
+use Rattle.bflan.specs.Letters.{fleu, lettersOf, targetOf}
+use Rattle.bflan.specs.Reader.{P, _>>=_, ret, given, fail, here, Item, word, num, seekTo, skip, fixedText, endedText, numbers, many, visit}
 
 -- ---- keys: one binary32; a frame and a u16, two bytes skipped; a frame, a value and a slope
 
@@ -71,10 +71,10 @@ info = do
   n ← num 1
   reserve ← num 1
   reserve ← num 2
-  given (eqb letters FLEU)
+  given (eqb letters fleu)
       (do
         ds ← many n datum
-        ret (word FLEU ∷ word n ∷ ds))
+        ret (word fleu ∷ word n ∷ ds))
       (do
         offsets ← numbers n
         ts ← visit base (target letters) offsets

@@ -1,2 +1,4 @@
 // The pai1 section: read into a flat record.
 pub mod fault;
+pub mod letters;
+pub mod tally;

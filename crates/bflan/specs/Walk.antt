@@ -1,0 +1,65 @@
+-- What a walk over a section leaves behind: its tally, and the two tables, by the items that it met.
+use Prim.Native.Nat.{ℕ, min, _+_}
+use mathlib.Core.List.{List, [], _∷_, _++_}
+use lib.Dec.{eqb}
+use lib.ListN.{length}
+use lib.Seq.{slice, sets}
+use Rattle.core.specs.Choice.{pick}
+use Rattle.core.specs.Utf8.{decode}
+use Rattle.bflan.specs.declared.tally.Tally.{Tally}
+use Rattle.bflan.specs.declared.tally.Walk.{Walk}
+use Rattle.bflan.specs.declared.tally.Walk.the-variants.{On, No}
+use Rattle.bflan.specs.Reader.{Res, ok, stop, Item, word, text}
+
+-- ---- the words and the text bytes of items (document 01, 'Flat record')
+
+-- a text as it is shown
+abbrev pub shownAt : List ℕ → ℕ → ℕ → List ℕ
+shownAt s start len = decode (slice start (start + len) s)
+
+unfoldable pub wordsOf : List ℕ → List Item → List ℕ
+wordsOf s [] = []
+wordsOf s (word v ∷ is) = v ∷ wordsOf s is
+wordsOf s (text a n ∷ is) = length (shownAt s a n) ∷ wordsOf s is
+
+unfoldable pub textsOf : List ℕ → List Item → List ℕ
+textsOf s [] = []
+textsOf s (word v ∷ is) = textsOf s is
+textsOf s (text a n ∷ is) = shownAt s a n ++ textsOf s is
+
+-- ---- the tally
+
+-- a count as a usize
+abbrev pub sat : ℕ → ℕ
+sat n = min n 18446744073709551615
+
+unfoldable pub moved : Tally → ℕ → Tally
+moved t n =
+    record { words = sat (t .words + n); bytes = t .bytes; texts = t .texts; want = t .want; start = t .start; len = t .len }
+
+unfoldable pub named : Tally → ℕ → ℕ → ℕ → Tally
+named t a n size =
+    record {
+      words = sat (t .words + 1);
+      bytes = sat (t .bytes + size);
+      texts = sat (t .texts + 1);
+      want = t .want;
+      start = pick (eqb (t .texts) (t .want)) a (t .start);
+      len = pick (eqb (t .texts) (t .want)) n (t .len);
+    }
+
+unfoldable pub tallied : List ℕ → Tally → List Item → Tally
+tallied s t [] = t
+tallied s t (word v ∷ is) = tallied s (moved t 1) is
+tallied s t (text a n ∷ is) = tallied s (named t a n (length (shownAt s a n))) is
+
+-- ---- a walk over two tables: its answer and, where it goes on, the tables then
+
+unfoldable pub run : List ℕ → Tally → List ℕ → List ℕ → Res (List Item) → Walk × List ℕ × List ℕ
+run s t w x (ok is p) = (On (tallied s t is) p, sets w (t .words) (wordsOf s is), sets x (t .bytes) (textsOf s is))
+run s t w x (stop f) = (No f, [], [])
+
+-- the same as the code has it: of a walk that was stopped the tables don't count
+unfoldable pub told : Walk → List ℕ → List ℕ → Walk × List ℕ × List ℕ
+told (On t p) w x = (On t p, w, x)
+told (No f) w x = (No f, [], [])
