@@ -1,2 +1,4 @@
 pub mod Codes
+pub mod Emits
 pub mod Exercises
+pub mod Walks

@@ -82,6 +82,12 @@ fixedText n = λ s i. asText i (fixedOf n s i)
 unfoldable pub endedText : P Item
 endedText = λ s i. asText i (endedOf s i)
 
+-- an ended text as the only item
+unfoldable pub oneEnded : P (List Item)
+oneEnded = do
+  t ← endedText
+  ret (t ∷ [])
+
 -- ---- lists
 
 -- n numbers of four bytes, one after another
@@ -101,10 +107,9 @@ many (suc n) p = do
   ret (x ++ xs)
 
 -- a part at each of the offsets, which count from base
-unfoldable pub visit : ℕ → P (List Item) → List ℕ → P (List Item)
+unfoldable pub visit : ℕ → (ℕ → P (List Item)) → List ℕ → P (List Item)
 visit base p [] = ret []
 visit base p (o ∷ os) = do
-  at ← seekTo (base + o)
-  x ← p
+  x ← p (base + o)
   xs ← visit base p os
   ret (x ++ xs)

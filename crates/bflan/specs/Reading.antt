@@ -6,7 +6,7 @@ use lib.Dec.{leb, eqb}
 use Rattle.core.specs.Choice.{pick}
 use Rattle.bflan.specs.declared.fault.Fault.the-variants.{NotPai1}
 use Rattle.bflan.specs.Letters.{fleu, lettersOf, targetOf}
-use Rattle.bflan.specs.Reader.{P, _>>=_, ret, given, fail, here, Item, word, num, seekTo, skip, fixedText, endedText, numbers, many, visit}
+use Rattle.bflan.specs.Reader.{P, _>>=_, ret, given, fail, here, Item, word, num, seekTo, skip, fixedText, oneEnded, numbers, many, visit}
 
 -- ---- keys: one binary32; a frame and a u16, two bytes skipped; a frame, a value and a slope
 
@@ -35,9 +35,10 @@ countOf curve n = pick (leb curve 2) n 0
 unfoldable pub keys : ℕ → ℕ → P (List Item)
 keys curve n = many (countOf curve n) (keyOf (curveOf curve))
 
-unfoldable pub target : ℕ → P (List Item)
-target letters = do
-  base ← here
+-- a target that starts at base
+unfoldable pub target : ℕ → ℕ → P (List Item)
+target letters base = do
+  at ← seekTo base
   layer ← num 1
   raw ← num 1
   curve ← num 1
@@ -61,12 +62,13 @@ datum = do
   at ← here
   offset ← num 4
   start ← seekTo (at + offset)
-  key ← endedText
-  ret (word size ∷ word one ∷ word two ∷ word base ∷ word three ∷ (map word vs ++ (key ∷ [])))
+  key ← oneEnded
+  ret (word size ∷ word one ∷ word two ∷ word base ∷ word three ∷ (map word vs ++ key))
 
-unfoldable pub info : P (List Item)
-info = do
-  base ← here
+-- an info that starts at base
+unfoldable pub info : ℕ → P (List Item)
+info base = do
+  at ← seekTo base
   letters ← num 4
   n ← num 1
   reserve ← num 1
@@ -84,10 +86,10 @@ info = do
 unfoldable pub typeOf : ℕ → ℕ
 typeOf type = pick (leb type 4) type 0
 
--- a User content has its info table elsewhere; its total size is not read
-unfoldable pub content : P (List Item)
-content = do
-  base ← here
+-- a content that starts at base; a User content has its info table elsewhere, and its total size is not read
+unfoldable pub content : ℕ → P (List Item)
+content base = do
+  at ← seekTo base
   name ← fixedText 28
   n ← num 1
   type ← num 1
@@ -101,10 +103,10 @@ content = do
   is ← visit base info offsets
   ret (name ∷ word (typeOf type) ∷ word n ∷ is)
 
-unfoldable pub texture : P (List Item)
-texture = do
-  t ← endedText
-  ret (t ∷ [])
+unfoldable pub texture : ℕ → P (List Item)
+texture base = do
+  at ← seekTo base
+  oneEnded
 
 -- `pai1`
 abbrev pub pai1 : ℕ

@@ -1,0 +1,96 @@
+-- What the stores of a walk are in terms of `run`.
+-- Assumes nothing.
+use Prim.Native.Nat.{ℕ, min, _+_, _-_, _*_, _≤_}
+use mathlib.Core.Path.{_≡_, refl, ap, sym, _∙_}
+use mathlib.Core.List.{List, [], _∷_, _++_, append-nil}
+use native.Mathlib.Numerals.{add-one}
+use native.Mathlib.Omega.{arith}
+use lib.ListN.{length, set, take, drop}
+use lib.Seq.{sets, slice, length-slice, set-out}
+use Rattle.core.specs.Utf8.{decode, decodedSize}
+use Rattle.core.proofs.Stores.{sets-out}
+use Rattle.core.proofs.utf8.Laws.{decode-bound}
+use Rattle.core.proofs.utf8.Turns.{part-is}
+use Rattle.bflan.specs.declared.tally.Tally.{Tally}
+use Rattle.bflan.specs.declared.tally.Walk.the-variants.{On, No}
+use Rattle.core.specs.Number.{readOf}
+use Rattle.core.specs.Seek.{seekOf}
+use Rattle.core.specs.Text.{endedOf}
+use Rattle.core.specs.declared.number.Read.the-variants.{Value, Past as ReadPast}
+use Rattle.core.specs.declared.seek.Sought.the-variants.{At, Past as SoughtPast}
+use Rattle.core.specs.declared.text.TextAt.the-variants.{Text, Past as TextPast, Unended}
+use Rattle.bflan.specs.declared.fault.Fault.the-variants.{PastEnd, NoZero}
+use Rattle.bflan.specs.Reader.{ok, stop, text, num, seekTo, endedText, oneEnded}
+use Rattle.bflan.specs.Reading.{texture}
+use Rattle.bflan.specs.Walk.{shownAt, wordsOf, textsOf, named, tallied, run, told}
+
+-- the decoded length of a part of a section
+pub shown-size : (s : List ℕ) (start len size : ℕ) (part : List ℕ) → start + len ≤ length s → length s ≤ 16777216 → part ≡ slice start (start + len) s → size ≡ decodedSize part
+    → (size ≡ length (shownAt s start len)) × (size ≤ 50331648)
+unfolding decodedSize
+shown-size s start len size part h k ep es =
+    let b = decode-bound (slice start (start + len) s) in
+    let l = length-slice start (start + len) s h in
+    let e : size ≡ min (length (decode (slice start (start + len) s))) 18446744073709551615 = rw ep at es in
+    (omega (arith, b, l, e), omega (arith, b, l, e))
+
+pub shown-part : (s : List ℕ) (start len : ℕ) → take (start + len - start) (drop start s) ≡ slice start (start + len) s
+shown-part s start len = part-is start (start + len) s (omega arith)
+
+-- two stores, one after the other
+pub two-stores : (w : List ℕ) (at a b : ℕ) (u v : List ℕ) → u ≡ set w at a → v ≡ set u (at + 1) b → v ≡ sets w at (a ∷ b ∷ [])
+two-stores w at a b u v eu ev = rw (ev, eu, add-one)
+
+-- a single text, as `run` has it
+pub run-text : (s : List ℕ) (t : Tally) (w x : List ℕ) (a n q : ℕ) (t′ : Tally) (w′ x′ : List ℕ) → t′ ≡ named t a n (length (shownAt s a n)) → w′ ≡ set w (t .words) (length (shownAt s a n))
+    → x′ ≡ sets x (t .bytes) (shownAt s a n) → told (On t′ q) w′ x′ ≡ run s t w x (ok (text a n ∷ []) q)
+unfolding told run tallied wordsOf textsOf
+run-text s t w x a n q t′ w′ x′ et ew ex = rw (et, ew, ex, append-nil)
+
+-- ---- a text that ends at a zero, by core's answer
+
+module _ (s : List ℕ) (p : ℕ) where
+  pub ended-on : (len next : ℕ) → endedOf s p ≡ Text len next → oneEnded s p ≡ ok (text p len ∷ []) next
+  unfolding oneEnded endedText
+  ended-on len next e = rw e
+
+  pub ended-past : (offset requested : ℕ) → endedOf s p ≡ TextPast offset requested → oneEnded s p ≡ stop (PastEnd offset requested)
+  unfolding oneEnded endedText
+  ended-past offset requested e = rw e
+
+  pub ended-none : (start : ℕ) → endedOf s p ≡ Unended start → oneEnded s p ≡ stop (NoZero start)
+  unfolding oneEnded endedText
+  ended-none start e = rw e
+
+-- ---- a seek, by core's answer
+
+module _ (s : List ℕ) (to i : ℕ) where
+  pub sought-on : (q : ℕ) → seekOf s to ≡ At q → seekTo to s i ≡ ok q q
+  unfolding seekTo
+  sought-on q e = rw e
+
+  pub sought-past : (offset requested : ℕ) → seekOf s to ≡ SoughtPast offset requested → seekTo to s i ≡ stop (PastEnd offset requested)
+  unfolding seekTo
+  sought-past offset requested e = rw e
+
+-- ---- a number, by core's answer
+
+module _ (k : ℕ) (s : List ℕ) (i : ℕ) where
+  pub num-on : (v q : ℕ) → readOf k s i ≡ Value v q → num k s i ≡ ok v q
+  unfolding num
+  num-on v q e = rw e
+
+  pub num-past : (offset requested : ℕ) → readOf k s i ≡ ReadPast offset requested → num k s i ≡ stop (PastEnd offset requested)
+  unfolding num
+  num-past offset requested e = rw e
+
+-- ---- a texture, by its seek
+
+module _ (s : List ℕ) (base i : ℕ) where
+  pub texture-on : (q : ℕ) → seekOf s base ≡ At q → texture base s i ≡ oneEnded s q
+  unfolding texture
+  texture-on q e = rw (sought-on s base i q e)
+
+  pub texture-past : (offset requested : ℕ) → seekOf s base ≡ SoughtPast offset requested → texture base s i ≡ stop (PastEnd offset requested)
+  unfolding texture
+  texture-past offset requested e = rw (sought-past s base i offset requested e)
