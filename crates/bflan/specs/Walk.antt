@@ -1,6 +1,6 @@
 -- What a walk over a section leaves behind: its tally, and the two tables, by the items that it met.
 use Prim.Native.Nat.{ℕ, min, _+_}
-use mathlib.Core.List.{List, [], _∷_, _++_}
+use mathlib.Core.List.{List, [], _∷_, _++_, map}
 use lib.Dec.{eqb}
 use lib.ListN.{length}
 use lib.Seq.{slice, sets}
@@ -10,6 +10,11 @@ use Rattle.bflan.specs.declared.tally.Tally.{Tally}
 use Rattle.bflan.specs.declared.tally.Walk.{Walk}
 use Rattle.bflan.specs.declared.tally.Walk.the-variants.{On, No}
 use Rattle.bflan.specs.Reader.{Res, ok, stop, Item, word, text}
+
+-- numbers as items: a word each
+abbrev pub asItems : Res (List ℕ) → Res (List Item)
+asItems (ok vs p) = ok (map word vs) p
+asItems (stop f) = stop f
 
 -- ---- the words and the text bytes of items (document 01, 'Flat record')
 
