@@ -13,14 +13,15 @@ use Rattle.core.specs.Run.{numbersAt, numbersOf, pairsAt, pairsOf, cutPair, sto
 use Rattle.core.specs.declared.run.Run.{Run}
 use Rattle.core.specs.declared.run.Run.the-variants.{Next, Cut}
 use Rattle.core.proofs.Numbers.{read-there, read-short}
-use Rattle.core.proofs.Runs.{numbers-whole, numbers-cut, pairs-whole, pairs-cut}
+use Rattle.core.proofs.Runs.{length-numbers, length-pairs, numbers-whole, numbers-cut, pairs-whole, pairs-cut}
 use Rattle.bflan.specs.declared.fault.Fault.{Fault}
 use Rattle.bflan.specs.declared.fault.Fault.the-variants.{PastEnd}
 use Rattle.bflan.specs.declared.tally.Tally.{Tally}
+use Rattle.bflan.specs.declared.tally.Walk.{Walk}
 use Rattle.bflan.specs.declared.tally.Walk.the-variants.{On, No}
 use Rattle.bflan.specs.Reader.{Res, ok, stop, P, andThen, _>>=_, ret, Item, word, num, skip, numbers, many}
 use Rattle.bflan.specs.Reading.{keyOf, curveOf, countOf, keys}
-use Rattle.bflan.specs.Walk.{asItems, wordsOf, textsOf, sat, moved, tallied, run, told}
+use Rattle.bflan.specs.Walk.{asItems, wordsOf, textsOf, sat, moved, tallied, afterRun, run, told}
 
 -- a run's answer, with its words
 abbrev pub asNumbers : Run → List ℕ → Res (List ℕ)
@@ -206,6 +207,14 @@ key-three c s p = one (leb (p + 4) (length s)) refl
     one true e = two (leb (p + 4 + 4) (length s)) refl (leb-true (p + 4) (length s) e)
     one false e = rw (num-short 4 s p (leb-false (p + 4) (length s) e))
 
+-- ---- keys of one kind, as runs
+
+pub many-constants : (n : ℕ) (s : List ℕ) (p : ℕ) → many n (keyOf 0) s p ≡ asItems (numbers n s p)
+many-constants n s p = let e : 1 * n ≡ n = omega arith in rw e at (many-numbers 1 n (keyOf 0) s p (key-one s))
+
+pub many-hermites : (c n : ℕ) (s : List ℕ) (p : ℕ) → many n (keyOf (suc (suc c))) s p ≡ asItems (numbers (3 * n) s p)
+many-hermites c n s p = many-numbers 3 n (keyOf (suc (suc c))) s p (key-three c s)
+
 -- ---- a run of pairs, as above; a pair has eight bytes, of which the last two are not tested
 
 pairs-none : (s : List ℕ) (p : ℕ) → pairsOf 0 s p ≡ Next p
@@ -282,7 +291,7 @@ pairs-run (suc n) s p = pairs-turn n s p (pairs-run n s (p + 8))
 
 pub keys-constant : (n : ℕ) (s : List ℕ) (p : ℕ) → keys 0 n s p ≡ asItems (numbers n s p)
 unfolding keys countOf curveOf
-keys-constant n s p = let e : 1 * n ≡ n = omega arith in rw e at (many-numbers 1 n (keyOf 0) s p (key-one s))
+keys-constant n s p = many-constants n s p
 
 pub keys-step : (n : ℕ) (s : List ℕ) (p : ℕ) → keys 1 n s p ≡ asItems (asNumbers (pairsOf n s p) (pairsAt n s p))
 unfolding keys countOf curveOf
@@ -290,7 +299,7 @@ keys-step n s p = pairs-run n s p
 
 pub keys-hermite : (n : ℕ) (s : List ℕ) (p : ℕ) → keys 2 n s p ≡ asItems (numbers (3 * n) s p)
 unfolding keys countOf curveOf
-keys-hermite n s p = many-numbers 3 n (keyOf 2) s p (key-three 0 s)
+keys-hermite n s p = many-hermites 0 n s p
 
 pub keys-above : (curve n : ℕ) (s : List ℕ) (p : ℕ) → 2 < curve → keys curve n s p ≡ ok [] p
 unfolding keys countOf curveOf many
@@ -351,11 +360,47 @@ tallied-words s t (v ∷ vs) h =
 
 -- ---- a run in code: its answer and the words after it, as a walk tells them
 
-module _ (s : List ℕ) (t : Tally) (w x : List ℕ) (vs : List ℕ) (fits : t .words ≤ 18446744073709551615) where
-  pub told-next : (r : Run) (q n : ℕ) (out : List ℕ) → r ≡ Next q → length vs ≡ n → out ≡ storedRun r w (t .words) vs → told (On (moved t n) q) out x ≡ run s t w x (asItems (asNumbers r vs))
-  unfolding told run storedRun
-  told-next r q n out e l o = rw (o, e, words-words s vs, texts-words s vs, tallied-words s t vs fits, l)
+pub told-run : (s : List ℕ) (t : Tally) (w x : List ℕ) (r : Run) (vs : List ℕ) → t .words ≤ 18446744073709551615
+    → told (afterRun r t (length vs)) (storedRun r w (t .words) vs) x ≡ run s t w x (asItems (asNumbers r vs))
+unfolding told run storedRun afterRun
+told-run s t w x (Next q) vs h = rw (words-words s vs, texts-words s vs, tallied-words s t vs h)
+told-run s t w x (Cut o k) vs h = refl
 
-  pub told-cut : (r : Run) (at k : ℕ) (out : List ℕ) → r ≡ Cut at k → told (No (PastEnd at k)) out x ≡ run s t w x (asItems (asNumbers r vs))
-  unfolding told run
-  told-cut r at k out e = rw e
+-- the same, as code has it: each equation is what a call tells
+pub told-values : (s : List ℕ) (t : Tally) (w x : List ℕ) (n p : ℕ) {r : Run} {a : Walk} {out : List ℕ} → t .words ≤ 18446744073709551615
+    → r ≡ numbersOf n s p → out ≡ storedRun r w (t .words) (numbersAt n s p) → a ≡ afterRun r t n
+    → told a out x ≡ run s t w x (asItems (numbers n s p))
+told-values s t w x n p h e o d = rw (d, o, e, numbers-run n s p) (rw length-numbers at (told-run s t w x (numbersOf n s p) (numbersAt n s p) h))
+
+pub told-pairs : (s : List ℕ) (t : Tally) (w x : List ℕ) (n p : ℕ) {r : Run} {a : Walk} {out : List ℕ} → t .words ≤ 18446744073709551615
+    → r ≡ pairsOf n s p → out ≡ storedRun r w (t .words) (pairsAt n s p) → a ≡ afterRun r t (2 * n)
+    → told a out x ≡ run s t w x (keys 1 n s p)
+told-pairs s t w x n p h e o d = rw (d, o, e, keys-step n s p) (rw length-pairs at (told-run s t w x (pairsOf n s p) (pairsAt n s p) h))
+
+-- no items
+pub told-none : (s : List ℕ) (t : Tally) (w x : List ℕ) (p : ℕ) → told (On t p) w x ≡ run s t w x (ok [] p)
+unfolding told run tallied wordsOf textsOf
+told-none s t w x p = refl
+
+-- the arms over a run's answer
+pub after-next : (t : Tally) (n q : ℕ) {r : Run} {u : Tally} → r ≡ Next q → u ≡ moved t n → On u q ≡ afterRun r t n
+unfolding afterRun
+after-next t n q e d = rw (e, d)
+
+pub after-cut : (t : Tally) (n o k : ℕ) {r : Run} → r ≡ Cut o k → No (PastEnd o k) ≡ afterRun r t n
+unfolding afterRun
+after-cut t n o k e = rw e
+
+-- the arms over a curve
+module _ (s : List ℕ) (t : Tally) (w x : List ℕ) {curve : ℕ} (n p : ℕ) where
+  pub run-constant : curve ≡ 0 → run s t w x (asItems (numbers n s p)) ≡ run s t w x (keys curve n s p)
+  run-constant e = rw (e, keys-constant n s p)
+
+  pub run-step : curve ≡ 1 → run s t w x (keys 1 n s p) ≡ run s t w x (keys curve n s p)
+  run-step e = rw e
+
+  pub run-hermite : curve ≡ 2 → run s t w x (asItems (numbers (3 * n) s p)) ≡ run s t w x (keys curve n s p)
+  run-hermite e = rw (e, keys-hermite n s p)
+
+  pub run-above : 2 < curve → told (On t p) w x ≡ run s t w x (keys curve n s p)
+  run-above h = rw (keys-above curve n s p h) (told-none s t w x p)
