@@ -1,4 +1,5 @@
 pub mod Codes
 pub mod Emits
 pub mod Exercises
+pub mod KeyRuns
 pub mod Walks

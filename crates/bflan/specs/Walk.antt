@@ -1,15 +1,23 @@
 -- What a walk over a section leaves behind: its tally, and the two tables, by the items that it met.
 use Prim.Native.Nat.{ℕ, min, _+_}
-use mathlib.Core.List.{List, [], _∷_, _++_}
+use mathlib.Core.List.{List, [], _∷_, _++_, map}
 use lib.Dec.{eqb}
 use lib.ListN.{length}
 use lib.Seq.{slice, sets}
 use Rattle.core.specs.Choice.{pick}
 use Rattle.core.specs.Utf8.{decode}
+use Rattle.core.specs.declared.run.Run.{Run}
+use Rattle.core.specs.declared.run.Run.the-variants.{Next, Cut}
+use Rattle.bflan.specs.declared.fault.Fault.the-variants.{PastEnd}
 use Rattle.bflan.specs.declared.tally.Tally.{Tally}
 use Rattle.bflan.specs.declared.tally.Walk.{Walk}
 use Rattle.bflan.specs.declared.tally.Walk.the-variants.{On, No}
 use Rattle.bflan.specs.Reader.{Res, ok, stop, Item, word, text}
+
+-- numbers as items: a word each
+abbrev pub asItems : Res (List ℕ) → Res (List Item)
+asItems (ok vs p) = ok (map word vs) p
+asItems (stop f) = stop f
 
 -- ---- the words and the text bytes of items (document 01, 'Flat record')
 
@@ -52,6 +60,11 @@ unfoldable pub tallied : List ℕ → Tally → List Item → Tally
 tallied s t [] = t
 tallied s t (word v ∷ is) = tallied s (moved t 1) is
 tallied s t (text a n ∷ is) = tallied s (named t a n (length (shownAt s a n))) is
+
+-- a walk after a run of n words
+unfoldable pub afterRun : Run → Tally → ℕ → Walk
+afterRun (Next next) t n = On (moved t n) next
+afterRun (Cut at k) t n = No (PastEnd at k)
 
 -- ---- a walk over two tables: its answer and, where it goes on, the tables then
 
