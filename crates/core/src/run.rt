@@ -1,6 +1,7 @@
 // Runs of numbers: tested once, then read in a plain loop into a slice of words. What would stand past the end of that slice is dropped.
 ghost use mathlib.Core.Path.{_≡_};
-ghost use lib.ListN.{set};
+ghost use Prim.Native.Nat.{_-_, _/_};
+ghost use lib.ListN.{length, set};
 ghost use Rattle.core.specs.Run.{numbersAt, numbersOf, pairsAt, pairsOf, cutPair, storedRun};
 use crate::fill::ahead;
 use crate::fill::room;
@@ -24,11 +25,29 @@ pub fn put_word(out: &mut [u32], at: usize, v: u32)
     }
 }
 
+// How many numbers of four bytes from `at` on are whole.
+fn whole_numbers(s: &[u8], at: usize) -> usize
+    ensures { λ r. ⌜ r ≡ (length (now (s .entry)) - at) / 4 ⌝ }
+{
+    ahead(at, s.len()) / 4
+}
+
+// The answer of a run of `n` numbers of four bytes, which are not read.
+pub fn numbers_end(s: &[u8], at: usize, n: usize) -> Run
+    ensures { λ r. ⌜ r ≡ numbersOf n (now (s .entry)) at ⌝ }
+{
+    let whole = whole_numbers(s, at);
+    if whole < n {
+        return Run::Cut(at + 4 * whole, 4);
+    }
+    Run::Next(at + 4 * n)
+}
+
 // `n` numbers of four bytes from `at` on, stored from `o` on.
 pub fn read_numbers(s: &[u8], at: usize, n: usize, out: &mut [u32], o: usize) -> Run
     ensures { λ r. ⌜ (r ≡ numbersOf n (now (s .entry)) at) × (now (out .exit) ≡ storedRun r (now (out .entry)) o (numbersAt n (now (s .entry)) at)) ⌝ }
 {
-    let whole = ahead(at, s.len()) / 4;
+    let whole = whole_numbers(s, at);
     if whole < n {
         return Run::Cut(at + 4 * whole, 4);
     }

@@ -1,18 +1,23 @@
-use Rattle.core.specs.declared.run.Run.the-variants.{Cut}
 -- `run::read_numbers` meets its contract. The loop's invariant: what is still to be stored, stored, makes the list that all of it makes.
 -- Assumes nothing.
-use Prim.Native.Nat.{ℕ, _+_, _-_, _*_, _/_, _≤_, _<_}
+use Prim.Native.Nat.{ℕ, _+_, _-_, _*_, _≤_, _<_}
 use mathlib.Core.Path.{_≡_, sym, ap, _∙_}
 use native.Mathlib.Omega.{arith}
 use denote.Ref.{now}
 use lib.ListN.{length, drop, set, getD, length-set}
 use lib.Seq.{sets}
+use Rattle.core.specs.declared.run.Run.the-variants.{Cut}
 use Rattle.core.specs.Run.{numbersAt}
 use Rattle.core.proofs.Filling.{fill-start, fill-turn, fill-end}
 use Rattle.core.proofs.Runs.{length-numbers, numbers-at, numbers-whole, numbers-cut, stored-next, stored-cut}
 use borrow.Author.Needs.{needs}
 use Rattle.core.proofs.run.read_numbers.Statement.{statement}
 use Rattle.core.proofs.run.read_numbers.Tie as tie
+use Rattle.core.proofs.run.read_numbers.Reads as reads
+use Rattle.core.proofs.run.read_numbers.Lts as lts
+use Rattle.core.proofs.fill.room.Reads as room-reads
+use Rattle.core.proofs.number.four.Reads as four-reads
+use Rattle.core.proofs.run.whole_numbers.Reads as whole-numbers-reads
 
 abbrev Inv-loop : tie.InvT-loop
 Inv-loop s at n out₀ o whole m k₀ out k = (m ≤ n) × (length out ≡ length out₀) × (sets out (o + k) (drop k (numbersAt n s at)) ≡ sets out₀ o (numbersAt n s at))
@@ -20,19 +25,18 @@ Inv-loop s at n out₀ o whole m k₀ out k = (m ≤ n) × (length out ≡ lengt
 abbrev μ-loop : tie.MeasureT-loop
 μ-loop s at n out₀ o whole m k₀ out k = m - k
 
-ahead-requires : tie.Need-ahead-requires Inv-loop μ-loop
-ahead-requires c κs = search needs
+whole-numbers-requires : tie.Need-whole-numbers-requires Inv-loop μ-loop
+whole-numbers-requires c κs = search needs
 
-mul-t12 : tie.Need-mul-t12 Inv-loop μ-loop
-mul-t12 c = search needs
+mul-t10 : tie.Need-mul-t10 Inv-loop μ-loop
+mul-t10 c = search needs
 
-add-t13 : tie.Need-add-t13 Inv-loop μ-loop
-add-t13 c = search needs
+add-t11 : tie.Need-add-t11 Inv-loop μ-loop
+add-t11 c = search needs
 
 returns : tie.Need-returns Inv-loop μ-loop
 returns c =
-    let e = c .before .ahead .ensures in
-    (ap (λ (x : ℕ). Cut (c .before .before .before .before .args .at + 4 * (x / 4)) 4) e ∙ sym (numbers-cut (c .before .before .before .before .args .n) (now (c .before .before .before .before .args .s)) (c .before .before .before .before .args .at) (omega arith)), sym (stored-cut _ _ _ _ _))
+    (ap (λ (x : ℕ). Cut (c .before .before .before .before .args .at + 4 * x) 4) (c .before .whole-numbers .ensures) ∙ sym (numbers-cut (c .before .before .before .before .args .n) (now (c .before .before .before .before .args .s)) (c .before .before .before .before .args .at) (omega arith)), sym (stored-cut _ _ _ _ _))
 
 room-requires : tie.Need-room-requires Inv-loop μ-loop
 room-requires c κs = search needs
@@ -56,13 +60,13 @@ mul-out : tie.Need-mul-out Inv-loop μ-loop
 mul-out c = search needs
 
 slice-write-out : tie.Need-slice-write-out Inv-loop μ-loop
-slice-write-out c = search needs
+slice-write-out c = omega arith
 
 add-k : tie.Need-add-k Inv-loop μ-loop
 add-k c = search needs
 
 loop-less : tie.Need-loop-less Inv-loop μ-loop
-loop-less c = search needs
+loop-less c = omega arith
 
 loop-again : tie.Need-loop-again Inv-loop μ-loop
 loop-again c =
@@ -71,14 +75,14 @@ loop-again c =
     let e : c .four .result ≡ getD v (c .before .before .loop .k) 0 = c .four .ensures ∙ sym (numbers-at _ _ _ _ (omega arith)) in
     (c .before .before .loop .inv .0, simp length-set (c .before .before .loop .inv .1), ap (λ (x : ℕ). sets (set (c .before .before .loop .out) (c .before .before .before .before .before .before .before .before .args .o + c .before .before .loop .k) x) (c .before .before .before .before .before .before .before .before .args .o + (c .before .before .loop .k + 1)) (drop (c .before .before .loop .k + 1) v)) e ∙ fill-turn _ _ _ v h ∙ c .before .before .loop .inv .2)
 
-mul-t10 : tie.Need-mul-t10 Inv-loop μ-loop
-mul-t10 c = search needs
+mul-t12 : tie.Need-mul-t12 Inv-loop μ-loop
+mul-t12 c = search needs
 
-add-t9 : tie.Need-add-t9 Inv-loop μ-loop
-add-t9 c = search needs
+add-t20 : tie.Need-add-t20 Inv-loop μ-loop
+add-t20 c = search needs
 
 same-length : tie.Need-same-length Inv-loop μ-loop
-same-length c = search needs
+same-length c = c .before .loop .inv .1
 
 returns-2 : tie.Need-returns-2 Inv-loop μ-loop
 returns-2 c =
@@ -92,9 +96,9 @@ read-numbers-spec =
     (tie.spec
     Inv-loop
     μ-loop
-    ahead-requires
-    mul-t12
-    add-t13
+    whole-numbers-requires
+    mul-t10
+    add-t11
     returns
     room-requires
     loop-holds
@@ -107,7 +111,7 @@ read-numbers-spec =
     add-k
     loop-less
     loop-again
-    mul-t10
-    add-t9
+    mul-t12
+    add-t20
     same-length
     returns-2)
