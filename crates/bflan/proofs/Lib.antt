@@ -1,5 +1,7 @@
 pub mod Codes
+pub mod ContentParts
 pub mod Emits
 pub mod Exercises
+pub mod InfoParts
 pub mod KeyRuns
 pub mod Walks

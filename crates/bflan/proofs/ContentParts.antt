@@ -1,0 +1,140 @@
+-- A content by its thirty-two bytes: where it stops if they are not all there, and what follows if they are.
+-- Assumes nothing.
+use Prim.Native.Nat.{ℕ, min, _+_, _-_, _<_, _≤_}
+use mathlib.Core.Path.{_≡_, refl, ap, sym, _∙_}
+use mathlib.Core.List.{List, [], _∷_, _++_}
+use native.Mathlib.Omega.{arith}
+use borrow.Author.Tests.{eq-eqb, ne-eqb, lt-ltb, le-ltb}
+use lib.Dec.{eqb, ltb}
+use lib.ListN.{length, take, drop, length-take, length-drop}
+use Rattle.core.specs.Number.{get}
+use Rattle.core.specs.Seek.{seekOf}
+use Rattle.core.specs.Text.{beforeZero, fixedOf}
+use Rattle.core.specs.Run.{numbersAt, numbersOf}
+use Rattle.core.specs.declared.run.Run.the-variants.{Next, Cut}
+use Rattle.core.specs.declared.seek.Sought.the-variants.{At, Past as SoughtPast}
+use Rattle.core.specs.declared.text.TextAt.the-variants.{Text, Past as TextPast}
+use Rattle.core.proofs.Seeks.{seek-there, seek-over}
+use Rattle.bflan.specs.declared.fault.Fault.the-variants.{PastEnd}
+use Rattle.bflan.specs.Reader.{Res, ok, stop, P, andThen, _>>=_, ret, given, here, Item, word, text, num, seekTo, fixedText, numbers, visit}
+use Rattle.bflan.specs.Reading.{info, typeOf, content}
+use Rattle.bflan.proofs.Emits.{sought-on, sought-past}
+use Rattle.bflan.proofs.KeyRuns.{num-there, num-short, numbers-run}
+use Rattle.bflan.proofs.Walks.{before, put-before}
+
+-- ---- the name
+
+-- its length in the section
+abbrev pub nameSize : List ℕ → ℕ → ℕ
+nameSize s base = beforeZero (take 28 (drop base s))
+
+field-size : (s : List ℕ) (base : ℕ) → base ≤ length s → length (take 28 (drop base s)) ≡ min 28 (length s - base)
+field-size s base h = rw (length-take, length-drop)
+
+pub name-there : (s : List ℕ) (base : ℕ) → base < length s → fixedText 28 s base ≡ ok (text base (nameSize s base)) (base + min 28 (length s - base))
+unfolding fixedText fixedOf
+name-there s base h = rw (lt-ltb base (length s) h) (ap (λ (n : ℕ). ok (text base (nameSize s base)) (base + n)) (field-size s base (omega arith)))
+
+pub name-none : (s : List ℕ) (base : ℕ) → length s ≤ base → fixedText 28 s base ≡ stop (PastEnd base 28)
+unfolding fixedText fixedOf
+name-none s base h = rw (le-ltb base (length s) h)
+
+module _ (base : ℕ) (s : List ℕ) (i : ℕ) where
+  seek-base : base ≤ length s → seekTo base s i ≡ ok base base
+  seek-base h = sought-on s base i base (seek-there s base h)
+
+  whole-name : base + 28 ≤ length s → fixedText 28 s base ≡ ok (text base (nameSize s base)) (base + 28)
+  whole-name h = let e : base + min 28 (length s - base) ≡ base + 28 = omega arith in name-there s base (omega arith) ∙ ap (λ (n : ℕ). ok (text base (nameSize s base)) n) e
+
+  -- ---- short of the thirty-two bytes
+
+  pub content-short0 : length s < base → content base s i ≡ stop (PastEnd (length s) (base - length s))
+  unfolding content
+  content-short0 h = rw (sought-past s base i _ _ (seek-over s base h))
+
+  pub content-none : length s ≡ base → content base s i ≡ stop (PastEnd base 28)
+  unfolding content
+  content-none h = let k : base ≤ length s = omega arith in let l : length s ≤ base = omega arith in rw (seek-base k, name-none s base l)
+
+  pub content-short29 : base < length s → length s < base + 29 → content base s i ≡ stop (PastEnd (length s) 1)
+  unfolding content
+  content-short29 h k =
+      let b : base ≤ length s = omega arith in
+      let e : base + min 28 (length s - base) ≡ length s = omega arith in
+      let l : length s < length s + 1 = omega arith in
+      rw (seek-base b, name-there s base h, e, num-short 1 s (length s) l)
+
+  pub content-short30 : base + 29 ≤ length s → length s < base + 30 → content base s i ≡ stop (PastEnd (base + 29) 1)
+  unfolding content
+  content-short30 h k =
+      let b : base ≤ length s = omega arith in
+      let w : base + 28 ≤ length s = omega arith in
+      let a : base + 28 + 1 ≤ length s = omega arith in
+      let e : base + 28 + 1 ≡ base + 29 = omega arith in
+      let l : length s < base + 29 + 1 = omega arith in
+      rw (seek-base b, whole-name w, num-there 1 s (base + 28) a, e, num-short 1 s (base + 29) l)
+
+  pub content-short32 : base + 30 ≤ length s → length s < base + 32 → content base s i ≡ stop (PastEnd (base + 30) 2)
+  unfolding content
+  content-short32 h k =
+      let b : base ≤ length s = omega arith in
+      let w : base + 28 ≤ length s = omega arith in
+      let a : base + 28 + 1 ≤ length s = omega arith in
+      let e : base + 28 + 1 ≡ base + 29 = omega arith in
+      let a2 : base + 29 + 1 ≤ length s = omega arith in
+      let e2 : base + 29 + 1 ≡ base + 30 = omega arith in
+      let l : length s < base + 30 + 2 = omega arith in
+      rw (seek-base b, whole-name w, num-there 1 s (base + 28) a, e, num-there 1 s (base + 29) a2, e2, num-short 2 s (base + 30) l)
+
+  -- ---- behind them
+
+  -- the info table at q, and what it leads to
+  abbrev pub contentTable : ℕ → ℕ → ℕ → Res (List Item)
+  contentTable n type q =
+      _>>=_ (numbers n) (λ offsets. _>>=_ (visit base info offsets) (λ is. ret (text base (nameSize s base) ∷ word (typeOf type) ∷ word n ∷ is))) s q
+
+  abbrev pub contentRest : ℕ → ℕ → Res (List Item)
+  contentRest n type =
+      _>>=_ (given (eqb type 2) (_>>=_ (num 4) (λ offset. seekTo (base + offset))) here)
+      (λ at. _>>=_ (numbers n) (λ offsets. _>>=_ (visit base info offsets) (λ is. ret (text base (nameSize s base) ∷ word (typeOf type) ∷ word n ∷ is))))
+      s (base + 32)
+
+  pub content-there : base + 32 ≤ length s → content base s i ≡ contentRest (get 1 s (base + 28)) (get 1 s (base + 29))
+  unfolding content
+  content-there h =
+      let b : base ≤ length s = omega arith in
+      let w : base + 28 ≤ length s = omega arith in
+      let a : base + 28 + 1 ≤ length s = omega arith in
+      let e : base + 28 + 1 ≡ base + 29 = omega arith in
+      let a2 : base + 29 + 1 ≤ length s = omega arith in
+      let e2 : base + 29 + 1 ≡ base + 30 = omega arith in
+      let a3 : base + 30 + 2 ≤ length s = omega arith in
+      let e3 : base + 30 + 2 ≡ base + 32 = omega arith in
+      rw (seek-base b, whole-name w, num-there 1 s (base + 28) a, e, num-there 1 s (base + 29) a2, e2, num-there 2 s (base + 30) a3, e3)
+
+  pub rest-plain : (n type : ℕ) → (type ≡ 2 → ⊥) → contentRest n type ≡ contentTable n type (base + 32)
+  rest-plain n type e = rw (ne-eqb type 2 e)
+
+  pub rest-user : (n type : ℕ) → type ≡ 2 → base + 36 ≤ length s → (q : ℕ) → seekOf s (base + get 4 s (base + 32)) ≡ At q → contentRest n type ≡ contentTable n type q
+  rest-user n type e h q k =
+      let a : base + 32 + 4 ≤ length s = omega arith in
+      rw (eq-eqb type 2 e, num-there 4 s (base + 32) a, sought-on s (base + get 4 s (base + 32)) (base + 32 + 4) q k)
+
+  pub rest-user-past : (n type : ℕ) → type ≡ 2 → base + 36 ≤ length s → (o k : ℕ) → seekOf s (base + get 4 s (base + 32)) ≡ SoughtPast o k → contentRest n type ≡ stop (PastEnd o k)
+  rest-user-past n type e h o k d =
+      let a : base + 32 + 4 ≤ length s = omega arith in
+      rw (eq-eqb type 2 e, num-there 4 s (base + 32) a, sought-past s (base + get 4 s (base + 32)) (base + 32 + 4) o k d)
+
+  pub rest-user-short : (n type : ℕ) → type ≡ 2 → length s < base + 36 → contentRest n type ≡ stop (PastEnd (base + 32) 4)
+  rest-user-short n type e h =
+      let a : length s < base + 32 + 4 = omega arith in
+      rw (eq-eqb type 2 e, num-short 4 s (base + 32) a)
+
+  pub table-on : (n type q p : ℕ) → numbersOf n s q ≡ Next p
+      → contentTable n type q ≡ before (text base (nameSize s base) ∷ word (typeOf type) ∷ word n ∷ []) (visit base info (numbersAt n s q) s p)
+  table-on n type q p t =
+      let r : numbers n s q ≡ ok (numbersAt n s q) p = numbers-run n s q ∙ rw t in
+      rw r (put-before (text base (nameSize s base) ∷ word (typeOf type) ∷ word n ∷ []) (visit base info (numbersAt n s q) s p) s)
+
+  pub table-cut : (n type q o k : ℕ) → numbersOf n s q ≡ Cut o k → contentTable n type q ≡ stop (PastEnd o k)
+  table-cut n type q o k t = let r : numbers n s q ≡ stop (PastEnd o k) = numbers-run n s q ∙ rw t in rw r

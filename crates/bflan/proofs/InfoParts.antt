@@ -1,0 +1,85 @@
+-- An info by its eight bytes: where it stops if they are not all there, and what follows if they are.
+-- Assumes nothing.
+use Prim.Native.Nat.{ℕ, _+_, _-_, _<_, _≤_}
+use mathlib.Core.Path.{_≡_, refl, ap, sym, _∙_}
+use mathlib.Core.Bool.{Bool, true, false}
+use mathlib.Core.List.{List, [], _∷_, _++_}
+use native.Mathlib.Nat.{add-assoc}
+use native.Mathlib.Omega.{arith}
+use borrow.Author.Tests.{eq-eqb, ne-eqb}
+use lib.Dec.{eqb}
+use lib.ListN.{length}
+use Rattle.core.specs.Number.{get}
+use Rattle.core.specs.Run.{numbersAt}
+use Rattle.core.specs.declared.run.Run.the-variants.{Next, Cut}
+use Rattle.core.specs.Run.{numbersOf}
+use Rattle.core.proofs.Seeks.{seek-there, seek-over}
+use Rattle.bflan.specs.declared.fault.Fault.{Fault}
+use Rattle.bflan.specs.declared.fault.Fault.the-variants.{PastEnd}
+use Rattle.bflan.specs.Letters.{fleu, lettersOf}
+use Rattle.bflan.specs.Reader.{Res, ok, stop, P, andThen, _>>=_, ret, given, Item, word, num, seekTo, numbers, many, visit}
+use Rattle.bflan.specs.Reading.{target, datum, info}
+use Rattle.bflan.proofs.Emits.{sought-on, sought-past}
+use Rattle.bflan.proofs.KeyRuns.{num-there, num-short, numbers-run}
+use Rattle.bflan.proofs.Walks.{before, put-before}
+
+module _ (base : ℕ) (s : List ℕ) (i : ℕ) where
+  seek-base : base ≤ length s → seekTo base s i ≡ ok base base
+  seek-base h = sought-on s base i base (seek-there s base h)
+
+  pub info-short0 : length s < base → info base s i ≡ stop (PastEnd (length s) (base - length s))
+  unfolding info
+  info-short0 h = rw (sought-past s base i _ _ (seek-over s base h))
+
+  pub info-short4 : base ≤ length s → length s < base + 4 → info base s i ≡ stop (PastEnd base 4)
+  unfolding info
+  info-short4 h k = rw (seek-base h, num-short 4 s base k)
+
+  pub info-short5 : base + 4 ≤ length s → length s < base + 5 → info base s i ≡ stop (PastEnd (base + 4) 1)
+  unfolding info
+  info-short5 h k = rw (seek-base (omega arith), num-there 4 s base h, num-short 1 s (base + 4) (omega arith))
+
+  pub info-short6 : base + 5 ≤ length s → length s < base + 6 → info base s i ≡ stop (PastEnd (base + 5) 1)
+  unfolding info
+  info-short6 h k =
+      let e : base + 4 + 1 ≡ base + 5 = omega arith in
+      rw (seek-base (omega arith), num-there 4 s base (omega arith), num-there 1 s (base + 4) (omega arith), e, num-short 1 s (base + 5) (omega arith))
+
+  pub info-short8 : base + 6 ≤ length s → length s < base + 8 → info base s i ≡ stop (PastEnd (base + 6) 2)
+  unfolding info
+  info-short8 h k =
+      let e : base + 4 + 1 ≡ base + 5 = omega arith in
+      let d : base + 5 + 1 ≡ base + 6 = omega arith in
+      rw (seek-base (omega arith), num-there 4 s base (omega arith), num-there 1 s (base + 4) (omega arith), e, num-there 1 s (base + 5) (omega arith), d, num-short 2 s (base + 6) (omega arith))
+
+  -- what follows the head, by its letters and its count
+  abbrev pub infoRest : ℕ → ℕ → Res (List Item)
+  infoRest letters n =
+      given (eqb letters fleu)
+      (_>>=_ (many n datum) (λ ds. ret (word fleu ∷ word n ∷ ds)))
+      (_>>=_ (numbers n) (λ offsets. _>>=_ (visit base (target letters) offsets) (λ ts. ret (word (lettersOf letters) ∷ word n ∷ ts))))
+      s (base + 8)
+
+  pub info-there : base + 8 ≤ length s → info base s i ≡ infoRest (get 4 s base) (get 1 s (base + 4))
+  unfolding info
+  info-there h =
+      let e : base + 4 + 1 ≡ base + 5 = omega arith in
+      let d : base + 5 + 1 ≡ base + 6 = omega arith in
+      let g : base + 6 + 2 ≡ base + 8 = omega arith in
+      rw (seek-base (omega arith), num-there 4 s base (omega arith), num-there 1 s (base + 4) (omega arith), e, num-there 1 s (base + 5) (omega arith), d, num-there 2 s (base + 6) (omega arith), g)
+
+  -- an extended info
+  pub rest-extended : (letters n : ℕ) → letters ≡ fleu → infoRest letters n ≡ before (word fleu ∷ word n ∷ []) (many n datum s (base + 8))
+  rest-extended letters n e = rw (eq-eqb letters fleu e) (put-before (word fleu ∷ word n ∷ []) (many n datum s (base + 8)) s)
+
+  -- a standard info whose offset table is whole, or is not
+  pub rest-standard : (letters n q : ℕ) → (letters ≡ fleu → ⊥) → numbersOf n s (base + 8) ≡ Next q
+      → infoRest letters n ≡ before (word (lettersOf letters) ∷ word n ∷ []) (visit base (target letters) (numbersAt n s (base + 8)) s q)
+  rest-standard letters n q e t =
+      let r : numbers n s (base + 8) ≡ ok (numbersAt n s (base + 8)) q = numbers-run n s (base + 8) ∙ rw t in
+      rw (ne-eqb letters fleu e, r) (put-before (word (lettersOf letters) ∷ word n ∷ []) (visit base (target letters) (numbersAt n s (base + 8)) s q) s)
+
+  pub rest-cut : (letters n o k : ℕ) → (letters ≡ fleu → ⊥) → numbersOf n s (base + 8) ≡ Cut o k → infoRest letters n ≡ stop (PastEnd o k)
+  rest-cut letters n o k e t =
+      let r : numbers n s (base + 8) ≡ stop (PastEnd o k) = numbers-run n s (base + 8) ∙ rw t in
+      rw (ne-eqb letters fleu e, r)
