@@ -4,4 +4,5 @@ pub mod Emits
 pub mod Exercises
 pub mod InfoParts
 pub mod KeyRuns
+pub mod SectionParts
 pub mod Walks

@@ -116,7 +116,14 @@ pai1 = 0x31696170
 unfoldable pub flagOf : ℕ → ℕ
 flagOf b = pick (eqb b 0) 0 1
 
--- behind the section's first eight bytes; offsets count from the section's start, those of the textures from 20
+-- the contents, by the offsets of the table at `table`, which count from the section's start
+unfoldable pub contents : ℕ → ℕ → P (List Item)
+contents table n = do
+  at ← seekTo table
+  offsets ← numbers n
+  visit 0 content offsets
+
+-- behind the section's first eight bytes; the textures' offsets count from their table, which stands at 20
 unfoldable pub body : ℕ → P (List Item)
 body size = do
   frames ← num 2
@@ -126,11 +133,9 @@ body size = do
   nc ← num 2
   table ← num 4
   start ← here
-  toffsets ← numbers nt
-  ts ← visit start texture toffsets
-  at ← seekTo table
-  coffsets ← numbers nc
-  cs ← visit 0 content coffsets
+  offsets ← numbers nt
+  ts ← visit start texture offsets
+  cs ← contents table nc
   end ← seekTo size
   ret (word frames ∷ word (flagOf looping) ∷ word nt ∷ word nc ∷ (ts ++ cs))
 
