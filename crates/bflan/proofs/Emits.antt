@@ -20,9 +20,11 @@ use Rattle.core.specs.declared.number.Read.the-variants.{Value, Past as ReadPas
 use Rattle.core.specs.declared.seek.Sought.the-variants.{At, Past as SoughtPast}
 use Rattle.core.specs.declared.text.TextAt.the-variants.{Text, Past as TextPast, Unended}
 use Rattle.bflan.specs.declared.fault.Fault.the-variants.{PastEnd, NoZero}
-use Rattle.bflan.specs.Reader.{ok, stop, text, num, seekTo, endedText, oneEnded}
+use Rattle.bflan.specs.Reader.{Res, ok, stop, Item, word, text, num, seekTo, endedText, oneEnded}
 use Rattle.bflan.specs.Reading.{texture}
-use Rattle.bflan.specs.Walk.{shownAt, wordsOf, textsOf, named, tallied, run, told}
+use Rattle.bflan.proofs.KeyRuns.{moved-more}
+use Rattle.bflan.proofs.Walks.{before, run-before}
+use Rattle.bflan.specs.Walk.{shownAt, wordsOf, textsOf, moved, named, tallied, run, told}
 
 -- the decoded length of a part of a section
 pub shown-size : (s : List ℕ) (start len size : ℕ) (part : List ℕ) → start + len ≤ length s → length s ≤ 16777216 → part ≡ slice start (start + len) s → size ≡ decodedSize part
@@ -94,3 +96,11 @@ module _ (s : List ℕ) (base i : ℕ) where
   pub texture-past : (offset requested : ℕ) → seekOf s base ≡ SoughtPast offset requested → texture base s i ≡ stop (PastEnd offset requested)
   unfolding texture
   texture-past offset requested e = rw (sought-past s base i offset requested e)
+
+-- ---- two words in front of what follows
+
+pub run-put2 : (s : List ℕ) (t : Tally) (w x : List ℕ) (a b : ℕ) (r : Res (List Item)) (u : Tally) (v : List ℕ) → length w ≤ 18446744073709551615 → length x ≤ 18446744073709551615
+    → u ≡ moved t 2 → v ≡ sets w (t .words) (a ∷ b ∷ []) → run s u v x r ≡ run s t w x (before (word a ∷ word b ∷ []) r)
+unfolding tallied wordsOf textsOf
+run-put2 s t w x a b r u v hw hx eu ev =
+    rw (eu, ev) (ap (λ (k : Tally). run s k (sets w (t .words) (a ∷ b ∷ [])) x r) (sym (moved-more t 1 1)) ∙ sym (run-before s t w x (word a ∷ word b ∷ []) r hw hx))

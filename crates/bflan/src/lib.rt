@@ -1,8 +1,10 @@
 // The pai1 section: read into a flat record.
-pub mod emit;
+mod content;
+mod emit;
 pub mod fault;
-pub mod keys;
+mod info;
+mod keys;
 pub mod letters;
-pub mod offset;
+mod offset;
 pub mod tally;
-pub mod texture;
+mod texture;

@@ -1,4 +1,4 @@
--- `offset::offset_at` meets its contract.
+-- `offset::word_at` meets its contract.
 -- Assumes nothing.
 use Prim.Native.Nat.{ℕ}
 use mathlib.Core.Path.{_≡_, sym, _∙_}
@@ -6,10 +6,10 @@ use native.Mathlib.Omega.{arith}
 use denote.Ref.{now}
 use Rattle.core.proofs.Numbers.{read-value, read-lt, read-there}
 use borrow.Author.Needs.{needs}
-use Rattle.bflan.proofs.offset.offset_at.Statement.{statement}
-use Rattle.bflan.proofs.offset.offset_at.Tie as tie
-use Rattle.bflan.proofs.offset.offset_at.Reads as reads
-use Rattle.bflan.proofs.offset.offset_at.Lts as lts
+use Rattle.bflan.proofs.offset.word_at.Statement.{statement}
+use Rattle.bflan.proofs.offset.word_at.Tie as tie
+use Rattle.bflan.proofs.offset.word_at.Reads as reads
+use Rattle.bflan.proofs.offset.word_at.Lts as lts
 use Rattle.core.proofs.number.read_u32.Reads as read-u32-reads
 
 read-u32-requires : tie.Need-read-u32-requires
@@ -17,9 +17,6 @@ read-u32-requires c κs = search needs
 
 enum-known-v : tie.Need-enum-known-v
 enum-known-v c = search needs
-
-cast-result : tie.Need-cast-result
-cast-result c = search needs
 
 enum-told : tie.Need-enum-told
 enum-told c = search needs
@@ -29,7 +26,7 @@ returns c =
     let e = sym (c .before .before .before .read-u32 .ensures) ∙ c .before .v .given .1 in
     let g = read-value 4 _ _ _ _ e in
     let l = read-lt 4 _ _ _ _ (λ i. c .before .before .before .before .shared-slice-known .given i .fits) e in
-    (g .number, omega (arith, l))
+    g .number
 
 returns-2 : tie.Need-returns-2
 returns-2 c =
@@ -38,6 +35,5 @@ returns-2 c =
     let z : _≡_ {A = ℕ} 0 1 = cc in
     absurd (omega arith)
 
-pub offset-at-spec : {M : Type 1} → statement M
-offset-at-spec =
-    tie.close (tie.spec read-u32-requires enum-known-v cast-result enum-told returns returns-2)
+pub word-at-spec : {M : Type 1} → statement M
+word-at-spec = tie.close (tie.spec read-u32-requires enum-known-v enum-told returns returns-2)
