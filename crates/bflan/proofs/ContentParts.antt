@@ -15,9 +15,10 @@ use Rattle.core.specs.declared.run.Run.the-variants.{Next, Cut}
 use Rattle.core.specs.declared.seek.Sought.the-variants.{At, Past as SoughtPast}
 use Rattle.core.specs.declared.text.TextAt.the-variants.{Text, Past as TextPast}
 use Rattle.core.proofs.Seeks.{seek-there, seek-over}
+use Rattle.bflan.specs.declared.fault.Fault.{Fault}
 use Rattle.bflan.specs.declared.fault.Fault.the-variants.{PastEnd}
 use Rattle.bflan.specs.Reader.{Res, ok, stop, P, andThen, _>>=_, ret, given, here, Item, word, text, num, seekTo, fixedText, numbers, visit}
-use Rattle.bflan.specs.Reading.{info, typeOf, content}
+use Rattle.bflan.specs.Reading.{info, typeOf, infoTable, content}
 use Rattle.bflan.proofs.Emits.{sought-on, sought-past}
 use Rattle.bflan.proofs.KeyRuns.{num-there, num-short, numbers-run}
 use Rattle.bflan.proofs.Walks.{before, put-before}
@@ -95,7 +96,7 @@ module _ (base : ℕ) (s : List ℕ) (i : ℕ) where
 
   abbrev pub contentRest : ℕ → ℕ → Res (List Item)
   contentRest n type =
-      _>>=_ (given (eqb type 2) (_>>=_ (num 4) (λ offset. seekTo (base + offset))) here)
+      _>>=_ (infoTable base type)
       (λ at. _>>=_ (numbers n) (λ offsets. _>>=_ (visit base info offsets) (λ is. ret (text base (nameSize s base) ∷ word (typeOf type) ∷ word n ∷ is))))
       s (base + 32)
 
@@ -112,23 +113,11 @@ module _ (base : ℕ) (s : List ℕ) (i : ℕ) where
       let e3 : base + 30 + 2 ≡ base + 32 = omega arith in
       rw (seek-base b, whole-name w, num-there 1 s (base + 28) a, e, num-there 1 s (base + 29) a2, e2, num-there 2 s (base + 30) a3, e3)
 
-  pub rest-plain : (n type : ℕ) → (type ≡ 2 → ⊥) → contentRest n type ≡ contentTable n type (base + 32)
-  rest-plain n type e = rw (ne-eqb type 2 e)
+  pub rest-at : (n type q : ℕ) → infoTable base type s (base + 32) ≡ ok q q → contentRest n type ≡ contentTable n type q
+  rest-at n type q e = rw e
 
-  pub rest-user : (n type : ℕ) → type ≡ 2 → base + 36 ≤ length s → (q : ℕ) → seekOf s (base + get 4 s (base + 32)) ≡ At q → contentRest n type ≡ contentTable n type q
-  rest-user n type e h q k =
-      let a : base + 32 + 4 ≤ length s = omega arith in
-      rw (eq-eqb type 2 e, num-there 4 s (base + 32) a, sought-on s (base + get 4 s (base + 32)) (base + 32 + 4) q k)
-
-  pub rest-user-past : (n type : ℕ) → type ≡ 2 → base + 36 ≤ length s → (o k : ℕ) → seekOf s (base + get 4 s (base + 32)) ≡ SoughtPast o k → contentRest n type ≡ stop (PastEnd o k)
-  rest-user-past n type e h o k d =
-      let a : base + 32 + 4 ≤ length s = omega arith in
-      rw (eq-eqb type 2 e, num-there 4 s (base + 32) a, sought-past s (base + get 4 s (base + 32)) (base + 32 + 4) o k d)
-
-  pub rest-user-short : (n type : ℕ) → type ≡ 2 → length s < base + 36 → contentRest n type ≡ stop (PastEnd (base + 32) 4)
-  rest-user-short n type e h =
-      let a : length s < base + 32 + 4 = omega arith in
-      rw (eq-eqb type 2 e, num-short 4 s (base + 32) a)
+  pub rest-stop : (n type : ℕ) (f : Fault) → infoTable base type s (base + 32) ≡ stop f → contentRest n type ≡ stop f
+  rest-stop n type f e = rw e
 
   pub table-on : (n type q p : ℕ) → numbersOf n s q ≡ Next p
       → contentTable n type q ≡ before (text base (nameSize s base) ∷ word (typeOf type) ∷ word n ∷ []) (visit base info (numbersAt n s q) s p)
@@ -138,3 +127,22 @@ module _ (base : ℕ) (s : List ℕ) (i : ℕ) where
 
   pub table-cut : (n type q o k : ℕ) → numbersOf n s q ≡ Cut o k → contentTable n type q ≡ stop (PastEnd o k)
   table-cut n type q o k t = let r : numbers n s q ≡ stop (PastEnd o k) = numbers-run n s q ∙ rw t in rw r
+
+-- ---- where the info table stands
+
+module _ (base type : ℕ) (s : List ℕ) (p : ℕ) where
+  pub table-plain : (type ≡ 2 → ⊥) → infoTable base type s p ≡ ok p p
+  unfolding infoTable
+  table-plain e = rw (ne-eqb type 2 e)
+
+  pub table-user : type ≡ 2 → p + 4 ≤ length s → (q : ℕ) → seekOf s (base + get 4 s p) ≡ At q → infoTable base type s p ≡ ok q q
+  unfolding infoTable
+  table-user e h q k = rw (eq-eqb type 2 e, num-there 4 s p h, sought-on s (base + get 4 s p) (p + 4) q k)
+
+  pub table-past : type ≡ 2 → p + 4 ≤ length s → (o k : ℕ) → seekOf s (base + get 4 s p) ≡ SoughtPast o k → infoTable base type s p ≡ stop (PastEnd o k)
+  unfolding infoTable
+  table-past e h o k d = rw (eq-eqb type 2 e, num-there 4 s p h, sought-past s (base + get 4 s p) (p + 4) o k d)
+
+  pub table-short : type ≡ 2 → length s < p + 4 → infoTable base type s p ≡ stop (PastEnd p 4)
+  unfolding infoTable
+  table-short e h = rw (eq-eqb type 2 e, num-short 4 s p h)

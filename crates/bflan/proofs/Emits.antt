@@ -104,3 +104,14 @@ pub run-put2 : (s : List ℕ) (t : Tally) (w x : List ℕ) (a b : ℕ) (r : Res 
 unfolding tallied wordsOf textsOf
 run-put2 s t w x a b r u v hw hx eu ev =
     rw (eu, ev) (ap (λ (k : Tally). run s k (sets w (t .words) (a ∷ b ∷ [])) x r) (sym (moved-more t 1 1)) ∙ sym (run-before s t w x (word a ∷ word b ∷ []) r hw hx))
+
+-- ---- a text in front of what follows
+
+pub run-named : (s : List ℕ) (t : Tally) (w x : List ℕ) (a n : ℕ) (r : Res (List Item)) (u : Tally) (v y : List ℕ) → length w ≤ 18446744073709551615 → length x ≤ 18446744073709551615
+    → u ≡ named t a n (length (shownAt s a n)) → v ≡ set w (t .words) (length (shownAt s a n)) → y ≡ sets x (t .bytes) (shownAt s a n)
+    → run s u v y r ≡ run s t w x (before (text a n ∷ []) r)
+unfolding tallied wordsOf textsOf
+run-named s t w x a n r u v y hw hx eu ev ey =
+    rw (eu, ev, ey)
+    (ap (λ (l : List ℕ). run s (named t a n (length (shownAt s a n))) (set w (t .words) (length (shownAt s a n))) (sets x (t .bytes) l) r) (sym (append-nil (shownAt s a n)))
+    ∙ sym (run-before s t w x (text a n ∷ []) r hw hx))

@@ -9,7 +9,7 @@ use Rattle.core.specs.Text.{beforeZero, fixedOf, endedOf}
 use Rattle.bflan.specs.declared.fault.Fault.the-variants.{PastEnd}
 use Rattle.bflan.specs.Letters.{rows, fleu, kindOf, lettersOf, targetOf}
 use Rattle.bflan.specs.Reader.{Res, ok, stop, Item, word, text, num, seekTo, skip, fixedText, endedText, oneEnded, numbers, many, visit}
-use Rattle.bflan.specs.Reading.{curveOf, countOf, keys, target, datum, info, typeOf, content, texture, contents, flagOf, body, section}
+use Rattle.bflan.specs.Reading.{curveOf, countOf, keys, target, datum, info, typeOf, infoTable, content, texture, contents, flagOf, body, section}
 
 -- a section's bytes, and what reading them gives: the items of the record and the position at the end, or the fault
 pub record ReadExercise : Type 0 where
@@ -34,5 +34,5 @@ AllRead [] = Unit {0}
 AllRead (e ∷ es) = (section (e .bytes) 0 ≡ e .reads) × AllRead es
 
 pub all-read : AllRead readExercises
-unfolding val get readOf seekOf beforeZero fixedOf endedOf rows fleu kindOf lettersOf targetOf num seekTo skip fixedText endedText oneEnded numbers many visit curveOf countOf keys target datum info typeOf content texture contents flagOf body section
+unfolding val get readOf seekOf beforeZero fixedOf endedOf rows fleu kindOf lettersOf targetOf num seekTo skip fixedText endedText oneEnded numbers many visit curveOf countOf keys target datum info typeOf infoTable content texture contents flagOf body section
 all-read = (refl, (refl, (refl, (refl, (refl, (refl, (refl, (refl, (refl, tt)))))))))

@@ -86,7 +86,16 @@ info base = do
 unfoldable pub typeOf : ℕ → ℕ
 typeOf type = pick (leb type 4) type 0
 
--- a content that starts at base; a User content has its info table elsewhere, and its total size is not read
+-- where a content's info table stands: behind its head, but for a User content at an offset, with a total size behind it that is not read
+unfoldable pub infoTable : ℕ → ℕ → P ℕ
+infoTable base type =
+    given (eqb type 2)
+    (do
+      offset ← num 4
+      seekTo (base + offset))
+    here
+
+-- a content that starts at base
 unfoldable pub content : ℕ → P (List Item)
 content base = do
   at ← seekTo base
@@ -94,11 +103,7 @@ content base = do
   n ← num 1
   type ← num 1
   reserve ← num 2
-  at ← given (eqb type 2)
-      (do
-        offset ← num 4
-        seekTo (base + offset))
-      here
+  at ← infoTable base type
   offsets ← numbers n
   is ← visit base info offsets
   ret (name ∷ word (typeOf type) ∷ word n ∷ is)

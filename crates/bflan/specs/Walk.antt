@@ -9,6 +9,8 @@ use Rattle.core.specs.Utf8.{decode}
 use Rattle.core.specs.declared.run.Run.{Run}
 use Rattle.core.specs.declared.run.Run.the-variants.{Next, Cut}
 use Rattle.bflan.specs.declared.fault.Fault.the-variants.{PastEnd}
+use Rattle.bflan.specs.declared.content.Place.{Place}
+use Rattle.bflan.specs.declared.content.Place.the-variants.{There, Stop}
 use Rattle.bflan.specs.declared.tally.Tally.{Tally}
 use Rattle.bflan.specs.declared.tally.Walk.{Walk}
 use Rattle.bflan.specs.declared.tally.Walk.the-variants.{On, No}
@@ -76,3 +78,8 @@ run s t w x (stop f) = (No f, [], [])
 unfoldable pub told : Walk → List ℕ → List ℕ → Walk × List ℕ × List ℕ
 told (On t p) w x = (On t p, w, x)
 told (No f) w x = (No f, [], [])
+
+-- a place that was looked for
+abbrev pub asPlace : Place → Res ℕ
+asPlace (There p) = ok p p
+asPlace (Stop f) = stop f
