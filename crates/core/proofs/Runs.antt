@@ -5,7 +5,7 @@ use mathlib.Core.Path.{_≡_, refl, ap, sym, _∙_}
 use mathlib.Core.List.{List}
 use mathlib.Core.Bool.{Bool, true, false}
 use native.Mathlib.Omega.{arith}
-use borrow.Author.Tests.{le-leb, lt-leb}
+use borrow.Author.Tests.{le-leb, lt-leb, leb-true}
 use lib.Dec.{leb}
 use lib.ListN.{length, getD, set, drop, length-set}
 use lib.Seq.{sets}
@@ -101,3 +101,17 @@ pair-last l o k n x v e h r ex =
     rw ex
     (sym (fill-end (set l (o + 2 * k) (getD v (2 * k) 0)) o (2 * k + 1) v (omega (arith, m)))
     ∙ fill-turn l o (2 * k) v (omega arith))
+
+-- ---- what an answer says of a run of numbers
+
+pub numbers-next : (n : ℕ) (s : List ℕ) (at q : ℕ) → numbersOf n s at ≡ Next q → (n ≤ (length s - at) / 4) × (q ≡ at + 4 * n)
+unfolding numbersOf
+numbers-next n s at q e = go (leb n ((length s - at) / 4)) refl e
+  where
+    go : (t : Bool) → leb n ((length s - at) / 4) ≡ t → pick t (Next (at + 4 * n)) (Cut (at + 4 * ((length s - at) / 4)) 4) ≡ Next q → (n ≤ (length s - at) / 4) × (q ≡ at + 4 * n)
+    go true l d = (leb-true n ((length s - at) / 4) l, (cc))
+    go false l d = let z : _≡_ {A = ℕ} 0 1 = cc in absurd (omega arith)
+
+-- of a table that starts within the slice
+pub table-fits : (n : ℕ) (s : List ℕ) (at q : ℕ) → at ≤ length s → numbersOf n s at ≡ Next q → at + 4 * n ≤ length s
+table-fits n s at q h e = let r = numbers-next n s at q e in omega (arith, r .0)
