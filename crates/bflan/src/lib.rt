@@ -5,4 +5,5 @@ pub mod keys;
 pub mod letters;
 pub mod offset;
 pub mod tally;
+pub mod target;
 pub mod texture;

@@ -1,0 +1,182 @@
+-- A target, by its twelve bytes and its keys.
+-- Assumes nothing.
+use Prim.Native.Nat.{ℕ, _+_, _-_, _<_, _≤_}
+use mathlib.Core.Path.{_≡_, refl, ap, sym, _∙_}
+use mathlib.Core.Bool.{Bool, true, false}
+use mathlib.Core.List.{List, [], _∷_, _++_, map}
+use native.Mathlib.Omega.{arith}
+use borrow.Author.Tests.{leb-true, leb-false, le-leb, lt-leb}
+use lib.Dec.{leb}
+use lib.ListN.{length, getD}
+use lib.Seq.{sets, length-sets}
+use Rattle.core.specs.Number.{get}
+use Rattle.core.specs.Seek.{seekOf}
+use Rattle.core.specs.declared.seek.Sought.the-variants.{At, Past as SoughtPast}
+use Rattle.core.proofs.Numbers.{get-zero, get-suc}
+use Rattle.core.proofs.Seeks.{seek-there, seek-over}
+use Rattle.core.proofs.Stores.{sets-append}
+use Rattle.bflan.specs.declared.fault.Fault.the-variants.{PastEnd}
+use Rattle.bflan.specs.declared.tally.Tally.{Tally}
+use Rattle.bflan.specs.Letters.{targetOf}
+use Rattle.bflan.specs.Reader.{Res, ok, stop, andThen, ret, Item, word, seekTo}
+use Rattle.bflan.specs.Reading.{curveOf, countOf, keys, target}
+use Rattle.bflan.specs.Walk.{wordsOf, sat, moved, run}
+use Rattle.bflan.proofs.Emits.{sought-on, sought-past}
+use Rattle.bflan.proofs.KeyRuns.{num-there, num-short, words-more, texts-more, tallied-more, moved-fits}
+use Rattle.bflan.proofs.Walks.{before, before-before, put-before, sets-sat}
+
+-- ---- where the reading stops of a target whose twelve bytes are not all there
+
+module _ (letters base : ℕ) (s : List ℕ) (i : ℕ) where
+  seek-in : base ≤ length s → seekTo base s i ≡ ok base base
+  seek-in h = sought-on s base i base (seek-there s base h)
+
+  pub target-out : length s < base → target letters base s i ≡ stop (PastEnd (length s) (base - length s))
+  unfolding target
+  target-out h = rw (sought-past s base i _ _ (seek-over s base h))
+
+  -- in its four single bytes
+  short-1 : length s ≡ base → target letters base s i ≡ stop (PastEnd base 1)
+  unfolding target
+  short-1 h = rw (seek-in (omega arith), num-short 1 s base (omega arith))
+
+  short-2 : length s ≡ base + 1 → target letters base s i ≡ stop (PastEnd (base + 1) 1)
+  unfolding target
+  short-2 h = rw (seek-in (omega arith), num-there 1 s base (omega arith), num-short 1 s (base + 1) (omega arith))
+
+  short-3 : length s ≡ base + 1 + 1 → target letters base s i ≡ stop (PastEnd (base + 1 + 1) 1)
+  unfolding target
+  short-3 h = rw (seek-in (omega arith), num-there 1 s base (omega arith), num-there 1 s (base + 1) (omega arith), num-short 1 s (base + 1 + 1) (omega arith))
+
+  short-4 : length s ≡ base + 1 + 1 + 1 → target letters base s i ≡ stop (PastEnd (base + 1 + 1 + 1) 1)
+  unfolding target
+  short-4 h =
+      rw (seek-in (omega arith), num-there 1 s base (omega arith), num-there 1 s (base + 1) (omega arith), num-there 1 s (base + 1 + 1) (omega arith), num-short 1 s (base + 1 + 1 + 1) (omega arith))
+
+  at-size : (p : ℕ) → length s ≡ p → target letters base s i ≡ stop (PastEnd p 1) → target letters base s i ≡ stop (PastEnd (length s) 1)
+  at-size p h e = rw h e
+
+  pub target-bytes : base ≤ length s → length s < base + 4 → target letters base s i ≡ stop (PastEnd (length s) 1)
+  target-bytes h l = go (leb (base + 1) (length s)) refl (leb (base + 2) (length s)) refl (leb (base + 3) (length s)) refl
+    where
+      go : (a : Bool) → leb (base + 1) (length s) ≡ a → (b : Bool) → leb (base + 2) (length s) ≡ b → (d : Bool) → leb (base + 3) (length s) ≡ d
+          → target letters base s i ≡ stop (PastEnd (length s) 1)
+      go false ea b eb d ed =
+          let x = leb-false (base + 1) (length s) ea in
+          let q : length s ≡ base = omega arith in
+          at-size base q (short-1 q)
+      go true ea false eb d ed =
+          let x = leb-true (base + 1) (length s) ea in
+          let y = leb-false (base + 2) (length s) eb in
+          let q : length s ≡ base + 1 = omega arith in
+          at-size (base + 1) q (short-2 q)
+      go true ea true eb false ed =
+          let x = leb-true (base + 2) (length s) eb in
+          let y = leb-false (base + 3) (length s) ed in
+          let q : length s ≡ base + 1 + 1 = omega arith in
+          at-size (base + 1 + 1) q (short-3 q)
+      go true ea true eb true ed =
+          let x = leb-true (base + 3) (length s) ed in
+          let q : length s ≡ base + 1 + 1 + 1 = omega arith in
+          at-size (base + 1 + 1 + 1) q (short-4 q)
+
+  -- in its key count, in the two bytes behind it, and in its offset
+  pub target-count : base + 4 ≤ length s → length s < base + 6 → target letters base s i ≡ stop (PastEnd (base + 4) 2)
+  unfolding target
+  target-count h l =
+      let e : base + 1 + 1 + 1 + 1 ≡ base + 4 = omega arith in
+      rw (seek-in (omega arith), num-there 1 s base (omega arith), num-there 1 s (base + 1) (omega arith), num-there 1 s (base + 1 + 1) (omega arith), num-there 1 s (base + 1 + 1 + 1) (omega arith), e, num-short 2 s (base + 4) (omega arith))
+
+  pub target-reserve : base + 6 ≤ length s → length s < base + 8 → target letters base s i ≡ stop (PastEnd (base + 6) 2)
+  unfolding target
+  target-reserve h l =
+      let e : base + 1 + 1 + 1 + 1 ≡ base + 4 = omega arith in
+      let f : base + 4 + 2 ≡ base + 6 = omega arith in
+      rw (seek-in (omega arith), num-there 1 s base (omega arith), num-there 1 s (base + 1) (omega arith), num-there 1 s (base + 1 + 1) (omega arith), num-there 1 s (base + 1 + 1 + 1) (omega arith), e, num-there 2 s (base + 4) (omega arith), f, num-short 2 s (base + 6) (omega arith))
+
+  pub target-offset : base + 8 ≤ length s → length s < base + 12 → target letters base s i ≡ stop (PastEnd (base + 8) 4)
+  unfolding target
+  target-offset h l =
+      let e : base + 1 + 1 + 1 + 1 ≡ base + 4 = omega arith in
+      let f : base + 4 + 2 ≡ base + 6 = omega arith in
+      let g : base + 6 + 2 ≡ base + 8 = omega arith in
+      rw (seek-in (omega arith), num-there 1 s base (omega arith), num-there 1 s (base + 1) (omega arith), num-there 1 s (base + 1 + 1) (omega arith), num-there 1 s (base + 1 + 1 + 1) (omega arith), e, num-there 2 s (base + 4) (omega arith), f, num-there 2 s (base + 6) (omega arith), g, num-short 4 s (base + 8) (omega arith))
+
+  -- with all of them there it goes on with its keys, where its offset is in the section
+  pub target-on : (p : ℕ) → base + 12 ≤ length s → seekOf s (base + get 4 s (base + 8)) ≡ At p
+      → target letters base s i ≡ andThen (keys (get 1 s (base + 2)) (get 2 s (base + 4)) s p) (λ ks. ret (word (get 1 s base) ∷ word (targetOf letters (get 1 s (base + 1))) ∷ word (curveOf (get 1 s (base + 2))) ∷ word (countOf (get 1 s (base + 2)) (get 2 s (base + 4))) ∷ ks)) s
+  unfolding target
+  target-on p h k =
+      let d : base + 1 + 1 ≡ base + 2 = omega arith in
+      let e : base + 2 + 1 + 1 ≡ base + 4 = omega arith in
+      let f : base + 4 + 2 ≡ base + 6 = omega arith in
+      let g : base + 6 + 2 ≡ base + 8 = omega arith in
+      rw (seek-in (omega arith), num-there 1 s base (omega arith), num-there 1 s (base + 1) (omega arith), d, num-there 1 s (base + 2) (omega arith), num-there 1 s (base + 2 + 1) (omega arith), e, num-there 2 s (base + 4) (omega arith), f, num-there 2 s (base + 6) (omega arith), g, num-there 4 s (base + 8) (omega arith), sought-on s (base + get 4 s (base + 8)) (base + 8 + 4) p k)
+
+  pub target-past : (o k : ℕ) → base + 12 ≤ length s → seekOf s (base + get 4 s (base + 8)) ≡ SoughtPast o k → target letters base s i ≡ stop (PastEnd o k)
+  unfolding target
+  target-past o k h z =
+      let d : base + 1 + 1 ≡ base + 2 = omega arith in
+      let e : base + 2 + 1 + 1 ≡ base + 4 = omega arith in
+      let f : base + 4 + 2 ≡ base + 6 = omega arith in
+      let g : base + 6 + 2 ≡ base + 8 = omega arith in
+      rw (seek-in (omega arith), num-there 1 s base (omega arith), num-there 1 s (base + 1) (omega arith), d, num-there 1 s (base + 2) (omega arith), num-there 1 s (base + 2 + 1) (omega arith), e, num-there 2 s (base + 4) (omega arith), f, num-there 2 s (base + 6) (omega arith), g, num-there 4 s (base + 8) (omega arith), sought-past s (base + get 4 s (base + 8)) (base + 8 + 4) o k z)
+
+  -- the same with the fields as code has them
+  pub target-fields : (p : ℕ) {layer raw curve n : ℕ} → base + 12 ≤ length s → seekOf s (base + get 4 s (base + 8)) ≡ At p
+      → layer ≡ get 1 s base → raw ≡ get 1 s (base + 1) → curve ≡ get 1 s (base + 2) → n ≡ get 2 s (base + 4)
+      → andThen (keys curve n s p) (λ ks. ret (word layer ∷ word (targetOf letters raw) ∷ word (curveOf curve) ∷ word (countOf curve n) ∷ ks)) s ≡ target letters base s i
+  target-fields p h k el er ec en = rw (el, er, ec, en) (sym (target-on p h k))
+
+-- ---- its fields
+
+pub byte-is : (s : List ℕ) (at : ℕ) → getD s at 0 ≡ get 1 s at
+byte-is s at = omega (arith, get-suc 0 s at, get-zero s (at + 1))
+
+module _ (curve n : ℕ) where
+  pub curve-low : curve ≤ 2 → curveOf curve ≡ curve
+  unfolding curveOf
+  curve-low h = rw (le-leb curve 2 h)
+
+  pub count-low : curve ≤ 2 → countOf curve n ≡ n
+  unfolding countOf
+  count-low h = rw (le-leb curve 2 h)
+
+  pub curve-high : 2 < curve → curveOf curve ≡ 0
+  unfolding curveOf
+  curve-high h = rw (lt-leb curve 2 h)
+
+  pub count-high : 2 < curve → countOf curve n ≡ 0
+  unfolding countOf
+  count-high h = rw (lt-leb curve 2 h)
+
+-- ---- words in front of a reading, as a walk stores them
+
+moved-place : (t : Tally) (n : ℕ) → sat (t .words + n) ≡ sat (moved t n .words)
+unfolding moved
+moved-place t n = omega arith
+
+moved-bytes : (t : Tally) (n : ℕ) → moved t n .bytes ≡ t .bytes
+unfolding moved
+moved-bytes t n = refl
+
+pub run-words : (s : List ℕ) (t : Tally) (w x vs : List ℕ) (r : Res (List Item)) → length w ≤ 18446744073709551615 → t .words ≤ 18446744073709551615
+    → run s t w x (before (map word vs) r) ≡ run s (moved t (length vs)) (sets w (t .words) vs) x r
+unfolding run
+run-words s t w x vs (stop f) h k = refl
+run-words s t w x vs (ok js q) h k =
+    let hw : length (sets w (t .words) vs) ≤ 18446744073709551615 = rw (length-sets w (t .words) vs) h in
+    let ew : sets w (t .words) (wordsOf s (map word vs ++ js)) ≡ sets (sets w (t .words) vs) (moved t (length vs) .words) (wordsOf s js) =
+    rw (words-more s vs js, sets-append w (t .words) vs (wordsOf s js)) (sets-sat (sets w (t .words) vs) (t .words + length vs) (moved t (length vs) .words) (wordsOf s js) hw (moved-place t (length vs))) in
+    rw (tallied-more s t vs js k, ew, texts-more s vs js, moved-bytes t (length vs))
+
+-- four words, stored two by two, and what follows them
+pub run-target : (s : List ℕ) (t : Tally) (w x : List ℕ) (a b c d : ℕ) (r : Res (List Item)) {u v : Tally} {w₁ w₂ : List ℕ} → length w ≤ 18446744073709551615 → t .words ≤ 18446744073709551615
+    → u ≡ moved t 2 → w₁ ≡ sets w (t .words) (a ∷ b ∷ []) → v ≡ moved u 2 → w₂ ≡ sets w₁ (u .words) (c ∷ d ∷ [])
+    → run s v w₂ x r ≡ run s t w x (andThen r (λ ks. ret (word a ∷ word b ∷ word c ∷ word d ∷ ks)) s)
+run-target s t w x a b c d r h k eu e₁ ev e₂ =
+    let hw : length (sets w (t .words) (a ∷ b ∷ [])) ≤ 18446744073709551615 = rw (length-sets w (t .words) (a ∷ b ∷ [])) h in
+    let two = run-words s t w x (a ∷ b ∷ []) (before (map word (c ∷ d ∷ [])) r) h k in
+    let four = run-words s (moved t 2) (sets w (t .words) (a ∷ b ∷ [])) x (c ∷ d ∷ []) r hw (moved-fits t 2) in
+    let all = before-before (map word (a ∷ b ∷ [])) (map word (c ∷ d ∷ [])) r in
+    rw (ev, e₂, e₁, eu, put-before (word a ∷ word b ∷ word c ∷ word d ∷ []) r s) (sym four ∙ sym two ∙ ap (run s t w x) all)
