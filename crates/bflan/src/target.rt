@@ -1,14 +1,15 @@
 // Targets: twelve bytes, and keys at an offset that counts from the target's start.
 ghost use mathlib.Core.Path.{_≡_};
 ghost use mathlib.Core.List.{List, [], _∷_};
-ghost use Prim.Native.Nat.{ℕ, _+_, _<_, _≤_};
+ghost use Prim.Native.Nat.{ℕ, _+_, _*_, _<_, _≤_};
 ghost use lib.ListN.{length};
 ghost use lib.Seq.{sets};
 ghost use Rattle.core.specs.Number.{get};
+ghost use Rattle.core.specs.Run.{numbersAt};
 ghost use Rattle.core.specs.Seek.{seekOf};
 ghost use Rattle.core.specs.declared.seek.Sought.the-variants.{At};
 ghost use Rattle.bflan.specs.Letters.{targetOf};
-ghost use Rattle.bflan.specs.Reader.{stop, andThen, ret, word};
+ghost use Rattle.bflan.specs.Reader.{stop, andThen, ret, word, visit};
 ghost use Rattle.bflan.specs.Reading.{curveOf, countOf, keys, target};
 ghost use Rattle.bflan.specs.Walk.{moved, run, told};
 use crate::emit::put2;
@@ -119,4 +120,39 @@ pub(crate) fn target_at(s: &[u8], letters: u32, base: usize, words: &mut [u32], 
         Sought::At(p) => target_from(s, letters, base, p, words, t),
         Sought::Past(at, excess) => Walk::No(Fault::PastEnd(at, excess)),
     }
+}
+
+// The targets at the `n` offsets of the table at `table`, which count from `base`.
+pub(crate) fn targets(
+    s: &[u8],
+    letters: u32,
+    base: usize,
+    table: usize,
+    n: usize,
+    pos: usize,
+    words: &mut [u32],
+    t: Tally,
+) -> Walk
+    requires { ⌜ (length (now s) ≤ 16777216) × (base ≤ 8589934592) × (table + 4 * n ≤ length (now s)) ⌝ }
+    ensures { λ r. ⌜ ((x : List ℕ) → told r (now (words .exit)) x ≡ run (now (s .entry)) t (now (words .entry)) x (visit base (target letters) (numbersAt n (now (s .entry)) table) (now (s .entry)) pos)) ⌝ }
+{
+    let mut left = n;
+    let mut at = table;
+    let mut p = pos;
+    let mut u = t;
+    while 0 < left {
+        let off = offset_at(s, at);
+        match target_at(s, letters, base + off, words, u) {
+            Walk::No(f) => {
+                return Walk::No(f);
+            }
+            Walk::On(v, q) => {
+                u = v;
+                p = q;
+            }
+        }
+        at += 4;
+        left -= 1;
+    }
+    Walk::On(u, p)
 }
