@@ -5,4 +5,5 @@ pub mod Exercises
 pub mod InfoParts
 pub mod KeyRuns
 pub mod SectionParts
+pub mod TargetParts
 pub mod Walks

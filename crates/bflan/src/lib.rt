@@ -7,4 +7,5 @@ mod keys;
 pub mod letters;
 mod offset;
 pub mod tally;
+mod target;
 mod texture;

@@ -1,0 +1,158 @@
+// Targets: twelve bytes, and keys at an offset that counts from the target's start.
+ghost use mathlib.Core.Path.{_≡_};
+ghost use mathlib.Core.List.{List, [], _∷_};
+ghost use Prim.Native.Nat.{ℕ, _+_, _*_, _<_, _≤_};
+ghost use lib.ListN.{length};
+ghost use lib.Seq.{sets};
+ghost use Rattle.core.specs.Number.{get};
+ghost use Rattle.core.specs.Run.{numbersAt};
+ghost use Rattle.core.specs.Seek.{seekOf};
+ghost use Rattle.core.specs.declared.seek.Sought.the-variants.{At};
+ghost use Rattle.bflan.specs.Letters.{targetOf};
+ghost use Rattle.bflan.specs.Reader.{stop, andThen, ret, word, visit};
+ghost use Rattle.bflan.specs.Reading.{curveOf, countOf, keys, target};
+ghost use Rattle.bflan.specs.Walk.{moved, run, told};
+use crate::emit::put2;
+use crate::fault::Fault;
+use crate::keys::keys;
+use crate::letters::resolve;
+use crate::offset::offset_at;
+use crate::tally::Tally;
+use crate::tally::Walk;
+use core::number::Read;
+use core::number::read_u16;
+use core::seek::Sought;
+use core::seek::seek;
+
+// Where the reading of a target stops whose twelve bytes are not all there.
+fn short(s: &[u8], base: usize) -> Fault
+    requires { ⌜ length (now s) < base + 12 ⌝ }
+    ensures { λ r. ⌜ ((letters : ℕ) (i : ℕ) → target letters base (now (s .entry)) i ≡ stop r) ⌝ }
+{
+    let size = s.len();
+    if size < base {
+        return Fault::PastEnd(size, base - size);
+    }
+    if size < base + 4 {
+        return Fault::PastEnd(size, 1);
+    }
+    if size < base + 6 {
+        return Fault::PastEnd(base + 4, 2);
+    }
+    if size < base + 8 {
+        return Fault::PastEnd(base + 6, 2);
+    }
+    Fault::PastEnd(base + 8, 4)
+}
+
+// A byte, and a number of two bytes, that are known to be there.
+fn byte_at(s: &[u8], at: usize) -> u8
+    requires { ⌜ at + 1 ≤ length (now s) ⌝ }
+    ensures { λ r. ⌜ r ≡ get 1 (now (s .entry)) at ⌝ }
+{
+    s[at]
+}
+
+fn count_at(s: &[u8], at: usize) -> usize
+    requires { ⌜ at + 2 ≤ length (now s) ⌝ }
+    ensures { λ r. ⌜ (r ≡ get 2 (now (s .entry)) at) × (r < 65536) ⌝ }
+{
+    match read_u16(s, at) {
+        Read::Value(v, _) => v as usize,
+        Read::Past(_, _) => 0,
+    }
+}
+
+// The words of a curve and of its key count: above curve 2 both are 0.
+fn put_curve(words: &mut [u32], t: Tally, curve: u32, n: usize) -> Tally
+    requires { ⌜ n < 65536 ⌝ }
+    ensures { λ r. ⌜ (r ≡ moved t 2) × (now (words .exit) ≡ sets (now (words .entry)) (t .words) (curveOf curve ∷ countOf curve n ∷ [])) ⌝ }
+{
+    if curve <= 2 {
+        return put2(words, t, curve, n as u32);
+    }
+    put2(words, t, 0, 0)
+}
+
+// The four words of a target by its fields, and its keys from `p` on.
+fn put_target(
+    s: &[u8],
+    p: usize,
+    letters: u32,
+    layer: u8,
+    raw: u8,
+    curve: u8,
+    n: usize,
+    words: &mut [u32],
+    t: Tally,
+) -> Walk
+    requires { ⌜ n < 65536 ⌝ }
+    ensures { λ r. ⌜ ((x : List ℕ) → told r (now (words .exit)) x ≡ run (now (s .entry)) t (now (words .entry)) x (andThen (keys curve n (now (s .entry)) p) (λ ks. ret (word layer ∷ word (targetOf letters raw) ∷ word (curveOf curve) ∷ word (countOf curve n) ∷ ks)) (now (s .entry)))) ⌝ }
+{
+    let number = resolve(letters, raw);
+    let u = put2(words, t, layer as u32, number as u32);
+    let v = put_curve(words, u, curve as u32, n);
+    keys(s, p, curve as u32, n, words, v)
+}
+
+// The same for the target that starts at `base`, whose twelve bytes are there.
+fn target_from(s: &[u8], letters: u32, base: usize, p: usize, words: &mut [u32], t: Tally) -> Walk
+    requires { ⌜ base + 12 ≤ length (now s) ⌝ }
+    ensures { λ r. ⌜ ((i : ℕ) (x : List ℕ) → seekOf (now (s .entry)) (base + get 4 (now (s .entry)) (base + 8)) ≡ At p → told r (now (words .exit)) x ≡ run (now (s .entry)) t (now (words .entry)) x (target letters base (now (s .entry)) i)) ⌝ }
+{
+    let layer = byte_at(s, base);
+    let raw = byte_at(s, base + 1);
+    let curve = byte_at(s, base + 2);
+    let n = count_at(s, base + 4);
+    put_target(s, p, letters, layer, raw, curve, n, words, t)
+}
+
+// The target that starts at `base`.
+pub(crate) fn target_at(s: &[u8], letters: u32, base: usize, words: &mut [u32], t: Tally) -> Walk
+    requires { ⌜ (length (now s) ≤ 16777216) × (base ≤ 17179869184) ⌝ }
+    ensures { λ r. ⌜ ((i : ℕ) (x : List ℕ) → told r (now (words .exit)) x ≡ run (now (s .entry)) t (now (words .entry)) x (target letters base (now (s .entry)) i)) ⌝ }
+{
+    if s.len() < base + 12 {
+        return Walk::No(short(s, base));
+    }
+    let offset = offset_at(s, base + 8);
+    match seek(s, base + offset) {
+        Sought::At(p) => target_from(s, letters, base, p, words, t),
+        Sought::Past(at, excess) => Walk::No(Fault::PastEnd(at, excess)),
+    }
+}
+
+// The targets at the `n` offsets of the table at `table`, which count from `base`.
+pub(crate) fn targets(
+    s: &[u8],
+    letters: u32,
+    base: usize,
+    table: usize,
+    n: usize,
+    pos: usize,
+    words: &mut [u32],
+    t: Tally,
+) -> Walk
+    requires { ⌜ (length (now s) ≤ 16777216) × (base ≤ 8589934592) × (table + 4 * n ≤ length (now s)) ⌝ }
+    ensures { λ r. ⌜ ((x : List ℕ) → told r (now (words .exit)) x ≡ run (now (s .entry)) t (now (words .entry)) x (visit base (target letters) (numbersAt n (now (s .entry)) table) (now (s .entry)) pos)) ⌝ }
+{
+    let mut left = n;
+    let mut at = table;
+    let mut p = pos;
+    let mut u = t;
+    while 0 < left {
+        let off = offset_at(s, at);
+        match target_at(s, letters, base + off, words, u) {
+            Walk::No(f) => {
+                return Walk::No(f);
+            }
+            Walk::On(v, q) => {
+                u = v;
+                p = q;
+            }
+        }
+        at += 4;
+        left -= 1;
+    }
+    Walk::On(u, p)
+}
