@@ -1,4 +1,5 @@
 pub mod Codes
+pub mod DatumParts
 pub mod Emits
 pub mod Exercises
 pub mod KeyRuns

@@ -1,4 +1,5 @@
 // The pai1 section: read into a flat record.
+pub mod datum;
 pub mod emit;
 pub mod fault;
 pub mod keys;
