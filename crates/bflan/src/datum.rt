@@ -4,6 +4,7 @@ ghost use Prim.Native.Nat.{_≤_};
 ghost use lib.ListN.{length};
 ghost use lib.Seq.{sets};
 ghost use Rattle.bflan.specs.DatumParts.{head, asHead, fieldsOf, keyText, behind};
+ghost use Rattle.bflan.specs.Reader.{many};
 ghost use Rattle.bflan.specs.Reading.{datum};
 ghost use Rattle.bflan.specs.Walk.{moved, run, told};
 use crate::emit::put2;
@@ -116,4 +117,34 @@ pub(crate) fn datum_at(s: &[u8], p: usize, words: &mut [u32], texts: &mut [u8], 
             values_and_key(s, q, n, words, texts, u)
         }
     }
+}
+
+// `n` data from `p` on.
+pub(crate) fn data(
+    s: &[u8],
+    p: usize,
+    n: usize,
+    words: &mut [u32],
+    texts: &mut [u8],
+    t: Tally,
+) -> Walk
+    requires { ⌜ length (now s) ≤ 16777216 ⌝ }
+    ensures { λ r. ⌜ told r (now (words .exit)) (now (texts .exit)) ≡ run (now (s .entry)) t (now (words .entry)) (now (texts .entry)) (many n datum (now (s .entry)) p) ⌝ }
+{
+    let mut left = n;
+    let mut q = p;
+    let mut u = t;
+    while 0 < left {
+        match datum_at(s, q, words, texts, u) {
+            Walk::No(f) => {
+                return Walk::No(f);
+            }
+            Walk::On(v, next) => {
+                u = v;
+                q = next;
+            }
+        }
+        left -= 1;
+    }
+    Walk::On(u, q)
 }
