@@ -1,5 +1,6 @@
 pub mod Codes
 pub mod ContentParts
+pub mod DatumParts
 pub mod Emits
 pub mod Exercises
 pub mod InfoParts

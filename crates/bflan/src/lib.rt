@@ -1,5 +1,6 @@
 // The pai1 section: read into a flat record.
 mod content;
+mod datum;
 mod emit;
 pub mod fault;
 mod info;

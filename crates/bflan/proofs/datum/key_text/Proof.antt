@@ -1,0 +1,59 @@
+-- `datum::key_text` meets its contract.
+-- Assumes nothing.
+use mathlib.Core.Path.{sym, _∙_}
+use native.Mathlib.Omega.{arith}
+use Rattle.core.proofs.Numbers.{read-value}
+use Rattle.bflan.proofs.Walks.{told-stop}
+use Rattle.bflan.proofs.DatumParts.{key-on, key-past}
+use borrow.Author.Needs.{needs}
+use Rattle.bflan.proofs.datum.key_text.Statement.{statement}
+use Rattle.bflan.proofs.datum.key_text.Tie as tie
+
+read-u32-requires : tie.Need-read-u32-requires
+read-u32-requires c κs = search needs
+
+enum-known-offset : tie.Need-enum-known-offset
+enum-known-offset c = search needs
+
+cast-texture-at : tie.Need-cast-texture-at
+cast-texture-at c = search needs
+
+add-texture-at : tie.Need-add-texture-at
+add-texture-at c =
+    let g = read-value _ _ _ _ _ (sym (c .before .before .before .read-u32 .ensures) ∙ c .before .offset .given .1) in
+    omega (arith, g .fits, c .before .before .before .before .before .before .before .pre)
+
+texture-at-requires : tie.Need-texture-at-requires
+texture-at-requires c κs = search needs
+
+enum-known-o : tie.Need-enum-known-o
+enum-known-o c = search needs
+
+same-length : tie.Need-same-length
+same-length c = search needs
+
+same-length-2 : tie.Need-same-length-2
+same-length-2 c = search needs
+
+returns : tie.Need-returns
+returns c =
+    let d = key-on _ _ _ _ (sym (c .before .before .before .before .before .before .before .before .before .before .read-u32 .ensures) ∙ c .before .before .before .before .before .before .before .before .offset .given .1) in
+    rw d (c .before .before .before .before .texture-at .ensures _)
+
+returns-2 : tie.Need-returns-2
+returns-2 c = let d = key-past _ _ _ _ (sym (c .before .before .before .read-u32 .ensures) ∙ c .before .o .given .1) in rw d (told-stop _ _ _ _ _ _ _)
+
+pub key-text-spec : {M : Type 1} → statement M
+key-text-spec =
+    tie.close
+    (tie.spec
+    read-u32-requires
+    enum-known-offset
+    cast-texture-at
+    add-texture-at
+    texture-at-requires
+    enum-known-o
+    same-length
+    same-length-2
+    returns
+    returns-2)
