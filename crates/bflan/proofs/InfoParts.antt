@@ -83,3 +83,17 @@ module _ (base : ℕ) (s : List ℕ) (i : ℕ) where
   rest-cut letters n o k e t =
       let r : numbers n s (base + 8) ≡ stop (PastEnd o k) = numbers-run n s (base + 8) ∙ rw t in
       rw (ne-eqb letters fleu e, r)
+
+  -- the same with the head's numbers at hand
+  pub info-extended : (n : ℕ) → base + 8 ≤ length s → get 4 s base ≡ fleu → n ≡ get 1 s (base + 4) → info base s i ≡ before (word fleu ∷ word n ∷ []) (many n datum s (base + 8))
+  info-extended n h e en = info-there h ∙ ap (λ (m : ℕ). infoRest (get 4 s base) m) (sym en) ∙ rest-extended (get 4 s base) n e
+
+  pub info-standard : (letters n q : ℕ) → base + 8 ≤ length s → letters ≡ get 4 s base → (letters ≡ fleu → ⊥) → n ≡ get 1 s (base + 4) → numbersOf n s (base + 8) ≡ Next q
+      → info base s i ≡ before (word (lettersOf letters) ∷ word n ∷ []) (visit base (target letters) (numbersAt n s (base + 8)) s q)
+  info-standard letters n q h el e en t =
+      info-there h ∙ ap (λ (m : ℕ). infoRest (get 4 s base) m) (sym en) ∙ ap (λ (m : ℕ). infoRest m n) (sym el) ∙ rest-standard letters n q e t
+
+  pub info-cut : (letters n o k : ℕ) → base + 8 ≤ length s → letters ≡ get 4 s base → (letters ≡ fleu → ⊥) → n ≡ get 1 s (base + 4) → numbersOf n s (base + 8) ≡ Cut o k
+      → info base s i ≡ stop (PastEnd o k)
+  info-cut letters n o k h el e en t =
+      info-there h ∙ ap (λ (m : ℕ). infoRest (get 4 s base) m) (sym en) ∙ ap (λ (m : ℕ). infoRest m n) (sym el) ∙ rest-cut letters n o k e t

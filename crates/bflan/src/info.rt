@@ -1,11 +1,27 @@
 // Infos: eight bytes, and then targets at offsets, or extended data one after another.
 ghost use mathlib.Core.Path.{_≡_};
-ghost use mathlib.Core.List.{List, [], _∷_};
-ghost use Prim.Native.Nat.{ℕ, _+_, _<_, _≤_};
+ghost use mathlib.Core.List.{List};
+ghost use Prim.Native.Nat.{ℕ, _+_, _*_, _<_, _≤_};
 ghost use lib.ListN.{length};
-ghost use Rattle.bflan.specs.Reader.{stop};
+ghost use Rattle.core.specs.Number.{get};
+ghost use Rattle.core.specs.Run.{numbersAt};
+ghost use Rattle.bflan.specs.Letters.{fleu};
+ghost use Rattle.bflan.specs.Reader.{stop, visit};
 ghost use Rattle.bflan.specs.Reading.{info};
+ghost use Rattle.bflan.specs.Walk.{run, told};
+use crate::datum::data;
+use crate::emit::put2;
 use crate::fault::Fault;
+use crate::letters::FLEU;
+use crate::letters::letters_of;
+use crate::offset::byte_at;
+use crate::offset::offset_at;
+use crate::offset::word_at;
+use crate::tally::Tally;
+use crate::tally::Walk;
+use crate::target::targets;
+use core::run::Run;
+use core::run::numbers_end;
 
 // Where the reading of an info stops whose eight bytes are not all there.
 fn short(s: &[u8], base: usize) -> Fault
@@ -26,4 +42,13 @@ fn short(s: &[u8], base: usize) -> Fault
         return Fault::PastEnd(base + 5, 1);
     }
     Fault::PastEnd(base + 6, 2)
+}
+
+// An extended info: two words, and its data.
+fn extended(s: &[u8], base: usize, n: u32, words: &mut [u32], texts: &mut [u8], t: Tally) -> Walk
+    requires { ⌜ (length (now s) ≤ 16777216) × (base + 8 ≤ length (now s)) × (get 4 (now s) base ≡ fleu) × (n ≡ get 1 (now s) (base + 4)) ⌝ }
+    ensures { λ r. ⌜ ((i : ℕ) → told r (now (words .exit)) (now (texts .exit)) ≡ run (now (s .entry)) t (now (words .entry)) (now (texts .entry)) (info base (now (s .entry)) i)) ⌝ }
+{
+    let u = put2(words, t, FLEU, n);
+    data(s, base + 8, n as usize, words, texts, u)
 }
