@@ -308,3 +308,8 @@ targets-end letters base s t w at left i h = rw (visits-end base (target letters
 pub targets-any : (letters base : ℕ) (s : List ℕ) (t : Tally) (w w′ : List ℕ) (r : Walk) (os : List ℕ) (i : ℕ) → told r w′ [] ≡ run s t w [] (visit base (target letters) os s i)
     → (x : List ℕ) → told r w′ x ≡ run s t w x (visit base (target letters) os s i)
 targets-any letters base s t w w′ r os i e x = any-text s t w w′ r (visit base (target letters) os s i) (wordy-visit base (target letters) s (λ b j. wordy-target letters b s j) os i) e x
+
+-- two words stored, in front of what follows
+pub run-two : (s : List ℕ) (t : Tally) (w x : List ℕ) (a b : ℕ) (r : Res (List Item)) (u : Tally) (v : List ℕ) (a′ : ℕ) → length w ≤ 18446744073709551615 → t .words ≤ 18446744073709551615
+    → u ≡ moved t 2 → v ≡ sets w (t .words) (a′ ∷ b ∷ []) → a′ ≡ a → run s u v x r ≡ run s t w x (before (word a ∷ word b ∷ []) r)
+run-two s t w x a b r u v a′ hw ht eu ev ea = rw (eu, ev, ea) (sym (run-words s t w x (a ∷ b ∷ []) r hw ht))

@@ -1,12 +1,11 @@
 // Infos: eight bytes, and then targets at offsets, or extended data one after another.
 ghost use mathlib.Core.Path.{_≡_};
 ghost use mathlib.Core.List.{List};
-ghost use Prim.Native.Nat.{ℕ, _+_, _*_, _<_, _≤_};
+ghost use Prim.Native.Nat.{ℕ, _+_, _<_, _≤_};
 ghost use lib.ListN.{length};
 ghost use Rattle.core.specs.Number.{get};
-ghost use Rattle.core.specs.Run.{numbersAt};
 ghost use Rattle.bflan.specs.Letters.{fleu};
-ghost use Rattle.bflan.specs.Reader.{stop, visit};
+ghost use Rattle.bflan.specs.Reader.{stop};
 ghost use Rattle.bflan.specs.Reading.{info};
 ghost use Rattle.bflan.specs.Walk.{run, told};
 use crate::datum::data;
@@ -51,4 +50,36 @@ fn extended(s: &[u8], base: usize, n: u32, words: &mut [u32], texts: &mut [u8], 
 {
     let u = put2(words, t, FLEU, n);
     data(s, base + 8, n as usize, words, texts, u)
+}
+
+// An info of any other letters: two words, and the targets at its offsets.
+fn standard(s: &[u8], base: usize, letters: u32, n: u32, words: &mut [u32], t: Tally) -> Walk
+    requires { ⌜ (length (now s) ≤ 16777216) × (base + 8 ≤ length (now s)) × (letters ≡ get 4 (now s) base) × (letters ≡ fleu → ⊥) × (n ≡ get 1 (now s) (base + 4)) ⌝ }
+    ensures { λ r. ⌜ ((i : ℕ) (x : List ℕ) → told r (now (words .exit)) x ≡ run (now (s .entry)) t (now (words .entry)) x (info base (now (s .entry)) i)) ⌝ }
+{
+    let table = base + 8;
+    let count = n as usize;
+    match numbers_end(s, table, count) {
+        Run::Cut(offset, requested) => Walk::No(Fault::PastEnd(offset, requested)),
+        Run::Next(q) => {
+            let u = put2(words, t, letters_of(letters), n);
+            targets(s, letters, base, table, count, q, words, u)
+        }
+    }
+}
+
+// The info that starts at `base`.
+pub(crate) fn info_at(s: &[u8], base: usize, words: &mut [u32], texts: &mut [u8], t: Tally) -> Walk
+    requires { ⌜ (length (now s) ≤ 16777216) × (base ≤ 8589934592) ⌝ }
+    ensures { λ r. ⌜ ((i : ℕ) → told r (now (words .exit)) (now (texts .exit)) ≡ run (now (s .entry)) t (now (words .entry)) (now (texts .entry)) (info base (now (s .entry)) i)) ⌝ }
+{
+    if s.len() < base + 8 {
+        return Walk::No(short(s, base));
+    }
+    let letters = word_at(s, base);
+    let n = byte_at(s, base + 4);
+    if letters == FLEU {
+        return extended(s, base, n, words, texts, t);
+    }
+    standard(s, base, letters, n, words, t)
 }
