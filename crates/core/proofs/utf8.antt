@@ -3,3 +3,4 @@ pub mod Pieces
 pub mod Laws
 pub mod Automaton
 pub mod Turns
+pub mod Tables

@@ -2,21 +2,22 @@
 -- Assumes nothing.
 use Prim.Native.Nat.{ℕ, zero, suc, min, _+_, _-_, _*_, _<_, _≤_}
 use mathlib.Core.Path.{_≡_, refl, ap, sym, _∙_}
-use mathlib.Core.Bool.{true}
+use mathlib.Core.Bool.{Bool, true, false}
+use borrow.Author.Tests.{leb-true, leb-false}
+use lib.Dec.{leb}
 use mathlib.Core.List.{List, [], _∷_, _++_, append-nil}
 use native.Mathlib.Nat.{add-zero, zero-add}
 use native.Mathlib.Numerals.{add-one}
 use native.Mathlib.Omega.{arith}
-use borrow.Author.Tests.{le-leb}
 use lib.ListN.{length, getD, take, drop, length-append, length-drop, drop-of-length-le}
 use lib.Seq.{sets, slice, slice-empty, length-slice, drop-cons, drop-drop, take-nil}
 use Rattle.core.specs.declared.utf8.step.Step.{Step}
 use Rattle.core.specs.declared.utf8.step.Step.the-variants.{Good, Bad}
-use Rattle.core.specs.Utf8.{rows, within, classOf, laterOf, matched, more, good, stepOf, replacement, decode, decodedSize, sound, illSize}
+use Rattle.core.specs.Utf8.{rows, classOf, laterOf, matched, more, good, stepOf, replacement, decode, decodedSize, sound, illSize}
 use Rattle.core.proofs.Stores.{sets-moved}
-use Rattle.core.proofs.utf8.Steps.{matched-none}
+use Rattle.core.proofs.utf8.Steps.{matched-none, ascii-class}
 use Rattle.core.proofs.utf8.Pieces.{more-within, step-good, step-bad, decode-nil, decode-good, sound-nil, sound-good, sound-bad, ill-nil, ill-bad}
-use Rattle.core.proofs.utf8.Laws.{good-from, sound-le, decode-front, ill-short, ill-within, ill-or-end, decode-ill}
+use Rattle.core.proofs.utf8.Laws.{good-from, whole-well, decode-well, sound-le, decode-front, ill-short, ill-within, ill-or-end, decode-ill}
 
 -- ---- parts of a list
 
@@ -93,10 +94,6 @@ module _ (s : List ℕ) (i k : ℕ) (h : i < length s) where
 
 -- ---- a run of ASCII
 
-ascii-class : (x : ℕ) → x < 128 → classOf x ≡ 1
-unfolding classOf rows within
-ascii-class x h = rw (le-leb 0 x (omega arith), le-leb x 127 (omega arith))
-
 ascii-good : (x : ℕ) (xs : List ℕ) → x < 128 → (good x xs ≡ true) × (more x xs ≡ 0)
 unfolding more
 ascii-good x xs h =
@@ -117,6 +114,40 @@ ascii-run s i (suc m) h f =
     ascii-run s (i + 1) m (omega arith) (λ j q. let e : i + suc j ≡ i + 1 + j = omega arith in rw e at (f (suc j) (omega arith))) in
     let w : sound (drop (i + suc m) s) ≡ sound (drop (i + 1 + m) s) = rw p in
     omega (arith, a, d, g .1)
+
+-- bytes below 128, by parts of a text
+pub ascii-on : (s : List ℕ) (i m : ℕ) → ((k : ℕ) → k < i → getD s k 0 < 128) → ((k : ℕ) → k < m → getD s (i + k) 0 < 128) → (k : ℕ) → k < i + m → getD s k 0 < 128
+ascii-on s i m f g k h = go (leb i k) refl
+  where
+    go : (b : Bool) → leb i k ≡ b → getD s k 0 < 128
+    go true e =
+        let l = leb-true i k e in
+        let q : i + (k - i) ≡ k = omega arith in
+        rw q at (g (k - i) (omega arith))
+    go false e = f k (leb-false i k e)
+
+-- the last part may overlap the one before it
+pub ascii-last : (s : List ℕ) (i m : ℕ) → m ≤ length s → length s ≤ i + m → ((k : ℕ) → k < i → getD s k 0 < 128)
+    → ((k : ℕ) → k < m → getD s (length s - m + k) 0 < 128) → (k : ℕ) → k < length s → getD s k 0 < 128
+ascii-last s i m l e f g k h = ascii-on s (length s - m) m (λ j q. f j (omega arith)) g k (omega arith)
+
+pub ascii-two : (s : List ℕ) (m : ℕ) → m ≤ length s → length s ≤ m + m → ((k : ℕ) → k < m → getD s (0 + k) 0 < 128)
+    → ((k : ℕ) → k < m → getD s (length s - m + k) 0 < 128) → (k : ℕ) → k < length s → getD s k 0 < 128
+ascii-two s m l e f g = ascii-last s m m l e (λ k h. rw zero-add at (f k h)) g
+
+-- a text that is all ASCII is its own decoding
+pub ascii-sound : (s : List ℕ) → ((j : ℕ) → j < length s → getD s j 0 < 128) → sound s ≡ length s
+ascii-sound s f =
+    let r = ascii-run s 0 (length s) (omega arith) (λ j h. rw zero-add (f j h)) in
+    let e = sound-end s (0 + length s) (omega arith) in
+    omega (arith, r, e)
+
+pub ascii-decode : (s : List ℕ) → ((j : ℕ) → j < length s → getD s j 0 < 128) → decode s ≡ s
+ascii-decode s f = decode-well s (whole-well s (ascii-sound s f))
+
+pub ascii-size : (s : List ℕ) → length s < 18446744073709551616 → ((j : ℕ) → j < length s → getD s j 0 < 128) → length s ≡ decodedSize s
+unfolding decodedSize
+ascii-size s h f = rw (ascii-decode s f) (omega arith)
 
 -- ---- a walk that came to an ill-formed subpart or to the end
 

@@ -12,10 +12,10 @@ use Rattle.core.proofs.utf8.scan.walk.Statement.{statement}
 use Rattle.core.proofs.utf8.scan.walk.Tie as tie
 
 abbrev Inv-loop : tie.InvT-loop
-Inv-loop s from stop i₀ i = (from ≤ i) × (i ≤ length s) × (i + sound (drop i s) ≡ from + sound (drop from s))
+Inv-loop s from stop classes i₀ i = (from ≤ i) × (i ≤ length s) × (i + sound (drop i s) ≡ from + sound (drop from s))
 
 abbrev μ-loop : tie.MeasureT-loop
-μ-loop s from stop i₀ i = length s - i
+μ-loop s from stop classes i₀ i = length s - i
 
 good-arm : (c : tie.After-known-told Inv-loop μ-loop) → GoodAt (now (c .before .before .before .before .before .before .before .args .s)) (c .before .before .before .before .before .loop .i) (c .before .k .given .0 .0)
 good-arm c = good-at _ _ _ (search needs) _ (c .before .before .before .step-at .ensures) (c .before .k .given .1)
@@ -27,7 +27,7 @@ loop-holds : tie.Need-loop-holds Inv-loop μ-loop
 loop-holds c = (omega arith, omega arith, refl)
 
 step-at-requires : tie.Need-step-at-requires Inv-loop μ-loop
-step-at-requires c κs = omega arith
+step-at-requires c κs = (omega arith, c .before .before .before .pre .2)
 
 enum-known-k : tie.Need-enum-known-k Inv-loop μ-loop
 enum-known-k c = c .match .keys1
