@@ -4,3 +4,4 @@ pub mod Laws
 pub mod Automaton
 pub mod Turns
 pub mod Tables
+pub mod Inside

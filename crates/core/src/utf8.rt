@@ -1,11 +1,13 @@
 // UTF-8 by the Unicode Standard's Table 3-7: decoding with one U+FFFD for each maximal ill-formed subpart, and what is asked of a text.
 ghost use mathlib.Core.Path.{_≡_};
-ghost use Prim.Native.Nat.{_+_, min};
+ghost use Prim.Native.Nat.{_+_, _-_, min};
+ghost use lib.ListN.{length};
 ghost use lib.Seq.{sets};
 ghost use Rattle.core.specs.Utf8.{Classes, replacement, decode, decodedSize, sound, wellFormed};
 ghost use Rattle.core.specs.Flow.{Rows};
 use crate::fill::ahead;
 use crate::fill::copy;
+use crate::fill::copy_on;
 use crate::utf8::class::CLASSES;
 use crate::utf8::flow::ROWS;
 use crate::utf8::scan::is_ascii;
@@ -30,36 +32,24 @@ fn total(a: usize, b: usize) -> usize
     MOST
 }
 
-// A place behind `n` bytes more, or the end where that comes first.
-fn moved(at: usize, n: usize, size: usize) -> usize
-    ensures { λ r. ⌜ r ≡ min (at + n) size ⌝ }
-{
-    if at < size {
-        if n < size - at {
-            return at + n;
-        }
-    }
-    size
-}
-
-fn put_clipped(out: &mut [u8], at: usize)
-    ensures { λ _. ⌜ now (out .exit) ≡ sets (now (out .entry)) at replacement ⌝ }
+fn put_clipped(out: &mut [u8], at: usize) -> usize
+    ensures { λ r. ⌜ (now (out .exit) ≡ sets (now (out .entry)) at replacement) × (r ≡ at + min 3 (length (now (out .entry)) - at)) ⌝ }
 {
     let bytes = [0xEFu8, 0xBF, 0xBD];
-    copy(&bytes, out, at);
+    copy_on(&bytes, out, at)
 }
 
-// Where there is room for all of it, three stores.
-fn put_replacement(out: &mut [u8], at: usize)
-    ensures { λ _. ⌜ now (out .exit) ≡ sets (now (out .entry)) at replacement ⌝ }
+// U+FFFD, and the place behind what was stored of it. Where there is room for all of it, it is three stores.
+fn put_replacement(out: &mut [u8], at: usize) -> usize
+    ensures { λ r. ⌜ (now (out .exit) ≡ sets (now (out .entry)) at replacement) × (r ≡ at + min 3 (length (now (out .entry)) - at)) ⌝ }
 {
     if ahead(at, out.len()) < 3 {
-        put_clipped(out, at);
-        return;
+        return put_clipped(out, at);
     }
     out[at] = 0xEF;
     out[at + 1] = 0xBF;
     out[at + 2] = 0xBD;
+    at + 3
 }
 
 // Where the first ill-formed subpart starts, or the length: in a text that is not all ASCII,
@@ -106,13 +96,11 @@ fn decode_runs(
         let run = next_run(text, i, classes, rows);
         let end = run.end;
         let skip = run.skip;
-        copy(&text[i..end], out, o);
+        let next = copy_on(&text[i..end], out, o);
         if skip == 0 {
             return total(text.len(), grown);
         }
-        o = moved(o, end - i, out.len());
-        put_replacement(out, o);
-        o = moved(o, 3, out.len());
+        o = put_replacement(out, next);
         grown += 3 - skip;
         i = end + skip;
     }
@@ -159,13 +147,11 @@ fn decode_steps(text: &[u8], out: &mut [u8], at: usize, classes: &[u8; 256]) -> 
         match step_at(text, i, classes) {
             Step::Good(k) => {
                 let next = i + k;
-                copy(&text[i..next], out, o);
-                o = moved(o, k, out.len());
+                o = copy_on(&text[i..next], out, o);
                 i = next;
             }
             Step::Bad(k) => {
-                put_replacement(out, o);
-                o = moved(o, 3, out.len());
+                o = put_replacement(out, o);
                 grown += 3 - k;
                 i += k;
             }

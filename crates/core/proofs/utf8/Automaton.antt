@@ -11,7 +11,7 @@ use lib.Dec.{eqb}
 use lib.ListN.{length, getD, take, drop, take-append-drop}
 use lib.Seq.{slice, slice-cons, slice-empty, length-slice, length-take-le, drop-append-le}
 use Rattle.core.specs.Choice.{pick}
-use Rattle.core.specs.Utf8.{Range, rows, within, classOf, Classes, laterOf, matched, more, sound, wellFormed}
+use Rattle.core.specs.Utf8.{Range, rows, within, classOf, byteClass, laterOf, matched, more, sound, wellFormed}
 use Rattle.core.specs.Flow.{awaits, entered, passed, firstFits, stateAfter, flows, stateOf, State, Rows, Flow}
 use Rattle.core.proofs.utf8.Steps.{class-below, matched-none}
 use Rattle.core.proofs.utf8.Pieces.{well-nil, well-good}
@@ -30,7 +30,7 @@ not-both b p q = let z : _≡_ {A = ℕ} 0 1 = cc in omega arith
 -- ---- the states against Table 3-7
 
 -- behind a first byte of a class, the later bytes of its row are still to come
-entered-awaits : (c : ℕ) → c < 9 → awaits (getD entered (suc c) 1) ≡ laterOf (suc c)
+pub entered-awaits : (c : ℕ) → c < 9 → awaits (getD entered (suc c) 1) ≡ laterOf (suc c)
 unfolding laterOf rows
 entered-awaits zero h = refl
 entered-awaits (suc zero) h = refl
@@ -43,7 +43,7 @@ entered-awaits (suc (suc (suc (suc (suc (suc (suc zero))))))) h = refl
 entered-awaits (suc (suc (suc (suc (suc (suc (suc (suc zero)))))))) h = refl
 entered-awaits (suc (suc (suc (suc (suc (suc (suc (suc (suc c))))))))) h = absurd (omega arith)
 
-entered-below : (c : ℕ) → c < 10 → getD entered c 1 < 9
+pub entered-below : (c : ℕ) → c < 10 → getD entered c 1 < 9
 entered-below zero h = omega arith
 entered-below (suc zero) h = omega arith
 entered-below (suc (suc zero)) h = omega arith
@@ -56,29 +56,43 @@ entered-below (suc (suc (suc (suc (suc (suc (suc (suc zero)))))))) h = omega ari
 entered-below (suc (suc (suc (suc (suc (suc (suc (suc (suc zero))))))))) h = omega arith
 entered-below (suc (suc (suc (suc (suc (suc (suc (suc (suc (suc c)))))))))) h = absurd (omega arith)
 
--- behind a later byte, what the state before it awaited but for that byte
-record Awaiting (q : ℕ) : Type 0 where
-  first : Range
-  rest : awaits (suc (suc q)) ≡ first ∷ awaits (getD passed (suc (suc q)) 1)
-  small : getD passed (suc (suc q)) 1 < 9
+-- no byte that begins a row leads to state 1
+pub entered-known : (c : ℕ) → c < 9 → getD entered (suc c) 1 ≡ 1 → ⊥
+entered-known zero h e = omega arith
+entered-known (suc zero) h e = omega arith
+entered-known (suc (suc zero)) h e = omega arith
+entered-known (suc (suc (suc zero))) h e = omega arith
+entered-known (suc (suc (suc (suc zero)))) h e = omega arith
+entered-known (suc (suc (suc (suc (suc zero))))) h e = omega arith
+entered-known (suc (suc (suc (suc (suc (suc zero)))))) h e = omega arith
+entered-known (suc (suc (suc (suc (suc (suc (suc zero))))))) h e = omega arith
+entered-known (suc (suc (suc (suc (suc (suc (suc (suc zero)))))))) h e = omega arith
+entered-known (suc (suc (suc (suc (suc (suc (suc (suc (suc c))))))))) h e = omega arith
 
-awaiting : (q : ℕ) → q < 7 → Awaiting q
-awaiting zero h = record { first = record { lo = 0x80; hi = 0xBF }; rest = refl; small = omega arith }
-awaiting (suc zero) h = record { first = record { lo = 0x80; hi = 0xBF }; rest = refl; small = omega arith }
-awaiting (suc (suc zero)) h = record { first = record { lo = 0xA0; hi = 0xBF }; rest = refl; small = omega arith }
-awaiting (suc (suc (suc zero))) h = record { first = record { lo = 0x80; hi = 0x9F }; rest = refl; small = omega arith }
-awaiting (suc (suc (suc (suc zero)))) h = record { first = record { lo = 0x90; hi = 0xBF }; rest = refl; small = omega arith }
-awaiting (suc (suc (suc (suc (suc zero))))) h = record { first = record { lo = 0x80; hi = 0xBF }; rest = refl; small = omega arith }
-awaiting (suc (suc (suc (suc (suc (suc zero)))))) h = record { first = record { lo = 0x80; hi = 0x8F }; rest = refl; small = omega arith }
+-- behind a later byte, what the state before it awaited but for that byte
+pub record Awaiting (q : ℕ) : Type 0 where
+  pub first : Range
+  pub rest : awaits (suc (suc q)) ≡ first ∷ awaits (getD passed (suc (suc q)) 1)
+  pub small : getD passed (suc (suc q)) 1 < 9
+  pub known : getD passed (suc (suc q)) 1 ≡ 1 → ⊥
+
+pub awaiting : (q : ℕ) → q < 7 → Awaiting q
+awaiting zero h = record { first = record { lo = 0x80; hi = 0xBF }; rest = refl; small = omega arith; known = λ e. omega arith }
+awaiting (suc zero) h = record { first = record { lo = 0x80; hi = 0xBF }; rest = refl; small = omega arith; known = λ e. omega arith }
+awaiting (suc (suc zero)) h = record { first = record { lo = 0xA0; hi = 0xBF }; rest = refl; small = omega arith; known = λ e. omega arith }
+awaiting (suc (suc (suc zero))) h = record { first = record { lo = 0x80; hi = 0x9F }; rest = refl; small = omega arith; known = λ e. omega arith }
+awaiting (suc (suc (suc (suc zero)))) h = record { first = record { lo = 0x90; hi = 0xBF }; rest = refl; small = omega arith; known = λ e. omega arith }
+awaiting (suc (suc (suc (suc (suc zero))))) h = record { first = record { lo = 0x80; hi = 0xBF }; rest = refl; small = omega arith; known = λ e. omega arith }
+awaiting (suc (suc (suc (suc (suc (suc zero)))))) h = record { first = record { lo = 0x80; hi = 0x8F }; rest = refl; small = omega arith; known = λ e. omega arith }
 awaiting (suc (suc (suc (suc (suc (suc (suc q))))))) h = absurd (omega arith)
 
 -- ---- bytes that flow to state 0 complete what is awaited, and are well-formed behind it
 
-more-is : (x : ℕ) (xs : List ℕ) (c : ℕ) → classOf x ≡ c → more x xs ≡ matched (laterOf c) xs
+pub more-is : (x : ℕ) (xs : List ℕ) (c : ℕ) → classOf x ≡ c → more x xs ≡ matched (laterOf c) xs
 unfolding more
 more-is x xs c e = rw e
 
-matched-on : (r : Range) (rs : List Range) (x : ℕ) (xs : List ℕ) → within r x ≡ true → matched (r ∷ rs) (x ∷ xs) ≡ suc (matched rs xs)
+pub matched-on : (r : Range) (rs : List Range) (x : ℕ) (xs : List ℕ) → within r x ≡ true → matched (r ∷ rs) (x ∷ xs) ≡ suc (matched rs xs)
 unfolding matched
 matched-on r rs x xs e = rw e
 
@@ -161,12 +175,21 @@ zero-state = state-is 0 0 refl (omega arith) .0
 pub state-zero : (q : ℕ) → q % 64 ≡ 0 → stateOf q ≡ 0
 state-zero q e = state-is q 0 (omega arith) (omega arith) .1
 
--- a shift of a row gives the state behind a byte
-pub next-held : (t r : List ℕ) (q b : ℕ) → Classes t → Rows r → State q → b < 256
-    → State (getD r (getD t b 0) 0 / 2 ^ (q % 64)) × (stateOf (getD r (getD t b 0) 0 / 2 ^ (q % 64)) ≡ stateAfter (stateOf q) b)
-next-held t r q b ct rr sq h =
+pub state-lost : (q : ℕ) → q % 64 ≡ 6 → stateOf q ≡ 1
+state-lost q e = state-is q 1 (omega arith) (omega arith) .1
+
+pub not-zero : (q : ℕ) → State q → (q % 64 ≡ 0 → ⊥) → stateOf q ≡ 0 → ⊥
+not-zero q h n e = n (omega (arith, h .whole))
+
+pub not-lost : (q : ℕ) → State q → (q % 64 ≡ 6 → ⊥) → stateOf q ≡ 1 → ⊥
+not-lost q h n e = n (omega (arith, h .whole))
+
+-- a shift of the row of a byte's class gives the state behind it
+pub next-held : (r : List ℕ) (q b c : ℕ) → Rows r → State q → b < 256 → c ≡ byteClass b
+    → State (getD r c 0 / 2 ^ (q % 64)) × (stateOf (getD r c 0 / 2 ^ (q % 64)) ≡ stateAfter (stateOf q) b)
+next-held r q b c rr sq h ec =
     let m = rr .entry b (stateOf q) h (sq .small) in
-    let e : getD r (getD t b 0) 0 / 2 ^ (q % 64) % 64 ≡ 6 * stateAfter (stateOf q) b = rw (ct .entry b h, ← sq .whole) (m .0) in
+    let e : getD r c 0 / 2 ^ (q % 64) % 64 ≡ 6 * stateAfter (stateOf q) b = rw (ec, ← sq .whole) (m .0) in
     state-is _ _ e (m .1)
 
 module _ (s : List ℕ) where

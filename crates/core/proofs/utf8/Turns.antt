@@ -14,7 +14,7 @@ use lib.Seq.{sets, slice, slice-empty, length-slice, drop-cons, drop-drop, take-
 use Rattle.core.specs.declared.utf8.step.Step.{Step}
 use Rattle.core.specs.declared.utf8.step.Step.the-variants.{Good, Bad}
 use Rattle.core.specs.Utf8.{rows, classOf, laterOf, matched, more, good, stepOf, replacement, decode, decodedSize, sound, illSize}
-use Rattle.core.proofs.Stores.{sets-moved}
+use Rattle.core.proofs.Stores.{sets-on}
 use Rattle.core.proofs.utf8.Steps.{matched-none, ascii-class}
 use Rattle.core.proofs.utf8.Pieces.{more-within, step-good, step-bad, decode-nil, decode-good, sound-nil, sound-good, sound-bad, ill-nil, ill-bad}
 use Rattle.core.proofs.utf8.Laws.{good-from, whole-well, decode-well, sound-le, decode-front, ill-short, ill-within, ill-or-end, decode-ill}
@@ -240,11 +240,10 @@ counted-size s n r e q = rw (← e) q
 -- ---- stores, for the same loops: what is still to be decoded, stored from here on, makes the list that all of it makes
 
 pub sets-run : (s out : List ℕ) (o i end skip : ℕ) (part m n : List ℕ) (p q : ℕ) → RunAt s i end skip → 0 < skip → part ≡ slice i end s → m ≡ sets out o part
-    → p ≡ min (o + (end - i)) (length m) → n ≡ sets m p replacement → q ≡ min (p + 3) (length n) → sets n q (decode (drop (end + skip) s)) ≡ sets out o (decode (drop i s))
+    → p ≡ o + min (length part) (length out - o) → n ≡ sets m p replacement → q ≡ p + min 3 (length m - p) → sets n q (decode (drop (end + skip) s)) ≡ sets out o (decode (drop i s))
 sets-run s out o i end skip part m n p q r h es em ep en eq =
-    let l = length-slice i end s (omega (arith, r .reach)) in
-    sets-moved m p (replacement ++ decode (drop (end + skip) s)) replacement (decode (drop (end + skip) s)) n q refl en eq
-    ∙ sets-moved out o (decode (drop i s)) (slice i end s) (replacement ++ decode (drop (end + skip) s)) m p (r .split h) (rw es at em) (rw l ep)
+    sets-on m p (replacement ++ decode (drop (end + skip) s)) replacement (decode (drop (end + skip) s)) n q refl en eq
+    ∙ sets-on out o (decode (drop i s)) part (replacement ++ decode (drop (end + skip) s)) m p (rw es (r .split h)) em ep
 
 -- a part of the code, `&s[i..end]`
 pub part-is : (i end : ℕ) (s : List ℕ) → i ≤ end → take (end - i) (drop i s) ≡ slice i end s
@@ -272,14 +271,11 @@ pub decode-end : (s : List ℕ) (i : ℕ) → length s ≤ i → decode (drop i 
 decode-end s i h = rw (drop-of-length-le s h) decode-nil
 
 pub sets-good : (s out : List ℕ) (o i k : ℕ) (part m : List ℕ) (p : ℕ) → GoodAt s i k → part ≡ slice i (i + k) s → m ≡ sets out o part
-    → p ≡ min (o + k) (length m) → sets m p (decode (drop (i + k) s)) ≡ sets out o (decode (drop i s))
-sets-good s out o i k part m p g es em ep =
-    let l = length-slice i (i + k) s (g .reach) in
-    let n : length (slice i (i + k) s) ≡ k = omega (arith, l) in
-    sets-moved out o (decode (drop i s)) (slice i (i + k) s) (decode (drop (i + k) s)) m p (g .split) (rw es at em) (rw n ep)
+    → p ≡ o + min (length part) (length out - o) → sets m p (decode (drop (i + k) s)) ≡ sets out o (decode (drop i s))
+sets-good s out o i k part m p g es em ep = sets-on out o (decode (drop i s)) part (decode (drop (i + k) s)) m p (rw es (g .split)) em ep
 
-pub sets-bad : (s out : List ℕ) (o i k : ℕ) (m : List ℕ) (p : ℕ) → BadAt s i k → m ≡ sets out o replacement → p ≡ min (o + 3) (length m)
+pub sets-bad : (s out : List ℕ) (o i k : ℕ) (m : List ℕ) (p : ℕ) → BadAt s i k → m ≡ sets out o replacement → p ≡ o + min 3 (length out - o)
     → sets m p (decode (drop (i + k) s)) ≡ sets out o (decode (drop i s))
 sets-bad s out o i k m p b em ep =
     let r = run-bad s i k b in
-    sets-moved out o (decode (drop i s)) replacement (decode (drop (i + k) s)) m p (r .split (b .some) ∙ ap (λ (l : List ℕ). l ++ (replacement ++ decode (drop (i + k) s))) (slice-empty i s)) em ep
+    sets-on out o (decode (drop i s)) replacement (decode (drop (i + k) s)) m p (r .split (b .some) ∙ ap (λ (l : List ℕ). l ++ (replacement ++ decode (drop (i + k) s))) (slice-empty i s)) em ep

@@ -1,7 +1,7 @@
 // The class of each byte: the row of Table 3-7 of the Unicode Standard that it begins, from 1; of one that begins none 10, 11 or 12 where it
 // is 80..8F, 90..9F or A0..BF, and else 0.
 ghost use mathlib.Core.Path.{_≡_};
-ghost use Rattle.core.specs.Utf8.{byteClass};
+ghost use Rattle.core.specs.Utf8.{byteClass, Classes};
 
 // The compiler builds a table wherever the code names it. So a function that needs many classes names it once and passes it on.
 pub(crate) const CLASSES: [u8; 256] = [
@@ -263,8 +263,17 @@ pub(crate) const CLASSES: [u8; 256] = [
     0,
 ];
 
+// A byte's class, by a table that is there.
+pub(crate) fn class_in(classes: &[u8; 256], b: u8) -> u8
+    requires { ⌜ Classes (now classes) ⌝ }
+    ensures { λ r. ⌜ r ≡ byteClass b ⌝ }
+{
+    classes[b as usize]
+}
+
 pub fn class_of(b: u8) -> u8
     ensures { λ r. ⌜ r ≡ byteClass b ⌝ }
 {
-    CLASSES[b as usize]
+    let classes = CLASSES;
+    class_in(&classes, b)
 }

@@ -4,6 +4,7 @@ ghost use Prim.Native.Nat.{_≤_};
 ghost use lib.ListN.{length};
 ghost use Rattle.core.specs.Utf8.{Classes};
 ghost use Rattle.core.specs.Flow.{stateAfter, stateOf, State, Rows, Flow};
+use crate::utf8::class::class_in;
 
 // For each class of a byte the states behind it, six bits for each state before it. A state is held as six times its number, so that it is
 // the shift.
@@ -31,7 +32,7 @@ pub(crate) fn next_state(state: u64, b: u8, classes: &[u8; 256], rows: &[u64; 16
     requires { ⌜ State state × Classes (now classes) × Rows (now rows) ⌝ }
     ensures { λ r. ⌜ State r × (stateOf r ≡ stateAfter (stateOf state) b) ⌝ }
 {
-    let c = classes[b as usize];
+    let c = class_in(classes, b);
     rows[c as usize] >> (state % 64)
 }
 

@@ -1,13 +1,12 @@
 // ASCII, and the characters from a position on, up to the first ill-formed subpart.
 ghost use mathlib.Core.Path.{_≡_};
 ghost use mathlib.Core.Bool.{true};
-ghost use Prim.Native.Nat.{ℕ, _+_, _≤_, _<_};
+ghost use Prim.Native.Nat.{ℕ, _+_, _≤_, _<_, max};
 ghost use lib.ListN.{length, getD, drop};
 ghost use Rattle.core.specs.Utf8.{Classes, sound, illSize};
 ghost use Rattle.core.specs.Flow.{stateOf, Rows, Flow};
 use crate::utf8::flow::flow_over;
-use crate::utf8::step::Step;
-use crate::utf8::step::step_at;
+use crate::utf8::flow::next_state;
 
 // The end of the characters, and the number of bytes of the ill-formed subpart there; 0 at the text's end.
 pub struct Run {
@@ -51,11 +50,9 @@ fn ascii_ends(s: &[u8], size: usize) -> bool
     requires { ⌜ (size ≤ length (now s)) × (length (now s) ≤ size + size) ⌝ }
     ensures { λ r. ⌜ (r ≡ true → (k : ℕ) → k < length (now (s .entry)) → getD (now (s .entry)) k 0 < 128) ⌝ }
 {
-    if ascii_in(s, 0, size) {
-        ascii_in(s, s.len() - size, size)
-    } else {
-        false
-    }
+    let first = ascii_in(s, 0, size);
+    let last = ascii_in(s, s.len() - size, size);
+    first & last
 }
 
 // and of any.
@@ -134,35 +131,52 @@ fn blocks(s: &[u8], from: usize, classes: &[u8; 256], rows: &[u64; 16]) -> usize
     last_block(s, good, j, q, classes, rows)
 }
 
-// Character by character, until `stop` is reached or an ill-formed subpart is met.
-fn walk(s: &[u8], from: usize, stop: usize, classes: &[u8; 256]) -> Run
-    requires { ⌜ (from ≤ length (now s)) × (stop ≤ length (now s)) × Classes (now classes) ⌝ }
+fn at_least_one(n: usize) -> usize
+    ensures { λ r. ⌜ r ≡ max n 1 ⌝ }
+{
+    if n == 0 { 1 } else { n }
+}
+
+// Byte by byte, until `stop` is reached or an ill-formed subpart is met. `i` is where the character starts that `j` stands in.
+fn walk(s: &[u8], from: usize, stop: usize, classes: &[u8; 256], rows: &[u64; 16]) -> Run
+    requires { ⌜ (from ≤ stop) × (stop ≤ length (now s)) × Classes (now classes) × Rows (now rows) ⌝ }
     ensures { λ r. ⌜ (from ≤ r .end) × (r .end ≤ length (now (s .entry)))
         × (r .end + sound (drop (r .end) (now (s .entry))) ≡ from + sound (drop from (now (s .entry))))
-        × (r .skip ≡ 0 → stop ≤ r .end)
+        × (r .skip ≡ 0 → stop ≡ length (now (s .entry)) → stop ≤ r .end)
         × (0 < r .skip → (r .skip ≡ illSize (drop (r .end) (now (s .entry)))) × (sound (drop (r .end) (now (s .entry))) ≡ 0)) ⌝ }
 {
     let mut i = from;
-    while i < stop {
-        match step_at(s, i, classes) {
-            Step::Good(k) => {
-                i += k;
-            }
-            Step::Bad(k) => {
-                return Run { end: i, skip: k };
-            }
+    let mut j = from;
+    let mut q: u64 = 0;
+    while j < stop {
+        q = next_state(q, s[j], classes, rows);
+        if q % 64 == 6 {
+            return Run {
+                end: i,
+                skip: at_least_one(j - i),
+            };
         }
+        j += 1;
+        if q % 64 == 0 {
+            i = j;
+        }
+    }
+    if j == s.len() {
+        return Run {
+            end: i,
+            skip: j - i,
+        };
     }
     Run { end: i, skip: 0 }
 }
 
-// The rest of a text, by blocks; what is left of them character by character.
+// The rest of a text, by blocks; what is left of them byte by byte.
 fn far_run(s: &[u8], from: usize, classes: &[u8; 256], rows: &[u64; 16]) -> Run
     requires { ⌜ (from ≤ length (now s)) × Classes (now classes) × Rows (now rows) ⌝ }
     ensures { λ r. ⌜ (r .end ≡ from + sound (drop from (now (s .entry)))) × (r .skip ≡ illSize (drop (r .end) (now (s .entry)))) ⌝ }
 {
     let e = blocks(s, from, classes, rows);
-    walk(s, e, s.len(), classes)
+    walk(s, e, s.len(), classes, rows)
 }
 
 // A place eight bytes on, or the end.
@@ -173,7 +187,7 @@ fn near(from: usize, size: usize) -> usize
     if size - from < 8 { size } else { from + 8 }
 }
 
-// Behind an ill-formed subpart a few characters one by one first: where there are many of them, the blocks would be tried in vain.
+// Behind an ill-formed subpart a few bytes one by one first: where there are many of them, the blocks would be tried in vain.
 pub(crate) fn next_run(s: &[u8], from: usize, classes: &[u8; 256], rows: &[u64; 16]) -> Run
     requires { ⌜ (from ≤ length (now s)) × Classes (now classes) × Rows (now rows) ⌝ }
     ensures { λ r. ⌜ (r .end ≡ from + sound (drop from (now (s .entry)))) × (r .skip ≡ illSize (drop (r .end) (now (s .entry)))) ⌝ }
@@ -182,7 +196,7 @@ pub(crate) fn next_run(s: &[u8], from: usize, classes: &[u8; 256], rows: &[u64; 
         return far_run(s, from, classes, rows);
     }
     let stop = near(from, s.len());
-    let run = walk(s, from, stop, classes);
+    let run = walk(s, from, stop, classes, rows);
     let end = run.end;
     if run.skip != 0 {
         return run;

@@ -6,6 +6,7 @@ ghost use lib.Dec.{eqb};
 ghost use lib.ListN.{length, getD, drop};
 ghost use Rattle.core.specs.Choice.{pick};
 ghost use Rattle.core.specs.Utf8.{range, tail, within, Classes, matched, stepOf};
+use crate::utf8::class::class_in;
 
 // A piece, by its number of bytes.
 pub enum Step {
@@ -79,7 +80,7 @@ pub(crate) fn step_at(s: &[u8], at: usize, classes: &[u8; 256]) -> Step
     if b < 128 {
         return Step::Good(1);
     }
-    let c = classes[b as usize];
+    let c = class_in(classes, b);
     let next = at + 1;
     match c {
         1 => Step::Good(1),

@@ -1,13 +1,15 @@
 -- `utf8::decode_plain` meets its contract.
 -- Assumes nothing.
-use Rattle.core.proofs.utf8.Tables.{classTable, classes-right}
+use mathlib.Core.Path.{refl}
+use Rattle.core.specs.Utf8.{rows, within, classOf, byteClass}
+use Rattle.core.proofs.utf8.Tables.{classTest, classes-by}
 use borrow.Author.Needs.{needs}
 use Rattle.core.proofs.utf8.decode_plain.Statement.{statement}
 use Rattle.core.proofs.utf8.decode_plain.Tie as tie
 
 decode-steps-requires : tie.Need-decode-steps-requires
-unfolding classTable
-decode-steps-requires c κs = classes-right
+unfolding classTest byteClass classOf rows within
+decode-steps-requires c κs = classes-by _ refl tt
 
 same-length : tie.Need-same-length
 same-length c = search needs

@@ -6,7 +6,7 @@ use native.Mathlib.Omega.{arith}
 use mathlib.Core.List.{List}
 use denote.Ref.{now}
 use lib.ListN.{length, drop}
-use lib.Seq.{sets, slice}
+use lib.Seq.{sets}
 use Rattle.core.specs.Utf8.{decode}
 use Rattle.core.proofs.utf8.Turns.{part-is, RunAt, run-at, Counted, counted-start, counted-run, counted-last, counted-size, sets-run}
 use borrow.Author.Needs.{needs}
@@ -25,73 +25,59 @@ run c = run-at _ _ _ _ (c .before .loop .inv .0 .0) (c .next-run .ensures .0) (c
 some : (n : ℕ) → (n ≡ 0 → ⊥) → 0 < n
 some n h = omega arith
 
-copied : (c : tie.After-copy Inv-loop μ-loop) → c .copy .last .1 .0 ≡ sets (c .before .before .before .before .loop .out) (c .before .before .before .before .loop .o) (slice (c .before .before .before .before .loop .i) (c .before .before .before .next-run .result .end) (now (c .before .before .before .before .before .before .before .args .text)))
-copied c =
-    let r = run (c .before .before .before) in
-    c .copy .ensures ∙ ap (λ (l : List ℕ). sets (c .before .before .before .before .loop .out) (c .before .before .before .before .loop .o) l) (part-is _ _ _ (r .start))
-
 loop-holds : tie.Need-loop-holds Inv-loop μ-loop
 loop-holds c = (counted-start _, refl, refl)
 
 next-run-requires : tie.Need-next-run-requires Inv-loop μ-loop
 next-run-requires c κs = (c .loop .inv .0 .0, c .before .before .before .pre .0, c .before .before .before .pre .1)
 
-sub-copy : tie.Need-sub-copy Inv-loop μ-loop
-sub-copy c = let r = run c in omega (arith, r .start)
+sub-copy-on : tie.Need-sub-copy-on Inv-loop μ-loop
+sub-copy-on c = let r = run c in omega (arith, r .start)
 
-part-copy-start : tie.Need-part-copy-start Inv-loop μ-loop
-part-copy-start c = let r = run c in omega (arith, r .start)
+part-copy-on-start : tie.Need-part-copy-on-start Inv-loop μ-loop
+part-copy-on-start c = let r = run c in omega (arith, r .start)
 
-part-copy-end : tie.Need-part-copy-end Inv-loop μ-loop
-part-copy-end c = let r = run c in omega (arith, r .reach)
+part-copy-on-end : tie.Need-part-copy-on-end Inv-loop μ-loop
+part-copy-on-end c = let r = run c in omega (arith, r .reach)
 
-copy-requires : tie.Need-copy-requires Inv-loop μ-loop
-copy-requires c κs = search needs
+copy-on-requires : tie.Need-copy-on-requires Inv-loop μ-loop
+copy-on-requires c κs = search needs
 
 total-requires : tie.Need-total-requires Inv-loop μ-loop
 total-requires c κs = search needs
 
 same-length : tie.Need-same-length Inv-loop μ-loop
-same-length c = c .before .before .before .before .copy .kept .1 .0 ∙ c .before .before .before .before .before .before .before .before .loop .inv .1
+same-length c = c .before .before .before .before .copy-on .kept .1 .0 ∙ c .before .before .before .before .before .before .before .before .loop .inv .1
 
 returns : tie.Need-returns Inv-loop μ-loop
 returns c =
     let r = run (c .before .before .before .before .before .before .before) in (
       counted-size _ _ _ (counted-last _ _ _ _ _ (c .before .before .before .before .before .before .before .before .loop .inv .0) r (c .before .if1 .taken)) (c .total .ensures),
-      copied (c .before .before .before .before) ∙ ap (λ (l : List ℕ). sets (c .before .before .before .before .before .before .before .before .loop .out) (c .before .before .before .before .before .before .before .before .loop .o) l) (sym (r .whole (c .before .if1 .taken))) ∙ c .before .before .before .before .before .before .before .before .loop .inv .2,
+      c .before .before .before .before .copy-on .ensures .0 ∙ ap (λ (l : List ℕ). sets (c .before .before .before .before .before .before .before .before .loop .out) (c .before .before .before .before .before .before .before .before .loop .o) l) (part-is _ _ _ (r .start) ∙ sym (r .whole (c .before .if1 .taken))) ∙ c .before .before .before .before .before .before .before .before .loop .inv .2,
     )
-
-sub-moved : tie.Need-sub-moved Inv-loop μ-loop
-sub-moved c = search needs
-
-moved-requires : tie.Need-moved-requires Inv-loop μ-loop
-moved-requires c κs = search needs
 
 put-replacement-requires : tie.Need-put-replacement-requires Inv-loop μ-loop
 put-replacement-requires c κs = search needs
 
-moved-requires-2 : tie.Need-moved-requires-2 Inv-loop μ-loop
-moved-requires-2 c κs = search needs
-
 sub-grown : tie.Need-sub-grown Inv-loop μ-loop
-sub-grown c = let r = run (c .before .before .before .before .before .before .before .before .before .before .before .before) in omega (arith, r .short)
+sub-grown c = let r = run (c .before .before .before .before .before .before .before .before .before .before) in omega (arith, r .short)
 
 add-grown : tie.Need-add-grown Inv-loop μ-loop
-add-grown c = let k = counted-run _ _ _ _ _ (c .before .before .before .before .before .before .before .before .before .before .before .before .before .loop .inv .0) (run (c .before .before .before .before .before .before .before .before .before .before .before .before)) (some _ (c .before .before .before .before .before .before .if1 .left)) in omega (arith, k .0, k .2, c .before .before .before .before .before .before .before .before .before .before .before .before .before .before .before .before .good)
+add-grown c = let k = counted-run _ _ _ _ _ (c .before .before .before .before .before .before .before .before .before .before .before .loop .inv .0) (run (c .before .before .before .before .before .before .before .before .before .before)) (some _ (c .before .before .before .before .if1 .left)) in omega (arith, k .0, k .2, c .before .before .before .before .before .before .before .before .before .before .before .before .before .before .good)
 
 add-i : tie.Need-add-i Inv-loop μ-loop
-add-i c = let r = (run (c .before .before .before .before .before .before .before .before .before .before .before .before)) in omega (arith, r .reach)
+add-i c = let r = run (c .before .before .before .before .before .before .before .before .before .before) in omega (arith, r .reach)
 
 loop-less : tie.Need-loop-less Inv-loop μ-loop
-loop-less c = let r = (run (c .before .before .before .before .before .before .before .before .before .before .before .before)) in let s = some _ (c .before .before .before .before .before .before .if1 .left) in omega (arith, r .start, r .reach, s)
+loop-less c = let r = run (c .before .before .before .before .before .before .before .before .before .before) in let s = some _ (c .before .before .before .before .if1 .left) in omega (arith, r .start, r .reach, s)
 
 loop-again : tie.Need-loop-again Inv-loop μ-loop
 loop-again c =
-    let r = (run (c .before .before .before .before .before .before .before .before .before .before .before .before)) in
-    let h = some _ (c .before .before .before .before .before .before .if1 .left) in (
-      counted-run _ _ _ _ _ (c .before .before .before .before .before .before .before .before .before .before .before .before .before .loop .inv .0) r h,
-      c .before .before .before .put-replacement .kept .0 ∙ c .before .before .before .before .before .before .before .before .before .copy .kept .1 .0 ∙ c .before .before .before .before .before .before .before .before .before .before .before .before .before .loop .inv .1,
-      sets-run _ _ _ _ _ _ _ _ _ _ _ r h refl (copied (c .before .before .before .before .before .before .before .before .before)) (c .before .before .before .before .before .moved .ensures) (c .before .before .before .put-replacement .ensures) (c .moved2 .ensures) ∙ c .before .before .before .before .before .before .before .before .before .before .before .before .before .loop .inv .2,
+    let r = run (c .before .before .before .before .before .before .before .before .before .before) in
+    let h = some _ (c .before .before .before .before .if1 .left) in (
+      counted-run _ _ _ _ _ (c .before .before .before .before .before .before .before .before .before .before .before .loop .inv .0) r h,
+      c .before .before .put-replacement .kept .0 ∙ c .before .before .before .before .before .before .before .copy-on .kept .1 .0 ∙ c .before .before .before .before .before .before .before .before .before .before .before .loop .inv .1,
+      sets-run _ _ _ _ _ _ _ _ _ _ _ r h (part-is _ _ _ (r .start)) (c .before .before .before .before .before .before .before .copy-on .ensures .0) (c .before .before .before .before .before .before .before .copy-on .ensures .1) (c .before .before .put-replacement .ensures .0) (c .before .before .put-replacement .ensures .1) ∙ c .before .before .before .before .before .before .before .before .before .before .before .loop .inv .2,
     )
 
 pub decode-runs-spec : {M : Type 1} → statement M
@@ -102,17 +88,14 @@ decode-runs-spec =
     μ-loop
     loop-holds
     next-run-requires
-    sub-copy
-    part-copy-start
-    part-copy-end
-    copy-requires
+    sub-copy-on
+    part-copy-on-start
+    part-copy-on-end
+    copy-on-requires
     total-requires
     same-length
     returns
-    sub-moved
-    moved-requires
     put-replacement-requires
-    moved-requires-2
     sub-grown
     add-grown
     add-i

@@ -37,31 +37,28 @@ enum-known-k c = c .match .keys1
 add-next : tie.Need-add-next Inv-loop μ-loop
 add-next c = let g = good-arm c in omega (arith, g .reach)
 
-sub-copy : tie.Need-sub-copy Inv-loop μ-loop
-sub-copy c = let g = good-arm c in omega (arith, g .some)
+sub-copy-on : tie.Need-sub-copy-on Inv-loop μ-loop
+sub-copy-on c = let g = good-arm c in omega (arith, g .some)
 
-part-copy-start : tie.Need-part-copy-start Inv-loop μ-loop
-part-copy-start c = let g = good-arm c in omega (arith, g .some)
+part-copy-on-start : tie.Need-part-copy-on-start Inv-loop μ-loop
+part-copy-on-start c = let g = good-arm c in omega (arith, g .some)
 
-part-copy-end : tie.Need-part-copy-end Inv-loop μ-loop
-part-copy-end c = let g = good-arm c in omega (arith, g .reach)
+part-copy-on-end : tie.Need-part-copy-on-end Inv-loop μ-loop
+part-copy-on-end c = let g = good-arm c in omega (arith, g .reach)
 
-copy-requires : tie.Need-copy-requires Inv-loop μ-loop
-copy-requires c κs = search needs
-
-moved-requires : tie.Need-moved-requires Inv-loop μ-loop
-moved-requires c κs = search needs
+copy-on-requires : tie.Need-copy-on-requires Inv-loop μ-loop
+copy-on-requires c κs = search needs
 
 loop-less : tie.Need-loop-less Inv-loop μ-loop
-loop-less c = let g = good-arm (c .before .before .before .before .before .before) in omega (arith, g .some, g .reach)
+loop-less c = let g = good-arm (c .before .before .before .before .before) in omega (arith, g .some, g .reach)
 
 loop-again : tie.Need-loop-again Inv-loop μ-loop
 loop-again c =
-    let h : c .before .before .before .before .before .before .before .before .before .before .before .loop .i ≤ c .before .before .before .before .before .before .before .before .before .before .before .loop .i + c .before .before .before .before .before .before .before .k .given .0 .0 = omega arith in
-    let g = good-arm (c .before .before .before .before .before .before) in (
-      counted-good _ _ _ _ (c .before .before .before .before .before .before .before .before .before .before .before .loop .inv .0) g,
-      c .before .before .before .copy .kept .1 .0 ∙ c .before .before .before .before .before .before .before .before .before .before .before .loop .inv .1,
-      sets-good _ _ _ _ _ _ _ _ g (part-is _ _ _ h) (c .before .before .before .copy .ensures) (c .moved .ensures) ∙ c .before .before .before .before .before .before .before .before .before .before .before .loop .inv .2,
+    let h : c .before .before .before .before .before .before .before .before .before .before .loop .i ≤ c .before .before .before .before .before .before .before .before .before .before .loop .i + c .before .before .before .before .before .before .k .given .0 .0 = omega arith in
+    let g = good-arm (c .before .before .before .before .before) in (
+      counted-good _ _ _ _ (c .before .before .before .before .before .before .before .before .before .before .loop .inv .0) g,
+      c .before .before .copy-on .kept .1 .0 ∙ c .before .before .before .before .before .before .before .before .before .before .loop .inv .1,
+      sets-good _ _ _ _ _ _ _ _ g (part-is _ _ _ h) (c .before .before .copy-on .ensures .0) (c .before .before .copy-on .ensures .1) ∙ c .before .before .before .before .before .before .before .before .before .before .loop .inv .2,
     )
 
 enum-known-k-2 : tie.Need-enum-known-k-2 Inv-loop μ-loop
@@ -70,27 +67,24 @@ enum-known-k-2 c = c .match .keys2
 put-replacement-requires : tie.Need-put-replacement-requires Inv-loop μ-loop
 put-replacement-requires c κs = search needs
 
-moved-requires-2 : tie.Need-moved-requires-2 Inv-loop μ-loop
-moved-requires-2 c κs = search needs
-
 sub-grown : tie.Need-sub-grown Inv-loop μ-loop
-sub-grown c = let b = run-bad _ _ _ (bad-arm (c .before .before .before .before .before)) in omega (arith, b .short)
+sub-grown c = let b = run-bad _ _ _ (bad-arm (c .before .before .before .before)) in omega (arith, b .short)
 
 add-grown : tie.Need-add-grown Inv-loop μ-loop
-add-grown c = let b = bad-arm (c .before .before .before .before .before) in let k = counted-run _ _ _ _ _ (c .before .before .before .before .before .before .before .before .before .before .loop .inv .0) (run-bad _ _ _ b) (b .some) in omega (arith, k .0, k .2, c .before .before .before .before .before .before .before .before .before .before .before .before .before .good)
+add-grown c = let b = bad-arm (c .before .before .before .before) in let k = counted-run _ _ _ _ _ (c .before .before .before .before .before .before .before .before .before .loop .inv .0) (run-bad _ _ _ b) (b .some) in omega (arith, k .0, k .2, c .before .before .before .before .before .before .before .before .before .before .before .before .good)
 
 add-i : tie.Need-add-i Inv-loop μ-loop
-add-i c = let b = bad-arm (c .before .before .before .before .before) in omega (arith, b .reach)
+add-i c = let b = bad-arm (c .before .before .before .before) in omega (arith, b .reach)
 
 loop-less-2 : tie.Need-loop-less-2 Inv-loop μ-loop
-loop-less-2 c = let b = bad-arm (c .before .before .before .before .before) in omega (arith, b .some, b .reach)
+loop-less-2 c = let b = bad-arm (c .before .before .before .before) in omega (arith, b .some, b .reach)
 
 loop-again-2 : tie.Need-loop-again-2 Inv-loop μ-loop
 loop-again-2 c =
-    let b = bad-arm (c .before .before .before .before .before) in (
-      counted-run _ _ _ _ _ (c .before .before .before .before .before .before .before .before .before .before .loop .inv .0) (run-bad _ _ _ b) (b .some),
-      c .before .before .before .put-replacement .kept .0 ∙ c .before .before .before .before .before .before .before .before .before .before .loop .inv .1,
-      sets-bad _ _ _ _ _ _ _ b (c .before .before .before .put-replacement .ensures) (c .moved2 .ensures) ∙ c .before .before .before .before .before .before .before .before .before .before .loop .inv .2,
+    let b = bad-arm (c .before .before .before .before) in (
+      counted-run _ _ _ _ _ (c .before .before .before .before .before .before .before .before .before .loop .inv .0) (run-bad _ _ _ b) (b .some),
+      c .before .before .put-replacement .kept .0 ∙ c .before .before .before .before .before .before .before .before .before .loop .inv .1,
+      sets-bad _ _ _ _ _ _ _ b (c .before .before .put-replacement .ensures .0) (c .before .before .put-replacement .ensures .1) ∙ c .before .before .before .before .before .before .before .before .before .loop .inv .2,
     )
 
 total-requires : tie.Need-total-requires Inv-loop μ-loop
@@ -115,16 +109,14 @@ decode-steps-spec =
     step-at-requires
     enum-known-k
     add-next
-    sub-copy
-    part-copy-start
-    part-copy-end
-    copy-requires
-    moved-requires
+    sub-copy-on
+    part-copy-on-start
+    part-copy-on-end
+    copy-on-requires
     loop-less
     loop-again
     enum-known-k-2
     put-replacement-requires
-    moved-requires-2
     sub-grown
     add-grown
     add-i

@@ -36,11 +36,14 @@ add-out-2 c = search needs
 slice-write-out-3 : tie.Need-slice-write-out-3
 slice-write-out-3 c = simp length-set (omega arith)
 
+add-result : tie.Need-add-result
+add-result c = search needs
+
 same-length-2 : tie.Need-same-length-2
 same-length-2 c = search needs
 
 returns-2 : tie.Need-returns-2
-returns-2 c = let e : (c .before .before .before .args .at) + 2 ≡ suc (suc (c .before .before .before .args .at)) = omega arith in rw (add-one, e)
+returns-2 c = let e : c .before .before .before .args .at + 2 ≡ suc (suc (c .before .before .before .args .at)) = omega arith in (rw (add-one, e), omega arith)
 
 pub put-replacement-spec : {M : Type 1} → statement M
 put-replacement-spec =
@@ -55,5 +58,6 @@ put-replacement-spec =
     slice-write-out-2
     add-out-2
     slice-write-out-3
+    add-result
     same-length-2
     returns-2)

@@ -1,16 +1,18 @@
--- `utf8::class::class_of` meets its contract.
+-- `utf8::class::class_of` meets its contract: the table's rule is computed.
 -- Assumes nothing.
-use Rattle.core.proofs.utf8.Tables.{classTable, classes-right}
+use mathlib.Core.Path.{refl}
+use Rattle.core.specs.Utf8.{rows, within, classOf, byteClass}
+use Rattle.core.proofs.utf8.Tables.{classTest, classes-by}
 use borrow.Author.Needs.{needs}
 use Rattle.core.proofs.utf8.class.class_of.Statement.{statement}
 use Rattle.core.proofs.utf8.class.class_of.Tie as tie
 
-array-read-result : tie.Need-array-read-result
-array-read-result c = search needs
+class-in-requires : tie.Need-class-in-requires
+unfolding classTest byteClass classOf rows within
+class-in-requires c κs = classes-by _ refl tt
 
 returns : tie.Need-returns
-unfolding classTable
-returns c = classes-right .entry (c .args .b) (search needs)
+returns c = search needs
 
 pub class-of-spec : {M : Type 1} → statement M
-class-of-spec = tie.close (tie.spec array-read-result returns)
+class-of-spec = tie.close (tie.spec class-in-requires returns)
