@@ -1,7 +1,7 @@
 -- Runs of stores, `sets l o v`: cut in two, past the end, one over another, and what they leave.
 -- Assumes nothing.
 use Prim.Native.Nat.{ℕ, zero, suc, _+_, _-_, _<_, _≤_, min}
-use mathlib.Core.Path.{_≡_, refl, sym, _∙_}
+use mathlib.Core.Path.{_≡_, refl, ap, sym, _∙_}
 use mathlib.Core.List.{List, [], _∷_, _++_}
 use mathlib.Core.Bool.{Bool, true, false}
 use borrow.Author.Tests.{leb-true, leb-false}
@@ -10,7 +10,7 @@ use native.Mathlib.Nat.{add-zero, add-suc, suc-add}
 use native.Mathlib.Numerals.{add-one}
 use native.Mathlib.Omega.{arith}
 use lib.ListN.{length, getD, set, length-set}
-use lib.Seq.{sets, slice, slice-cons, set-out, getD-set-same, getD-set-other, set-comm, set-set}
+use lib.Seq.{sets, length-sets, slice, slice-cons, set-out, getD-set-same, getD-set-other, set-comm, set-set}
 
 -- a run, cut in two
 pub sets-append : (l : List ℕ) (o : ℕ) (a b : List ℕ) → sets l o (a ++ b) ≡ sets (sets l o a) (o + length a) b
@@ -47,13 +47,15 @@ pub sets-set : (l : List ℕ) (o : ℕ) (v : List ℕ) (i x : ℕ) → i < o →
 sets-set l o [] i x h = refl
 sets-set l o (y ∷ v) i x h = rw (set-comm l i o x y (λ e. omega arith)) (sets-set (set l o y) (suc o) v i x (omega arith))
 
--- of two runs of one length at one place the later stands
+-- of two runs at one place the later stands, where it is as long
+pub sets-over : (l : List ℕ) (o : ℕ) (v w : List ℕ) → length v ≤ length w → sets (sets l o v) o w ≡ sets l o w
+sets-over l o [] w e = refl
+sets-over l o (x ∷ v) [] e = absurd (omega arith)
+sets-over l o (x ∷ v) (y ∷ w) e =
+    rw (← sets-set (set l o x) (suc o) v o y (omega arith), set-set l o x y) (sets-over (set l o y) (suc o) v w (omega arith))
+
 pub sets-sets : (l : List ℕ) (o : ℕ) (v w : List ℕ) → length v ≡ length w → sets (sets l o v) o w ≡ sets l o w
-sets-sets l o [] [] e = refl
-sets-sets l o [] (y ∷ w) e = absurd (omega arith)
-sets-sets l o (x ∷ v) [] e = absurd (omega arith)
-sets-sets l o (x ∷ v) (y ∷ w) e =
-    rw (← sets-set (set l o x) (suc o) v o y (omega arith), set-set l o x y) (sets-sets (set l o y) (suc o) v w (omega arith))
+sets-sets l o v w e = sets-over l o v w (omega arith)
 
 -- a loop's turn: v is still to be stored from o, and the turn stores a, its first part
 pub sets-turn : (l : List ℕ) (o : ℕ) (v a b m : List ℕ) (p : ℕ) → v ≡ a ++ b → m ≡ sets l o a → p ≡ o + length a → sets m p b ≡ sets l o v
@@ -63,12 +65,16 @@ sets-turn l o v a b m p ev em ep = rw (ev, em, ep) (sym (sets-append l o a b))
 pub sets-step : (l : List ℕ) (o i to : ℕ) (s : List ℕ) → i < to → to ≤ length s → sets l o (slice i to s) ≡ sets (set l o (getD s i 0)) (o + 1) (slice (i + 1) to s)
 sets-step l o i to s h k = rw (add-one i, add-one o, slice-cons i to s 0 h k)
 
--- a turn that moves on by what it stored, but not past the end
-pub sets-moved : (l : List ℕ) (o : ℕ) (v a b m : List ℕ) (p : ℕ) → v ≡ a ++ b → m ≡ sets l o a → p ≡ min (o + length a) (length m) → sets m p b ≡ sets l o v
-sets-moved l o v a b m p ev em ep = go (leb (o + length a) (length m)) refl
+-- a turn that moves on by what it stored
+pub sets-on : (l : List ℕ) (o : ℕ) (v a b m : List ℕ) (p : ℕ) → v ≡ a ++ b → m ≡ sets l o a → p ≡ o + min (length a) (length l - o) → sets m p b ≡ sets l o v
+sets-on l o v a b m p ev em ep = go (leb (length a) (length l - o)) refl
   where
-    go : (t : Bool) → leb (o + length a) (length m) ≡ t → sets m p b ≡ sets l o v
-    go true e = let h = leb-true (o + length a) (length m) e in sets-turn l o v a b m p ev em (omega arith)
+    n : length m ≡ length l
+    n = ap length em ∙ length-sets l o a
+
+    go : (t : Bool) → leb (length a) (length l - o) ≡ t → sets m p b ≡ sets l o v
+    go true e = let h = leb-true (length a) (length l - o) e in sets-turn l o v a b m p ev em (omega arith)
     go false e =
-        let h = leb-false (o + length a) (length m) e in
+        let h = leb-false (length a) (length l - o) e in
+        let k = n in
         sets-at-end m p (o + length a) b (omega arith) (omega arith) ∙ sets-turn l o v a b m (o + length a) ev em refl

@@ -4,13 +4,13 @@ use Prim.Native.Nat.{ℕ, zero, suc, _+_, _-_, _<_, _≤_, min}
 use mathlib.Core.Path.{_≡_, refl, sym, ap, _∙_}
 use mathlib.Core.Bool.{Bool, true, false, not, _&&_, and-assoc, and-true, true≢false}
 use mathlib.Core.List.{List, [], _∷_, _++_}
-use native.Mathlib.Nat.{zero-add, add-zero}
+use native.Mathlib.Nat.{zero-add, add-zero, suc-add}
 use native.Mathlib.Numerals.{add-one}
 use native.Mathlib.Omega.{arith}
-use borrow.Author.Tests.{eq-eqb, ne-eqb, eqb-true, eqb-false, ltb-true, ltb-false, lt-ltb}
-use lib.Dec.{eqb, ltb}
+use borrow.Author.Tests.{eq-eqb, ne-eqb, eqb-true, eqb-false, ltb-true, ltb-false, lt-ltb, leb-true, leb-false}
+use lib.Dec.{eqb, ltb, leb}
 use lib.ListN.{length, getD, take, drop, length-append, length-take, length-drop, take-append-drop, drop-of-length-le}
-use lib.Seq.{drop-cons, drop-drop}
+use lib.Seq.{drop-cons, drop-drop, getD-drop}
 use Rattle.core.specs.Choice.{pick}
 use Rattle.core.specs.Text.{beforeZero, zeroFree, fixedOf, endedOf}
 use Rattle.core.specs.declared.text.TextAt.the-variants.{Text, Past, Unended}
@@ -115,6 +115,68 @@ zero-block s i k h e =
     let l : length (take k (drop i s)) ≡ k = simp (length-take, length-drop) (omega arith) in
     ap beforeZero (sym (take-append-drop k (drop i s))) ∙ before-free (take k (drop i s)) (drop k (drop i s)) (none-free _ e)
     ∙ rw (l, drop-drop)
+
+-- no zero stands before a place, by that place or by the bytes up to it
+pub before-skip : (s : List ℕ) (k : ℕ) → k ≤ beforeZero s → beforeZero s ≡ k + beforeZero (drop k s)
+before-skip s zero h = sym (zero-add _)
+before-skip [] (suc k) h = absurd (unfold beforeZero in omega arith)
+before-skip (b ∷ bs) (suc k) h =
+    by-byte b (λ e. absurd (omega (arith, before-zero b bs e)))
+    (λ e. before-other b bs e ∙ ap suc (before-skip bs k (omega (arith, before-other b bs e))) ∙ sym (suc-add k (beforeZero (drop k bs))))
+
+free-take : (n : ℕ) (s : List ℕ) → n ≤ beforeZero s → zeroFree (take n s) ≡ true
+free-take zero s h = unfold zeroFree in refl
+free-take (suc n) [] h = absurd (unfold beforeZero in omega arith)
+free-take (suc n) (b ∷ bs) h =
+    by-byte b (λ e. absurd (omega (arith, before-zero b bs e)))
+    (λ e. free-other b (take n bs) e ∙ free-take n bs (omega (arith, before-other b bs e)))
+
+-- a block from a place on that no zero stands before
+pub block-free : (s : List ℕ) (at n : ℕ) → at ≤ beforeZero s → at + n ≤ length s → zeroFree (take n (drop at s)) ≡ true → at + n ≤ beforeZero s
+block-free s at n h k e = omega (arith, before-skip s at h, zero-block s at n k e)
+
+pub block-zero : (s : List ℕ) (at n : ℕ) → at ≤ beforeZero s → zeroFree (take n (drop at s)) ≡ false → beforeZero s < at + n
+block-zero s at n h e = go (leb (at + n) (beforeZero s)) refl
+  where
+    go : (t : Bool) → leb (at + n) (beforeZero s) ≡ t → beforeZero s < at + n
+    go true q =
+        let l = leb-true (at + n) (beforeZero s) q in
+        let f = free-take n (drop at s) (omega (arith, before-skip s at h)) in
+        let z : true ≡ false = sym f ∙ e in
+        absurd (true≢false z)
+    go false q = leb-false (at + n) (beforeZero s) q
+
+-- a turn of a loop that counts the bytes before a zero: `one` is what a byte more counts, 0 behind a zero
+counting-off : (z k n one : ℕ) → z ≤ k → n ≡ min k z → (n + 0 ≡ min (k + 1) z) × (0 ≡ min 1 (suc z - (k + 1)))
+counting-off z k n one h e = (omega arith, omega arith)
+
+counting-on : (z k n one : ℕ) → (k ≡ z → ⊥) → n ≡ min k z → one ≡ min 1 (suc z - k) → (n + one ≡ min (k + 1) z) × (one ≡ min 1 (suc z - (k + 1)))
+counting-on z k n one x en eo = go (ltb k z) refl
+  where
+    go : (t : Bool) → ltb k z ≡ t → (n + one ≡ min (k + 1) z) × (one ≡ min 1 (suc z - (k + 1)))
+    go true q = let l = ltb-true k z q in let a : one ≡ 1 = omega arith in let b : n ≡ k = omega arith in (omega (arith, a, b, l), omega (arith, a, l))
+    go false q = let l = ltb-false k z q in let m : z < k = omega arith in let a : one ≡ 0 = omega (arith, eo, m) in let b : n ≡ z = omega (arith, en, m) in (omega (arith, a, b, m), omega (arith, a, m))
+
+pub count-turn : (s : List ℕ) (at k n one m : ℕ) → at + k < length s → n ≡ min k (beforeZero (drop at s)) → one ≡ min 1 (suc (beforeZero (drop at s)) - k)
+    → m ≡ pick (eqb (getD s (at + k) 0) 0) 0 one → (n + m ≡ min (k + 1) (beforeZero (drop at s))) × (m ≡ min 1 (suc (beforeZero (drop at s)) - (k + 1)))
+count-turn s at k n one m h en eo em = by-byte (getD s (at + k) 0) zeroed other
+  where
+    zeroed : getD s (at + k) 0 ≡ 0 → (n + m ≡ min (k + 1) (beforeZero (drop at s))) × (m ≡ min 1 (suc (beforeZero (drop at s)) - (k + 1)))
+    zeroed e = go (ltb k (beforeZero (drop at s))) refl
+      where
+        w : m ≡ 0
+        w = em ∙ rw (eq-eqb (getD s (at + k) 0) 0 e)
+
+        go : (t : Bool) → ltb k (beforeZero (drop at s)) ≡ t → (n + m ≡ min (k + 1) (beforeZero (drop at s))) × (m ≡ min 1 (suc (beforeZero (drop at s)) - (k + 1)))
+        go true q = absurd (free-at (drop at s) k (ltb-true k _ q) (rw getD-drop e))
+        go false q = rw w (counting-off (beforeZero (drop at s)) k n one (ltb-false k (beforeZero (drop at s)) q) en)
+
+    other : (getD s (at + k) 0 ≡ 0 → ⊥) → (n + m ≡ min (k + 1) (beforeZero (drop at s))) × (m ≡ min 1 (suc (beforeZero (drop at s)) - (k + 1)))
+    other e =
+        let w : m ≡ one = em ∙ rw (ne-eqb (getD s (at + k) 0) 0 e) in
+        let d = length-drop at s in
+        let x : k ≡ beforeZero (drop at s) → ⊥ = λ q. e (rw (← getD-drop at s k 0, q) (zero-at (drop at s) (omega (arith, d, h, q)))) in
+        rw w (counting-on (beforeZero (drop at s)) k n one x en eo)
 
 -- a turn of a loop that tests k bytes, of which it has tested i
 pub clear-turn : (s : List ℕ) (at k i : ℕ) (t all : Bool) → at + k ≤ length s → i < k → t && zeroFree (take (k - i) (drop (at + i) s)) ≡ all

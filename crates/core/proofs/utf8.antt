@@ -3,3 +3,5 @@ pub mod Pieces
 pub mod Laws
 pub mod Automaton
 pub mod Turns
+pub mod Tables
+pub mod Inside

@@ -1,10 +1,11 @@
 -- UTF-8 as the Unicode Standard, chapter 3, has it: Table 3-7 (well-formed byte sequences), and a text cut into characters and
 -- maximal ill-formed subparts (D93b), each of which is shown as one U+FFFD ('U+FFFD Substitution of Maximal Subparts').
-use Prim.Native.Nat.{ℕ, zero, suc, _+_, min}
+use Prim.Native.Nat.{ℕ, zero, suc, _+_, _<_, min}
+use mathlib.Core.Path.{_≡_}
 use mathlib.Core.Bool.{Bool, true, false, _&&_}
 use mathlib.Core.List.{List, [], _∷_, _++_}
 use lib.Dec.{leb, eqb}
-use lib.ListN.{length, take}
+use lib.ListN.{length, getD, take}
 use Rattle.core.specs.Choice.{pick}
 use Rattle.core.specs.declared.utf8.step.Step.{Step}
 use Rattle.core.specs.declared.utf8.step.Step.the-variants.{Good, Bad}
@@ -58,6 +59,16 @@ laterAt (r ∷ rs) (suc c) = laterAt rs c
 -- a byte's class: the row of the table that it begins, from 1, or 0
 unfoldable pub classOf : ℕ → ℕ
 classOf x = rowFrom 1 rows x
+
+-- its class in the table of the code: the row that it begins, or which of the parts of 80..BF it is in that Table 3-7 tells apart
+unfoldable pub byteClass : ℕ → ℕ
+byteClass x =
+    pick (within (range 0x80 0x8F) x) 10
+    (pick (within (range 0x90 0x9F) x) 11 (pick (within (range 0xA0 0xBF) x) 12 (classOf x)))
+
+-- what a table of these classes holds
+pub record Classes (t : List ℕ) : Type 0 where
+  pub entry : (x : ℕ) → x < 256 → getD t x 0 ≡ byteClass x
 
 -- what the later bytes of a class may be
 unfoldable pub laterOf : ℕ → List Range

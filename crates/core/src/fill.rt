@@ -1,7 +1,7 @@
 // Runs of bytes stored into a slice: copied, or zeros. What would stand past the slice's end is dropped.
 ghost use mathlib.Core.Path.{_≡_};
-ghost use Prim.Native.Nat.{_-_, min};
-ghost use lib.ListN.{replicate};
+ghost use Prim.Native.Nat.{_+_, _-_, _≤_, min};
+ghost use lib.ListN.{length, take, drop, replicate};
 ghost use lib.Seq.{sets};
 ghost use Rattle.core.specs.Fill.{paddingOf};
 
@@ -26,16 +26,77 @@ pub(crate) fn room(n: usize, at: usize, size: usize) -> usize
     most
 }
 
-// The bytes of `src`, from `at` on. The loop asks nothing of the bounds, so that it can become one move of memory.
-pub fn copy(src: &[u8], out: &mut [u8], at: usize)
-    ensures { λ _. ⌜ now (out .exit) ≡ sets (now (out .entry)) at (now (src .entry)) ⌝ }
+// The first `n` bytes of `src`, from `at` on. The loop asks nothing of the bounds, so that it becomes one move of memory.
+fn copy_first(src: &[u8], out: &mut [u8], at: usize, n: usize)
+    requires { ⌜ (n ≤ length (now src)) × (n ≤ length (now out) - at) ⌝ }
+    ensures { λ _. ⌜ now (out .exit) ≡ sets (now (out .entry)) at (take n (now (src .entry))) ⌝ }
 {
-    let n = room(src.len(), at, out.len());
     let mut i = 0;
     while i < n {
         out[at + i] = src[i];
         i += 1;
     }
+}
+
+// `n` bytes from `at` on, and zeros behind them.
+fn load(src: &[u8], at: usize, n: usize) -> [u8; 16]
+    requires { ⌜ (n ≤ 16) × (at + n ≤ length (now src)) ⌝ }
+    ensures { λ r. ⌜ (length r ≡ 16) × (take n r ≡ take n (drop at (now (src .entry)))) ⌝ }
+{
+    let mut block = [0u8; 16];
+    let mut k: usize = 0;
+    while k < n {
+        block[k] = src[at + k];
+        k += 1;
+    }
+    block
+}
+
+// A few bytes, all read before the first is stored: with `n` a constant that is one load and one store.
+fn copy_block(src: &[u8], from: usize, out: &mut [u8], at: usize, n: usize)
+    requires { ⌜ (n ≤ 16) × (from + n ≤ length (now src)) × (n ≤ length (now out) - at) ⌝ }
+    ensures { λ _. ⌜ now (out .exit) ≡ sets (now (out .entry)) at (take n (drop from (now (src .entry)))) ⌝ }
+{
+    let block = load(src, from, n);
+    copy_first(&block, out, at, n);
+}
+
+// `n` bytes that are no more than two blocks: the first block and the last, which may overlap.
+fn copy_ends(src: &[u8], out: &mut [u8], at: usize, n: usize, size: usize)
+    requires { ⌜ (size ≤ 16) × (size ≤ n) × (n ≤ size + size) × (n ≤ length (now src)) × (n ≤ length (now out) - at) ⌝ }
+    ensures { λ _. ⌜ now (out .exit) ≡ sets (now (out .entry)) at (take n (now (src .entry))) ⌝ }
+{
+    copy_block(src, 0, out, at, size);
+    let last = n - size;
+    copy_block(src, last, out, at + last, size);
+}
+
+// The bytes of `src`, from `at` on, and the place behind those that were stored. Short ones go by blocks: a loop, or a call that moves memory,
+// takes longer than they do.
+pub(crate) fn copy_on(src: &[u8], out: &mut [u8], at: usize) -> usize
+    ensures { λ r. ⌜ (now (out .exit) ≡ sets (now (out .entry)) at (now (src .entry))) × (r ≡ at + min (length (now (src .entry))) (length (now (out .entry)) - at)) ⌝ }
+{
+    let n = room(src.len(), at, out.len());
+    if n < 8 {
+        copy_first(src, out, at, n);
+        return at + n;
+    }
+    if n < 16 {
+        copy_ends(src, out, at, n, 8);
+        return at + n;
+    }
+    if n < 33 {
+        copy_ends(src, out, at, n, 16);
+        return at + n;
+    }
+    copy_first(src, out, at, n);
+    at + n
+}
+
+pub fn copy(src: &[u8], out: &mut [u8], at: usize)
+    ensures { λ _. ⌜ now (out .exit) ≡ sets (now (out .entry)) at (now (src .entry)) ⌝ }
+{
+    copy_on(src, out, at);
 }
 
 // `n` zeros, from `at` on.

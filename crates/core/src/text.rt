@@ -1,7 +1,9 @@
 // Texts among bytes: where the first zero or the first fault stands, a field of fixed length, a text that ends at a zero.
 ghost use mathlib.Core.Path.{_≡_};
-ghost use Prim.Native.Nat.{_+_, _≤_};
+ghost use Prim.Native.Nat.{_+_, _≤_, _<_, min};
+ghost use lib.Dec.{eqb};
 ghost use lib.ListN.{length, take, drop};
+ghost use Rattle.core.specs.Choice.{pick};
 ghost use Rattle.core.specs.Text.{beforeZero, zeroFree, firstFault, fixedOf, endedOf};
 use crate::utf8::first_ill;
 
@@ -15,33 +17,58 @@ pub enum TextAt {
     Unended(usize),
 }
 
-// Whether none of the 32 bytes from `at` on is zero. The loop has a constant length and one way out, so that it runs as a few vector instructions.
-fn clear32(text: &[u8], at: usize) -> bool
-    requires { ⌜ at + 32 ≤ length (now text) ⌝ }
-    ensures { λ r. ⌜ r ≡ zeroFree (take 32 (drop at (now (text .entry)))) ⌝ }
+// Whether none of the `n` bytes from `at` on is zero. There is no test on the way, so that the loop runs on whole vectors where `n` is a
+// constant.
+fn clear_in(text: &[u8], at: usize, n: usize) -> bool
+    requires { ⌜ at + n ≤ length (now text) ⌝ }
+    ensures { λ r. ⌜ r ≡ zeroFree (take n (drop at (now (text .entry)))) ⌝ }
 {
     let mut clear = true;
     let mut i: usize = 0;
-    while i < 32 {
+    while i < n {
         clear = clear & (text[at + i] != 0);
         i += 1;
     }
     clear
 }
 
-// How many bytes stand in leading blocks of 32 bytes with no zero.
-fn clear_blocks(text: &[u8]) -> usize
-    ensures { λ r. ⌜ (r ≤ length (now (text .entry))) × (beforeZero (now (text .entry)) ≡ r + beforeZero (drop r (now (text .entry)))) ⌝ }
+// A place that no zero stands before: behind the blocks of `size` bytes from `from` on that have none.
+fn clear_blocks(text: &[u8], from: usize, size: usize) -> usize
+    requires { ⌜ (0 < size) × (from ≤ beforeZero (now text)) ⌝ }
+    ensures { λ r. ⌜ (from ≤ r) × (r ≤ beforeZero (now (text .entry))) × (r + size ≤ length (now (text .entry)) → beforeZero (now (text .entry)) < r + size) ⌝ }
 {
-    let mut at: usize = 0;
-    while text.len() - at >= 32 {
-        if clear32(text, at) {
-            at += 32;
+    let mut at: usize = from;
+    while size <= text.len() - at {
+        if clear_in(text, at, size) {
+            at += size;
         } else {
             return at;
         }
     }
     at
+}
+
+fn unless_zero(b: u8, n: usize) -> usize
+    ensures { λ r. ⌜ r ≡ pick (eqb b 0) 0 n ⌝ }
+{
+    if b == 0 { 0 } else { n }
+}
+
+// How many of the 8 bytes from `at` on stand before the first zero among them. It is counted, with no test on the way: where a name ends
+// is nothing that a processor could foresee.
+fn clear_bytes(text: &[u8], at: usize) -> usize
+    requires { ⌜ at + 8 ≤ length (now text) ⌝ }
+    ensures { λ r. ⌜ r ≡ min 8 (beforeZero (drop at (now (text .entry)))) ⌝ }
+{
+    let mut n: usize = 0;
+    let mut one: usize = 1;
+    let mut k: usize = 0;
+    while k < 8 {
+        one = unless_zero(text[at + k], one);
+        n += one;
+        k += 1;
+    }
+    n
 }
 
 // The first zero at or after `at`, or the text's length.
@@ -63,8 +90,17 @@ fn zero_from(text: &[u8], at: usize) -> usize
 pub fn first_zero(text: &[u8]) -> usize
     ensures { λ r. ⌜ r ≡ beforeZero (now (text .entry)) ⌝ }
 {
-    let at = clear_blocks(text);
-    zero_from(text, at)
+    let n = text.len();
+    if n < 8 {
+        return zero_from(text, 0);
+    }
+    let far = clear_blocks(text, 0, 32);
+    let near = clear_blocks(text, far, 8);
+    let last = n - 8;
+    if near < last {
+        return near + clear_bytes(text, near);
+    }
+    last + clear_bytes(text, last)
 }
 
 // Where the first zero or the first ill-formed subpart stands, whichever is earlier; the length, where there is neither.

@@ -1,9 +1,16 @@
 // UTF-8 by the Unicode Standard's Table 3-7: decoding with one U+FFFD for each maximal ill-formed subpart, and what is asked of a text.
 ghost use mathlib.Core.Path.{_≡_};
-ghost use Prim.Native.Nat.{_+_, min};
+ghost use Prim.Native.Nat.{_+_, _-_, min};
+ghost use lib.ListN.{length};
 ghost use lib.Seq.{sets};
-ghost use Rattle.core.specs.Utf8.{replacement, decode, decodedSize, sound, wellFormed};
+ghost use Rattle.core.specs.Utf8.{Classes, replacement, decode, decodedSize, sound, wellFormed};
+ghost use Rattle.core.specs.Flow.{Rows};
+use crate::fill::ahead;
 use crate::fill::copy;
+use crate::fill::copy_on;
+use crate::utf8::class::CLASSES;
+use crate::utf8::flow::ROWS;
+use crate::utf8::scan::is_ascii;
 use crate::utf8::scan::next_run;
 use crate::utf8::step::Step;
 use crate::utf8::step::step_at;
@@ -25,31 +32,44 @@ fn total(a: usize, b: usize) -> usize
     MOST
 }
 
-// A place behind `n` bytes more, or the end where that comes first.
-fn moved(at: usize, n: usize, size: usize) -> usize
-    ensures { λ r. ⌜ r ≡ min (at + n) size ⌝ }
-{
-    if at < size {
-        if n < size - at {
-            return at + n;
-        }
-    }
-    size
-}
-
-fn put_replacement(out: &mut [u8], at: usize)
-    ensures { λ _. ⌜ now (out .exit) ≡ sets (now (out .entry)) at replacement ⌝ }
+fn put_clipped(out: &mut [u8], at: usize) -> usize
+    ensures { λ r. ⌜ (now (out .exit) ≡ sets (now (out .entry)) at replacement) × (r ≡ at + min 3 (length (now (out .entry)) - at)) ⌝ }
 {
     let bytes = [0xEFu8, 0xBF, 0xBD];
-    copy(&bytes, out, at);
+    copy_on(&bytes, out, at)
 }
 
-// Where the first ill-formed subpart starts, or the length.
+// U+FFFD, and the place behind what was stored of it. Where there is room for all of it, it is three stores.
+fn put_replacement(out: &mut [u8], at: usize) -> usize
+    ensures { λ r. ⌜ (now (out .exit) ≡ sets (now (out .entry)) at replacement) × (r ≡ at + min 3 (length (now (out .entry)) - at)) ⌝ }
+{
+    if ahead(at, out.len()) < 3 {
+        return put_clipped(out, at);
+    }
+    out[at] = 0xEF;
+    out[at + 1] = 0xBF;
+    out[at + 2] = 0xBD;
+    at + 3
+}
+
+// Where the first ill-formed subpart starts, or the length: in a text that is not all ASCII,
+fn ill_mixed(text: &[u8]) -> usize
+    ensures { λ r. ⌜ r ≡ sound (now (text .entry)) ⌝ }
+{
+    let classes = CLASSES;
+    let rows = ROWS;
+    let run = next_run(text, 0, &classes, &rows);
+    run.end
+}
+
+// and in any.
 pub fn first_ill(text: &[u8]) -> usize
     ensures { λ r. ⌜ r ≡ sound (now (text .entry)) ⌝ }
 {
-    let run = next_run(text, 0);
-    run.end
+    if is_ascii(text) {
+        return text.len();
+    }
+    ill_mixed(text)
 }
 
 pub fn well_formed(text: &[u8]) -> bool
@@ -58,69 +78,92 @@ pub fn well_formed(text: &[u8]) -> bool
     first_ill(text) == text.len()
 }
 
-// How many bytes the text decodes to.
-pub fn decoded_len(text: &[u8]) -> usize
-    ensures { λ r. ⌜ r ≡ decodedSize (now (text .entry)) ⌝ }
+// The decoding by runs of characters, each up to an ill-formed subpart.
+fn decode_runs(
+    text: &[u8],
+    out: &mut [u8],
+    at: usize,
+    classes: &[u8; 256],
+    rows: &[u64; 16],
+) -> usize
+    requires { ⌜ Classes (now classes) × Rows (now rows) ⌝ }
+    ensures { λ r. ⌜ (r ≡ decodedSize (now (text .entry))) × (now (out .exit) ≡ sets (now (out .entry)) at (decode (now (text .entry)))) ⌝ }
 {
     let mut i = 0;
+    let mut o = at;
     let mut grown: usize = 0;
     loop {
-        let run = next_run(text, i);
+        let run = next_run(text, i, classes, rows);
         let end = run.end;
         let skip = run.skip;
+        let next = copy_on(&text[i..end], out, o);
         if skip == 0 {
             return total(text.len(), grown);
         }
+        o = put_replacement(out, next);
         grown += 3 - skip;
         i = end + skip;
     }
+}
+
+fn decode_mixed(text: &[u8], out: &mut [u8], at: usize) -> usize
+    ensures { λ r. ⌜ (r ≡ decodedSize (now (text .entry))) × (now (out .exit) ≡ sets (now (out .entry)) at (decode (now (text .entry)))) ⌝ }
+{
+    let classes = CLASSES;
+    let rows = ROWS;
+    decode_runs(text, out, at, &classes, &rows)
+}
+
+// How many bytes the text decodes to: it is decoded into nothing.
+pub fn decoded_len(text: &[u8]) -> usize
+    ensures { λ r. ⌜ r ≡ decodedSize (now (text .entry)) ⌝ }
+{
+    if is_ascii(text) {
+        return text.len();
+    }
+    let mut none = [0u8; 1];
+    decode_mixed(text, &mut none, 1)
 }
 
 // The text is decoded and stored from `at` on; what would stand past the end is dropped. How many bytes it decodes to.
 pub fn decode_into(text: &[u8], out: &mut [u8], at: usize) -> usize
     ensures { λ r. ⌜ (r ≡ decodedSize (now (text .entry))) × (now (out .exit) ≡ sets (now (out .entry)) at (decode (now (text .entry)))) ⌝ }
 {
-    let mut i = 0;
-    let mut o = at;
-    let mut grown: usize = 0;
-    loop {
-        let run = next_run(text, i);
-        let end = run.end;
-        let skip = run.skip;
-        copy(&text[i..end], out, o);
-        if skip == 0 {
-            return total(text.len(), grown);
-        }
-        o = moved(o, end - i, out.len());
-        put_replacement(out, o);
-        o = moved(o, 3, out.len());
-        grown += 3 - skip;
-        i = end + skip;
+    if is_ascii(text) {
+        copy(text, out, at);
+        return text.len();
     }
+    decode_mixed(text, out, at)
 }
 
-// The same, one character at a time: the plain form that the other one is measured against.
-pub fn decode_plain(text: &[u8], out: &mut [u8], at: usize) -> usize
+fn decode_steps(text: &[u8], out: &mut [u8], at: usize, classes: &[u8; 256]) -> usize
+    requires { ⌜ Classes (now classes) ⌝ }
     ensures { λ r. ⌜ (r ≡ decodedSize (now (text .entry))) × (now (out .exit) ≡ sets (now (out .entry)) at (decode (now (text .entry)))) ⌝ }
 {
     let mut i = 0;
     let mut o = at;
     let mut grown: usize = 0;
     while i < text.len() {
-        match step_at(text, i) {
+        match step_at(text, i, classes) {
             Step::Good(k) => {
                 let next = i + k;
-                copy(&text[i..next], out, o);
-                o = moved(o, k, out.len());
+                o = copy_on(&text[i..next], out, o);
                 i = next;
             }
             Step::Bad(k) => {
-                put_replacement(out, o);
-                o = moved(o, 3, out.len());
+                o = put_replacement(out, o);
                 grown += 3 - k;
                 i += k;
             }
         }
     }
     total(text.len(), grown)
+}
+
+// The same, one character at a time: the plain form that the other one is measured against.
+pub fn decode_plain(text: &[u8], out: &mut [u8], at: usize) -> usize
+    ensures { λ r. ⌜ (r ≡ decodedSize (now (text .entry))) × (now (out .exit) ≡ sets (now (out .entry)) at (decode (now (text .entry)))) ⌝ }
+{
+    let classes = CLASSES;
+    decode_steps(text, out, at, &classes)
 }

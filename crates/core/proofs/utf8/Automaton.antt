@@ -1,6 +1,6 @@
 -- The automaton of `specs/Flow.antt`: bytes that lead from state 0 to state 0 are a well-formed text, so a scan may go on behind them.
 -- Assumes nothing.
-use Prim.Native.Nat.{ℕ, zero, suc, _+_, _-_, _*_, _/_, _<_, _≤_}
+use Prim.Native.Nat.{ℕ, zero, suc, _+_, _-_, _*_, _/_, _%_, _^_, _<_, _≤_}
 use mathlib.Core.Path.{_≡_, refl, ap, sym, _∙_}
 use mathlib.Core.Bool.{Bool, true, false}
 use mathlib.Core.List.{List, [], _∷_, _++_}
@@ -11,8 +11,8 @@ use lib.Dec.{eqb}
 use lib.ListN.{length, getD, take, drop, take-append-drop}
 use lib.Seq.{slice, slice-cons, slice-empty, length-slice, length-take-le, drop-append-le}
 use Rattle.core.specs.Choice.{pick}
-use Rattle.core.specs.Utf8.{Range, rows, within, classOf, laterOf, matched, more, sound, wellFormed}
-use Rattle.core.specs.Flow.{awaits, entered, passed, firstFits, stateAfter, flows, Flowing}
+use Rattle.core.specs.Utf8.{Range, rows, within, classOf, byteClass, laterOf, matched, more, sound, wellFormed}
+use Rattle.core.specs.Flow.{awaits, entered, passed, firstFits, stateAfter, flows, stateOf, State, Rows, Flow}
 use Rattle.core.proofs.utf8.Steps.{class-below, matched-none}
 use Rattle.core.proofs.utf8.Pieces.{well-nil, well-good}
 use Rattle.core.proofs.utf8.Laws.{before, good-from}
@@ -30,7 +30,7 @@ not-both b p q = let z : _≡_ {A = ℕ} 0 1 = cc in omega arith
 -- ---- the states against Table 3-7
 
 -- behind a first byte of a class, the later bytes of its row are still to come
-entered-awaits : (c : ℕ) → c < 9 → awaits (getD entered (suc c) 1) ≡ laterOf (suc c)
+pub entered-awaits : (c : ℕ) → c < 9 → awaits (getD entered (suc c) 1) ≡ laterOf (suc c)
 unfolding laterOf rows
 entered-awaits zero h = refl
 entered-awaits (suc zero) h = refl
@@ -43,7 +43,7 @@ entered-awaits (suc (suc (suc (suc (suc (suc (suc zero))))))) h = refl
 entered-awaits (suc (suc (suc (suc (suc (suc (suc (suc zero)))))))) h = refl
 entered-awaits (suc (suc (suc (suc (suc (suc (suc (suc (suc c))))))))) h = absurd (omega arith)
 
-entered-below : (c : ℕ) → c < 10 → getD entered c 1 < 9
+pub entered-below : (c : ℕ) → c < 10 → getD entered c 1 < 9
 entered-below zero h = omega arith
 entered-below (suc zero) h = omega arith
 entered-below (suc (suc zero)) h = omega arith
@@ -56,29 +56,43 @@ entered-below (suc (suc (suc (suc (suc (suc (suc (suc zero)))))))) h = omega ari
 entered-below (suc (suc (suc (suc (suc (suc (suc (suc (suc zero))))))))) h = omega arith
 entered-below (suc (suc (suc (suc (suc (suc (suc (suc (suc (suc c)))))))))) h = absurd (omega arith)
 
--- behind a later byte, what the state before it awaited but for that byte
-record Awaiting (q : ℕ) : Type 0 where
-  first : Range
-  rest : awaits (suc (suc q)) ≡ first ∷ awaits (getD passed (suc (suc q)) 1)
-  small : getD passed (suc (suc q)) 1 < 9
+-- no byte that begins a row leads to state 1
+pub entered-known : (c : ℕ) → c < 9 → getD entered (suc c) 1 ≡ 1 → ⊥
+entered-known zero h e = omega arith
+entered-known (suc zero) h e = omega arith
+entered-known (suc (suc zero)) h e = omega arith
+entered-known (suc (suc (suc zero))) h e = omega arith
+entered-known (suc (suc (suc (suc zero)))) h e = omega arith
+entered-known (suc (suc (suc (suc (suc zero))))) h e = omega arith
+entered-known (suc (suc (suc (suc (suc (suc zero)))))) h e = omega arith
+entered-known (suc (suc (suc (suc (suc (suc (suc zero))))))) h e = omega arith
+entered-known (suc (suc (suc (suc (suc (suc (suc (suc zero)))))))) h e = omega arith
+entered-known (suc (suc (suc (suc (suc (suc (suc (suc (suc c))))))))) h e = omega arith
 
-awaiting : (q : ℕ) → q < 7 → Awaiting q
-awaiting zero h = record { first = record { lo = 0x80; hi = 0xBF }; rest = refl; small = omega arith }
-awaiting (suc zero) h = record { first = record { lo = 0x80; hi = 0xBF }; rest = refl; small = omega arith }
-awaiting (suc (suc zero)) h = record { first = record { lo = 0xA0; hi = 0xBF }; rest = refl; small = omega arith }
-awaiting (suc (suc (suc zero))) h = record { first = record { lo = 0x80; hi = 0x9F }; rest = refl; small = omega arith }
-awaiting (suc (suc (suc (suc zero)))) h = record { first = record { lo = 0x90; hi = 0xBF }; rest = refl; small = omega arith }
-awaiting (suc (suc (suc (suc (suc zero))))) h = record { first = record { lo = 0x80; hi = 0xBF }; rest = refl; small = omega arith }
-awaiting (suc (suc (suc (suc (suc (suc zero)))))) h = record { first = record { lo = 0x80; hi = 0x8F }; rest = refl; small = omega arith }
+-- behind a later byte, what the state before it awaited but for that byte
+pub record Awaiting (q : ℕ) : Type 0 where
+  pub first : Range
+  pub rest : awaits (suc (suc q)) ≡ first ∷ awaits (getD passed (suc (suc q)) 1)
+  pub small : getD passed (suc (suc q)) 1 < 9
+  pub known : getD passed (suc (suc q)) 1 ≡ 1 → ⊥
+
+pub awaiting : (q : ℕ) → q < 7 → Awaiting q
+awaiting zero h = record { first = record { lo = 0x80; hi = 0xBF }; rest = refl; small = omega arith; known = λ e. omega arith }
+awaiting (suc zero) h = record { first = record { lo = 0x80; hi = 0xBF }; rest = refl; small = omega arith; known = λ e. omega arith }
+awaiting (suc (suc zero)) h = record { first = record { lo = 0xA0; hi = 0xBF }; rest = refl; small = omega arith; known = λ e. omega arith }
+awaiting (suc (suc (suc zero))) h = record { first = record { lo = 0x80; hi = 0x9F }; rest = refl; small = omega arith; known = λ e. omega arith }
+awaiting (suc (suc (suc (suc zero)))) h = record { first = record { lo = 0x90; hi = 0xBF }; rest = refl; small = omega arith; known = λ e. omega arith }
+awaiting (suc (suc (suc (suc (suc zero))))) h = record { first = record { lo = 0x80; hi = 0xBF }; rest = refl; small = omega arith; known = λ e. omega arith }
+awaiting (suc (suc (suc (suc (suc (suc zero)))))) h = record { first = record { lo = 0x80; hi = 0x8F }; rest = refl; small = omega arith; known = λ e. omega arith }
 awaiting (suc (suc (suc (suc (suc (suc (suc q))))))) h = absurd (omega arith)
 
 -- ---- bytes that flow to state 0 complete what is awaited, and are well-formed behind it
 
-more-is : (x : ℕ) (xs : List ℕ) (c : ℕ) → classOf x ≡ c → more x xs ≡ matched (laterOf c) xs
+pub more-is : (x : ℕ) (xs : List ℕ) (c : ℕ) → classOf x ≡ c → more x xs ≡ matched (laterOf c) xs
 unfolding more
 more-is x xs c e = rw e
 
-matched-on : (r : Range) (rs : List Range) (x : ℕ) (xs : List ℕ) → within r x ≡ true → matched (r ∷ rs) (x ∷ xs) ≡ suc (matched rs xs)
+pub matched-on : (r : Range) (rs : List Range) (x : ℕ) (xs : List ℕ) → within r x ≡ true → matched (r ∷ rs) (x ∷ xs) ≡ suc (matched rs xs)
 unfolding matched
 matched-on r rs x xs e = rw e
 
@@ -150,21 +164,63 @@ flows-on s i j h k f =
 
 -- ---- the automaton on its way
 
-pub flowing-start : (s : List ℕ) (i : ℕ) → i ≤ length s → Flowing s i i 0
-flowing-start s i h = record { whole = refl; small = omega arith; start = omega arith; fits = h; same = λ e p k. refl }
+-- a state that is held
+state-is : (v n : ℕ) → v % 64 ≡ 6 * n → n < 9 → State v × (stateOf v ≡ n)
+unfolding stateOf
+state-is v n e h = (record { whole = omega arith; small = omega arith }, omega arith)
 
-pub flowing-turn : (s : List ℕ) (i j q r : ℕ) → Flowing s i j q → j < length s → r ≡ 6 * stateAfter (q / 6) (getD s j 0) → 6 * (r / 6) ≡ r → r < 54 → Flowing s i (j + 1) r
-flowing-turn s i j q r f h e w l =
-    let n : r / 6 ≡ stateAfter (q / 6) (getD s j 0) = omega arith in
-    record {
-      whole = w;
-      small = l;
-      start = omega (arith, f .start);
-      fits = omega arith;
-      same = λ t p k. rw n (sym (flows-turn (q / 6) s j t (omega arith) k) ∙ f .same t (omega arith) k);
-    }
+pub zero-state : State 0
+zero-state = state-is 0 0 refl (omega arith) .0
 
-pub flowing-end : (s : List ℕ) (i j q : ℕ) → Flowing s i j q → q ≡ 0 → j + sound (drop j s) ≡ i + sound (drop i s)
-flowing-end s i j q f e =
-    let n : q / 6 ≡ 0 = rw e refl in
-    flows-on s i j (f .start) (f .fits) (sym (f .same j (omega arith) (f .fits)) ∙ rw n (flows-end 0 s j))
+pub state-zero : (q : ℕ) → q % 64 ≡ 0 → stateOf q ≡ 0
+state-zero q e = state-is q 0 (omega arith) (omega arith) .1
+
+pub state-lost : (q : ℕ) → q % 64 ≡ 6 → stateOf q ≡ 1
+state-lost q e = state-is q 1 (omega arith) (omega arith) .1
+
+pub not-zero : (q : ℕ) → State q → (q % 64 ≡ 0 → ⊥) → stateOf q ≡ 0 → ⊥
+not-zero q h n e = n (omega (arith, h .whole))
+
+pub not-lost : (q : ℕ) → State q → (q % 64 ≡ 6 → ⊥) → stateOf q ≡ 1 → ⊥
+not-lost q h n e = n (omega (arith, h .whole))
+
+-- a shift of the row of a byte's class gives the state behind it
+pub next-held : (r : List ℕ) (q b c : ℕ) → Rows r → State q → b < 256 → c ≡ byteClass b
+    → State (getD r c 0 / 2 ^ (q % 64)) × (stateOf (getD r c 0 / 2 ^ (q % 64)) ≡ stateAfter (stateOf q) b)
+next-held r q b c rr sq h ec =
+    let m = rr .entry b (stateOf q) h (sq .small) in
+    let e : getD r c 0 / 2 ^ (q % 64) % 64 ≡ 6 * stateAfter (stateOf q) b = rw (ec, ← sq .whole) (m .0) in
+    state-is _ _ e (m .1)
+
+module _ (s : List ℕ) where
+  pub flow-start : (i p : ℕ) → State p → i ≤ length s → Flow s i p i p
+  flow-start i p h k = record { held = h; start = omega arith; fits = k; same = λ e l m. refl }
+
+  pub flow-turn : (i p j q r : ℕ) → Flow s i p j q → j < length s → State r → stateOf r ≡ stateAfter (stateOf q) (getD s j 0) → Flow s i p (j + 1) r
+  flow-turn i p j q r f h t e =
+      record {
+        held = t;
+        start = omega (arith, f .start);
+        fits = omega arith;
+        same = λ k l m. rw e (sym (flows-turn (stateOf q) s j k (omega arith) m) ∙ f .same k (omega arith) m);
+      }
+
+  pub flow-join : (i p j q k r : ℕ) → Flow s i p j q → Flow s j q k r → Flow s i p k r
+  flow-join i p j q k r f g =
+      record {
+        held = g .held;
+        start = omega (arith, f .start, g .start);
+        fits = g .fits;
+        same = λ e l m. g .same e l m ∙ f .same e (omega (arith, g .start)) m;
+      }
+
+  -- between two characters it may as well start
+  pub flow-here : (j q : ℕ) → State q → stateOf q ≡ 0 → j ≤ length s → Flow s j 0 j q
+  flow-here j q h e k =
+      let z : stateOf q ≡ stateOf 0 = e ∙ sym (state-zero 0 refl) in
+      record { held = h; start = omega arith; fits = k; same = λ n l m. rw z }
+
+  pub flow-end : (i j q : ℕ) → Flow s i 0 j q → stateOf q ≡ 0 → j + sound (drop j s) ≡ i + sound (drop i s)
+  flow-end i j q f e =
+      let w : flows (stateOf 0) (slice i j s) ≡ true = sym (f .same j (omega arith) (f .fits)) ∙ rw e (flows-end 0 s j) in
+      flows-on s i j (f .start) (f .fits) (rw (state-zero 0 refl) at w)

@@ -171,7 +171,7 @@ matched-append (r ∷ rs) (x ∷ xs) b e = go (within r x) (matched-append rs xs
     go true ih q = ap suc (ih (omega arith))
     go false ih q = absurd (omega arith)
 
-both-true : (a b : Bool) → a && b ≡ true → (a ≡ true) × (b ≡ true)
+pub both-true : (a b : Bool) → a && b ≡ true → (a ≡ true) × (b ≡ true)
 both-true true b e = (refl, e)
 both-true false b e = let z : _≡_ {A = ℕ} 0 1 = cc in absurd (omega arith)
 

@@ -2,21 +2,22 @@
 -- Assumes nothing.
 use Prim.Native.Nat.{ℕ, zero, suc, min, _+_, _-_, _*_, _<_, _≤_}
 use mathlib.Core.Path.{_≡_, refl, ap, sym, _∙_}
-use mathlib.Core.Bool.{true}
+use mathlib.Core.Bool.{Bool, true, false}
+use borrow.Author.Tests.{leb-true, leb-false}
+use lib.Dec.{leb}
 use mathlib.Core.List.{List, [], _∷_, _++_, append-nil}
 use native.Mathlib.Nat.{add-zero, zero-add}
 use native.Mathlib.Numerals.{add-one}
 use native.Mathlib.Omega.{arith}
-use borrow.Author.Tests.{le-leb}
 use lib.ListN.{length, getD, take, drop, length-append, length-drop, drop-of-length-le}
 use lib.Seq.{sets, slice, slice-empty, length-slice, drop-cons, drop-drop, take-nil}
 use Rattle.core.specs.declared.utf8.step.Step.{Step}
 use Rattle.core.specs.declared.utf8.step.Step.the-variants.{Good, Bad}
-use Rattle.core.specs.Utf8.{rows, within, classOf, laterOf, matched, more, good, stepOf, replacement, decode, decodedSize, sound, illSize}
-use Rattle.core.proofs.Stores.{sets-moved}
-use Rattle.core.proofs.utf8.Steps.{matched-none}
+use Rattle.core.specs.Utf8.{rows, classOf, laterOf, matched, more, good, stepOf, replacement, decode, decodedSize, sound, illSize}
+use Rattle.core.proofs.Stores.{sets-on}
+use Rattle.core.proofs.utf8.Steps.{matched-none, ascii-class}
 use Rattle.core.proofs.utf8.Pieces.{more-within, step-good, step-bad, decode-nil, decode-good, sound-nil, sound-good, sound-bad, ill-nil, ill-bad}
-use Rattle.core.proofs.utf8.Laws.{good-from, sound-le, decode-front, ill-short, ill-within, ill-or-end, decode-ill}
+use Rattle.core.proofs.utf8.Laws.{good-from, whole-well, decode-well, sound-le, decode-front, ill-short, ill-within, ill-or-end, decode-ill}
 
 -- ---- parts of a list
 
@@ -93,10 +94,6 @@ module _ (s : List ℕ) (i k : ℕ) (h : i < length s) where
 
 -- ---- a run of ASCII
 
-ascii-class : (x : ℕ) → x < 128 → classOf x ≡ 1
-unfolding classOf rows within
-ascii-class x h = rw (le-leb 0 x (omega arith), le-leb x 127 (omega arith))
-
 ascii-good : (x : ℕ) (xs : List ℕ) → x < 128 → (good x xs ≡ true) × (more x xs ≡ 0)
 unfolding more
 ascii-good x xs h =
@@ -117,6 +114,40 @@ ascii-run s i (suc m) h f =
     ascii-run s (i + 1) m (omega arith) (λ j q. let e : i + suc j ≡ i + 1 + j = omega arith in rw e at (f (suc j) (omega arith))) in
     let w : sound (drop (i + suc m) s) ≡ sound (drop (i + 1 + m) s) = rw p in
     omega (arith, a, d, g .1)
+
+-- bytes below 128, by parts of a text
+pub ascii-on : (s : List ℕ) (i m : ℕ) → ((k : ℕ) → k < i → getD s k 0 < 128) → ((k : ℕ) → k < m → getD s (i + k) 0 < 128) → (k : ℕ) → k < i + m → getD s k 0 < 128
+ascii-on s i m f g k h = go (leb i k) refl
+  where
+    go : (b : Bool) → leb i k ≡ b → getD s k 0 < 128
+    go true e =
+        let l = leb-true i k e in
+        let q : i + (k - i) ≡ k = omega arith in
+        rw q at (g (k - i) (omega arith))
+    go false e = f k (leb-false i k e)
+
+-- the last part may overlap the one before it
+pub ascii-last : (s : List ℕ) (i m : ℕ) → m ≤ length s → length s ≤ i + m → ((k : ℕ) → k < i → getD s k 0 < 128)
+    → ((k : ℕ) → k < m → getD s (length s - m + k) 0 < 128) → (k : ℕ) → k < length s → getD s k 0 < 128
+ascii-last s i m l e f g k h = ascii-on s (length s - m) m (λ j q. f j (omega arith)) g k (omega arith)
+
+pub ascii-two : (s : List ℕ) (m : ℕ) → m ≤ length s → length s ≤ m + m → ((k : ℕ) → k < m → getD s (0 + k) 0 < 128)
+    → ((k : ℕ) → k < m → getD s (length s - m + k) 0 < 128) → (k : ℕ) → k < length s → getD s k 0 < 128
+ascii-two s m l e f g = ascii-last s m m l e (λ k h. rw zero-add at (f k h)) g
+
+-- a text that is all ASCII is its own decoding
+pub ascii-sound : (s : List ℕ) → ((j : ℕ) → j < length s → getD s j 0 < 128) → sound s ≡ length s
+ascii-sound s f =
+    let r = ascii-run s 0 (length s) (omega arith) (λ j h. rw zero-add (f j h)) in
+    let e = sound-end s (0 + length s) (omega arith) in
+    omega (arith, r, e)
+
+pub ascii-decode : (s : List ℕ) → ((j : ℕ) → j < length s → getD s j 0 < 128) → decode s ≡ s
+ascii-decode s f = decode-well s (whole-well s (ascii-sound s f))
+
+pub ascii-size : (s : List ℕ) → length s < 18446744073709551616 → ((j : ℕ) → j < length s → getD s j 0 < 128) → length s ≡ decodedSize s
+unfolding decodedSize
+ascii-size s h f = rw (ascii-decode s f) (omega arith)
 
 -- ---- a walk that came to an ill-formed subpart or to the end
 
@@ -209,11 +240,10 @@ counted-size s n r e q = rw (← e) q
 -- ---- stores, for the same loops: what is still to be decoded, stored from here on, makes the list that all of it makes
 
 pub sets-run : (s out : List ℕ) (o i end skip : ℕ) (part m n : List ℕ) (p q : ℕ) → RunAt s i end skip → 0 < skip → part ≡ slice i end s → m ≡ sets out o part
-    → p ≡ min (o + (end - i)) (length m) → n ≡ sets m p replacement → q ≡ min (p + 3) (length n) → sets n q (decode (drop (end + skip) s)) ≡ sets out o (decode (drop i s))
+    → p ≡ o + min (length part) (length out - o) → n ≡ sets m p replacement → q ≡ p + min 3 (length m - p) → sets n q (decode (drop (end + skip) s)) ≡ sets out o (decode (drop i s))
 sets-run s out o i end skip part m n p q r h es em ep en eq =
-    let l = length-slice i end s (omega (arith, r .reach)) in
-    sets-moved m p (replacement ++ decode (drop (end + skip) s)) replacement (decode (drop (end + skip) s)) n q refl en eq
-    ∙ sets-moved out o (decode (drop i s)) (slice i end s) (replacement ++ decode (drop (end + skip) s)) m p (r .split h) (rw es at em) (rw l ep)
+    sets-on m p (replacement ++ decode (drop (end + skip) s)) replacement (decode (drop (end + skip) s)) n q refl en eq
+    ∙ sets-on out o (decode (drop i s)) part (replacement ++ decode (drop (end + skip) s)) m p (rw es (r .split h)) em ep
 
 -- a part of the code, `&s[i..end]`
 pub part-is : (i end : ℕ) (s : List ℕ) → i ≤ end → take (end - i) (drop i s) ≡ slice i end s
@@ -241,14 +271,11 @@ pub decode-end : (s : List ℕ) (i : ℕ) → length s ≤ i → decode (drop i 
 decode-end s i h = rw (drop-of-length-le s h) decode-nil
 
 pub sets-good : (s out : List ℕ) (o i k : ℕ) (part m : List ℕ) (p : ℕ) → GoodAt s i k → part ≡ slice i (i + k) s → m ≡ sets out o part
-    → p ≡ min (o + k) (length m) → sets m p (decode (drop (i + k) s)) ≡ sets out o (decode (drop i s))
-sets-good s out o i k part m p g es em ep =
-    let l = length-slice i (i + k) s (g .reach) in
-    let n : length (slice i (i + k) s) ≡ k = omega (arith, l) in
-    sets-moved out o (decode (drop i s)) (slice i (i + k) s) (decode (drop (i + k) s)) m p (g .split) (rw es at em) (rw n ep)
+    → p ≡ o + min (length part) (length out - o) → sets m p (decode (drop (i + k) s)) ≡ sets out o (decode (drop i s))
+sets-good s out o i k part m p g es em ep = sets-on out o (decode (drop i s)) part (decode (drop (i + k) s)) m p (rw es (g .split)) em ep
 
-pub sets-bad : (s out : List ℕ) (o i k : ℕ) (m : List ℕ) (p : ℕ) → BadAt s i k → m ≡ sets out o replacement → p ≡ min (o + 3) (length m)
+pub sets-bad : (s out : List ℕ) (o i k : ℕ) (m : List ℕ) (p : ℕ) → BadAt s i k → m ≡ sets out o replacement → p ≡ o + min 3 (length out - o)
     → sets m p (decode (drop (i + k) s)) ≡ sets out o (decode (drop i s))
 sets-bad s out o i k m p b em ep =
     let r = run-bad s i k b in
-    sets-moved out o (decode (drop i s)) replacement (decode (drop (i + k) s)) m p (r .split (b .some) ∙ ap (λ (l : List ℕ). l ++ (replacement ++ decode (drop (i + k) s))) (slice-empty i s)) em ep
+    sets-on out o (decode (drop i s)) replacement (decode (drop (i + k) s)) m p (r .split (b .some) ∙ ap (λ (l : List ℕ). l ++ (replacement ++ decode (drop (i + k) s))) (slice-empty i s)) em ep

@@ -1,12 +1,12 @@
-// The characters from a position on, up to the first ill-formed subpart.
+// ASCII, and the characters from a position on, up to the first ill-formed subpart.
 ghost use mathlib.Core.Path.{_≡_};
 ghost use mathlib.Core.Bool.{true};
-ghost use Prim.Native.Nat.{ℕ, _+_, _≤_, _<_};
+ghost use Prim.Native.Nat.{ℕ, _+_, _≤_, _<_, max};
 ghost use lib.ListN.{length, getD, drop};
-ghost use Rattle.core.specs.Utf8.{sound, illSize};
-use crate::utf8::flow::whole_block;
-use crate::utf8::step::Step;
-use crate::utf8::step::step_at;
+ghost use Rattle.core.specs.Utf8.{Classes, sound, illSize};
+ghost use Rattle.core.specs.Flow.{stateOf, Rows, Flow};
+use crate::utf8::flow::flow_over;
+use crate::utf8::flow::next_state;
 
 // The end of the characters, and the number of bytes of the ill-formed subpart there; 0 at the text's end.
 pub struct Run {
@@ -14,75 +14,192 @@ pub struct Run {
     pub skip: usize,
 }
 
-// The next 32 bytes are ASCII. Their top bits are added up, with no test on the way, so that the loop runs on whole vectors.
-fn ascii_block(s: &[u8], at: usize) -> bool
-    requires { ⌜ at + 32 ≤ length (now s) ⌝ }
-    ensures { λ r. ⌜ (r ≡ true → (k : ℕ) → k < 32 → getD (now (s .entry)) (at + k) 0 < 128) ⌝ }
+// Whether the `n` bytes from `at` on are ASCII. There is no test on the way, so that the loop runs on whole vectors where `n` is a constant.
+fn ascii_in(s: &[u8], at: usize, n: usize) -> bool
+    requires { ⌜ at + n ≤ length (now s) ⌝ }
+    ensures { λ r. ⌜ (r ≡ true → (k : ℕ) → k < n → getD (now (s .entry)) (at + k) 0 < 128) ⌝ }
 {
-    let mut n: u8 = 0;
+    let mut all = true;
     let mut k = 0;
-    while k < 32 {
-        n += s[at + k] / 128;
+    while k < n {
+        all = all & (s[at + k] < 128);
         k += 1;
     }
-    n == 0
+    all
 }
 
-// Whole characters, 32 bytes and more at a time, as far as that goes.
-fn blocks(s: &[u8], from: usize) -> usize
-    requires { ⌜ from ≤ length (now s) ⌝ }
-    ensures { λ r. ⌜ (from ≤ r) × (r ≤ length (now (s .entry))) × (r + sound (drop r (now (s .entry))) ≡ from + sound (drop from (now (s .entry)))) ⌝ }
+// The same of a whole text, by blocks of which the last may overlap the one before it: from 32 bytes on,
+fn ascii_long(s: &[u8]) -> bool
+    requires { ⌜ 32 ≤ length (now s) ⌝ }
+    ensures { λ r. ⌜ (r ≡ true → (k : ℕ) → k < length (now (s .entry)) → getD (now (s .entry)) k 0 < 128) ⌝ }
 {
-    let mut i = from;
-    while 32 <= s.len() - i {
-        if ascii_block(s, i) {
+    let n = s.len();
+    let mut i = 0;
+    while 32 <= n - i {
+        if ascii_in(s, i, 32) {
             i += 32;
         } else {
-            let e = whole_block(s, i);
-            if e == i {
-                return i;
-            }
-            i = e;
+            return false;
         }
     }
-    i
+    ascii_in(s, n - 32, 32)
 }
 
-// Character by character, until `stop` is reached or an ill-formed subpart is met.
-fn walk(s: &[u8], from: usize, stop: usize) -> Run
-    requires { ⌜ (from ≤ length (now s)) × (stop ≤ length (now s)) ⌝ }
+// the first and the last bytes of one that has no more than twice as many,
+fn ascii_ends(s: &[u8], size: usize) -> bool
+    requires { ⌜ (size ≤ length (now s)) × (length (now s) ≤ size + size) ⌝ }
+    ensures { λ r. ⌜ (r ≡ true → (k : ℕ) → k < length (now (s .entry)) → getD (now (s .entry)) k 0 < 128) ⌝ }
+{
+    let first = ascii_in(s, 0, size);
+    let last = ascii_in(s, s.len() - size, size);
+    first & last
+}
+
+// and of any.
+pub(crate) fn is_ascii(s: &[u8]) -> bool
+    ensures { λ r. ⌜ (r ≡ true → (k : ℕ) → k < length (now (s .entry)) → getD (now (s .entry)) k 0 < 128) ⌝ }
+{
+    let n = s.len();
+    if n < 8 {
+        return ascii_in(s, 0, n);
+    }
+    if n < 16 {
+        return ascii_ends(s, 8);
+    }
+    if n < 32 {
+        return ascii_ends(s, 16);
+    }
+    ascii_long(s)
+}
+
+// Whether the 32 bytes from `at` on can be passed as they are: between two characters, where they are ASCII.
+fn plain_block(s: &[u8], at: usize, state: u64) -> bool
+    requires { ⌜ at + 32 ≤ length (now s) ⌝ }
+    ensures { λ r. ⌜ (r ≡ true → (stateOf state ≡ 0) × ((k : ℕ) → k < 32 → getD (now (s .entry)) (at + k) 0 < 128)) ⌝ }
+{
+    if state % 64 == 0 {
+        ascii_in(s, at, 32)
+    } else {
+        false
+    }
+}
+
+// The end of the text where the automaton comes to it between two characters, or `good`.
+fn last_block(
+    s: &[u8],
+    good: usize,
+    at: usize,
+    state: u64,
+    classes: &[u8; 256],
+    rows: &[u64; 16],
+) -> usize
+    requires { ⌜ Flow (now s) good 0 at state × Classes (now classes) × Rows (now rows) ⌝ }
+    ensures { λ r. ⌜ (good ≤ r) × (r ≤ length (now (s .entry))) × (r + sound (drop r (now (s .entry))) ≡ good + sound (drop good (now (s .entry)))) ⌝ }
+{
+    let n = s.len();
+    let q = flow_over(s, at, n, state, classes, rows);
+    if q % 64 == 0 {
+        return n;
+    }
+    good
+}
+
+// Whole characters, 32 bytes at a time, as far as that goes. `good` is the last end of a block that stands between two characters.
+fn blocks(s: &[u8], from: usize, classes: &[u8; 256], rows: &[u64; 16]) -> usize
+    requires { ⌜ (from ≤ length (now s)) × Classes (now classes) × Rows (now rows) ⌝ }
+    ensures { λ r. ⌜ (from ≤ r) × (r ≤ length (now (s .entry))) × (r + sound (drop r (now (s .entry))) ≡ from + sound (drop from (now (s .entry)))) ⌝ }
+{
+    let mut good = from;
+    let mut j = from;
+    let mut q: u64 = 0;
+    while 32 <= s.len() - j {
+        if plain_block(s, j, q) {
+            j += 32;
+            good = j;
+        } else {
+            let next = j + 32;
+            q = flow_over(s, j, next, q, classes, rows);
+            j = next;
+            if q % 64 == 6 {
+                return good;
+            }
+            if q % 64 == 0 {
+                good = j;
+            }
+        }
+    }
+    last_block(s, good, j, q, classes, rows)
+}
+
+fn at_least_one(n: usize) -> usize
+    ensures { λ r. ⌜ r ≡ max n 1 ⌝ }
+{
+    if n == 0 { 1 } else { n }
+}
+
+// Byte by byte, until `stop` is reached or an ill-formed subpart is met. `i` is where the character starts that `j` stands in.
+fn walk(s: &[u8], from: usize, stop: usize, classes: &[u8; 256], rows: &[u64; 16]) -> Run
+    requires { ⌜ (from ≤ stop) × (stop ≤ length (now s)) × Classes (now classes) × Rows (now rows) ⌝ }
     ensures { λ r. ⌜ (from ≤ r .end) × (r .end ≤ length (now (s .entry)))
         × (r .end + sound (drop (r .end) (now (s .entry))) ≡ from + sound (drop from (now (s .entry))))
-        × (r .skip ≡ 0 → stop ≤ r .end)
+        × (r .skip ≡ 0 → stop ≡ length (now (s .entry)) → stop ≤ r .end)
         × (0 < r .skip → (r .skip ≡ illSize (drop (r .end) (now (s .entry)))) × (sound (drop (r .end) (now (s .entry))) ≡ 0)) ⌝ }
 {
     let mut i = from;
-    while i < stop {
-        match step_at(s, i) {
-            Step::Good(k) => {
-                i += k;
-            }
-            Step::Bad(k) => {
-                return Run { end: i, skip: k };
-            }
+    let mut j = from;
+    let mut q: u64 = 0;
+    while j < stop {
+        q = next_state(q, s[j], classes, rows);
+        if q % 64 == 6 {
+            return Run {
+                end: i,
+                skip: at_least_one(j - i),
+            };
         }
+        j += 1;
+        if q % 64 == 0 {
+            i = j;
+        }
+    }
+    if j == s.len() {
+        return Run {
+            end: i,
+            skip: j - i,
+        };
     }
     Run { end: i, skip: 0 }
 }
 
-// A few characters one by one first: in a text with many ill-formed subparts the blocks would be tried in vain.
-pub(crate) fn next_run(s: &[u8], from: usize) -> Run
-    requires { ⌜ from ≤ length (now s) ⌝ }
+// The rest of a text, by blocks; what is left of them byte by byte.
+fn far_run(s: &[u8], from: usize, classes: &[u8; 256], rows: &[u64; 16]) -> Run
+    requires { ⌜ (from ≤ length (now s)) × Classes (now classes) × Rows (now rows) ⌝ }
     ensures { λ r. ⌜ (r .end ≡ from + sound (drop from (now (s .entry)))) × (r .skip ≡ illSize (drop (r .end) (now (s .entry)))) ⌝ }
 {
-    let n = s.len();
-    if n - from < 40 {
-        return walk(s, from, n);
+    let e = blocks(s, from, classes, rows);
+    walk(s, e, s.len(), classes, rows)
+}
+
+// A place eight bytes on, or the end.
+fn near(from: usize, size: usize) -> usize
+    requires { ⌜ from ≤ size ⌝ }
+    ensures { λ r. ⌜ (from ≤ r) × (r ≤ size) ⌝ }
+{
+    if size - from < 8 { size } else { from + 8 }
+}
+
+// Behind an ill-formed subpart a few bytes one by one first: where there are many of them, the blocks would be tried in vain.
+pub(crate) fn next_run(s: &[u8], from: usize, classes: &[u8; 256], rows: &[u64; 16]) -> Run
+    requires { ⌜ (from ≤ length (now s)) × Classes (now classes) × Rows (now rows) ⌝ }
+    ensures { λ r. ⌜ (r .end ≡ from + sound (drop from (now (s .entry)))) × (r .skip ≡ illSize (drop (r .end) (now (s .entry)))) ⌝ }
+{
+    if from == 0 {
+        return far_run(s, from, classes, rows);
     }
-    let near = walk(s, from, from + 8);
-    let end = near.end;
-    if near.skip != 0 {
-        return near;
+    let stop = near(from, s.len());
+    let run = walk(s, from, stop, classes, rows);
+    let end = run.end;
+    if run.skip != 0 {
+        return run;
     }
-    walk(s, blocks(s, end), n)
+    far_run(s, end, classes, rows)
 }

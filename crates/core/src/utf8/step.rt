@@ -5,8 +5,8 @@ ghost use Prim.Native.Nat.{suc, _+_, _<_};
 ghost use lib.Dec.{eqb};
 ghost use lib.ListN.{length, getD, drop};
 ghost use Rattle.core.specs.Choice.{pick};
-ghost use Rattle.core.specs.Utf8.{range, tail, within, matched, stepOf};
-use crate::utf8::class::class_of;
+ghost use Rattle.core.specs.Utf8.{range, tail, within, Classes, matched, stepOf};
+use crate::utf8::class::class_in;
 
 // A piece, by its number of bytes.
 pub enum Step {
@@ -72,14 +72,17 @@ fn judged(n: usize, of: usize) -> Step
 }
 
 // The piece that begins at `at`.
-pub(crate) fn step_at(s: &[u8], at: usize) -> Step
-    requires { ⌜ at < length (now s) ⌝ }
+pub(crate) fn step_at(s: &[u8], at: usize, classes: &[u8; 256]) -> Step
+    requires { ⌜ (at < length (now s)) × Classes (now classes) ⌝ }
     ensures { λ r. ⌜ r ≡ stepOf (getD (now (s .entry)) at 0) (drop (at + 1) (now (s .entry))) ⌝ }
 {
-    let c = class_of(s[at]);
+    let b = s[at];
+    if b < 128 {
+        return Step::Good(1);
+    }
+    let c = class_in(classes, b);
     let next = at + 1;
     match c {
-        0 => Step::Bad(1),
         1 => Step::Good(1),
         2 => judged(match1(s, next, 0x80, 0xBF), 1),
         3 => judged(match2(s, next, 0xA0, 0xBF), 2),
@@ -87,6 +90,7 @@ pub(crate) fn step_at(s: &[u8], at: usize) -> Step
         5 => judged(match2(s, next, 0x80, 0x9F), 2),
         7 => judged(match3(s, next, 0x90, 0xBF), 3),
         8 => judged(match3(s, next, 0x80, 0xBF), 3),
-        _ => judged(match3(s, next, 0x80, 0x8F), 3),
+        9 => judged(match3(s, next, 0x80, 0x8F), 3),
+        _ => Step::Bad(1),
     }
 }

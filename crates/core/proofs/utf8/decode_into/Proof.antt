@@ -1,120 +1,47 @@
--- `utf8::decode_into` meets its contract. The loop's invariant: what is still to be decoded, stored, makes the list that all of it makes.
+-- `utf8::decode_into` meets its contract.
 -- Assumes nothing.
-use Prim.Native.Nat.{ℕ, _-_, _<_}
-use mathlib.Core.Path.{_≡_, refl, sym, ap, _∙_}
-use native.Mathlib.Omega.{arith}
+use mathlib.Core.Path.{sym, ap, _∙_}
 use mathlib.Core.List.{List}
+use Prim.Native.Nat.{ℕ}
+use native.Mathlib.Omega.{arith}
 use denote.Ref.{now}
-use lib.ListN.{length, drop}
-use lib.Seq.{sets, slice}
-use Rattle.core.specs.Utf8.{decode}
-use Rattle.core.proofs.utf8.Turns.{part-is, RunAt, run-at, Counted, counted-start, counted-run, counted-last, counted-size, sets-run}
+use lib.Seq.{sets}
+use Rattle.core.proofs.utf8.Turns.{ascii-decode, ascii-size}
 use borrow.Author.Needs.{needs}
 use Rattle.core.proofs.utf8.decode_into.Statement.{statement}
 use Rattle.core.proofs.utf8.decode_into.Tie as tie
 
-abbrev Inv-loop : tie.InvT-loop
-Inv-loop text out₀ at i₀ o₀ grown₀ out i o grown = Counted text i grown × (length out ≡ length out₀) × (sets out o (decode (drop i text)) ≡ sets out₀ at (decode text))
+is-ascii-requires : tie.Need-is-ascii-requires
+is-ascii-requires c κs = search needs
 
-abbrev μ-loop : tie.MeasureT-loop
-μ-loop text out₀ at i₀ o₀ grown₀ out i o grown = length text - i
-
-run : (c : tie.After-next-run Inv-loop μ-loop) → RunAt (now (c .before .before .before .before .args .text)) (c .before .loop .i) (c .next-run .result .end) (c .next-run .result .skip)
-run c = run-at _ _ _ _ (c .before .loop .inv .0 .0) (c .next-run .ensures .0) (c .next-run .ensures .1)
-
-some : (n : ℕ) → (n ≡ 0 → ⊥) → 0 < n
-some n h = omega arith
-
-copied : (c : tie.After-copy Inv-loop μ-loop) → c .copy .last .1 .0 ≡ sets (c .before .before .before .before .loop .out) (c .before .before .before .before .loop .o) (slice (c .before .before .before .before .loop .i) (c .before .before .before .next-run .result .end) (now (c .before .before .before .before .before .before .before .args .text)))
-copied c =
-    let r = run (c .before .before .before) in
-    c .copy .ensures ∙ ap (λ (l : List ℕ). sets (c .before .before .before .before .loop .out) (c .before .before .before .before .loop .o) l) (part-is _ _ _ (r .start))
-
-loop-holds : tie.Need-loop-holds Inv-loop μ-loop
-loop-holds c = (counted-start _, refl, refl)
-
-next-run-requires : tie.Need-next-run-requires Inv-loop μ-loop
-next-run-requires c κs = c .loop .inv .0 .0
-
-sub-copy : tie.Need-sub-copy Inv-loop μ-loop
-sub-copy c = let r = run c in omega (arith, r .start)
-
-part-copy-start : tie.Need-part-copy-start Inv-loop μ-loop
-part-copy-start c = let r = run c in omega (arith, r .start)
-
-part-copy-end : tie.Need-part-copy-end Inv-loop μ-loop
-part-copy-end c = let r = run c in omega (arith, r .reach)
-
-copy-requires : tie.Need-copy-requires Inv-loop μ-loop
+copy-requires : tie.Need-copy-requires
 copy-requires c κs = search needs
 
-total-requires : tie.Need-total-requires Inv-loop μ-loop
-total-requires c κs = search needs
+same-length : tie.Need-same-length
+same-length c = search needs
 
-same-length : tie.Need-same-length Inv-loop μ-loop
-same-length c = c .before .before .before .before .copy .kept .1 .0 ∙ c .before .before .before .before .before .before .before .before .loop .inv .1
-
-returns : tie.Need-returns Inv-loop μ-loop
+returns : tie.Need-returns
 returns c =
-    let r = run (c .before .before .before .before .before .before .before) in (
-      counted-size _ _ _ (counted-last _ _ _ _ _ (c .before .before .before .before .before .before .before .before .loop .inv .0) r (c .before .if1 .taken)) (c .total .ensures),
-      copied (c .before .before .before .before) ∙ ap (λ (l : List ℕ). sets (c .before .before .before .before .before .before .before .before .loop .out) (c .before .before .before .before .before .before .before .before .loop .o) l) (sym (r .whole (c .before .if1 .taken))) ∙ c .before .before .before .before .before .before .before .before .loop .inv .2,
-    )
+    let f = c .before .before .before .before .before .is-ascii .ensures (c .before .before .before .before .if1 .taken) in
+    (ascii-size _ (omega (arith, c .before .before .before .before .before .before .before .before .good)) f, c .before .before .copy .ensures ∙ ap (λ (l : List ℕ). sets (now (c .before .before .before .before .before .before .before .before .args .out)) (c .before .before .before .before .before .before .before .before .args .at) l) (sym (ascii-decode _ f)))
 
-sub-moved : tie.Need-sub-moved Inv-loop μ-loop
-sub-moved c = search needs
+decode-mixed-requires : tie.Need-decode-mixed-requires
+decode-mixed-requires c κs = search needs
 
-moved-requires : tie.Need-moved-requires Inv-loop μ-loop
-moved-requires c κs = search needs
+same-length-2 : tie.Need-same-length-2
+same-length-2 c = search needs
 
-put-replacement-requires : tie.Need-put-replacement-requires Inv-loop μ-loop
-put-replacement-requires c κs = search needs
-
-moved-requires-2 : tie.Need-moved-requires-2 Inv-loop μ-loop
-moved-requires-2 c κs = search needs
-
-sub-grown : tie.Need-sub-grown Inv-loop μ-loop
-sub-grown c = let r = run (c .before .before .before .before .before .before .before .before .before .before .before .before) in omega (arith, r .short)
-
-add-grown : tie.Need-add-grown Inv-loop μ-loop
-add-grown c = let k = counted-run _ _ _ _ _ (c .before .before .before .before .before .before .before .before .before .before .before .before .before .loop .inv .0) (run (c .before .before .before .before .before .before .before .before .before .before .before .before)) (some _ (c .before .before .before .before .before .before .if1 .left)) in omega (arith, k .0, k .2, c .before .before .before .before .before .before .before .before .before .before .before .before .before .before .before .before .good)
-
-add-i : tie.Need-add-i Inv-loop μ-loop
-add-i c = let r = (run (c .before .before .before .before .before .before .before .before .before .before .before .before)) in omega (arith, r .reach)
-
-loop-less : tie.Need-loop-less Inv-loop μ-loop
-loop-less c = let r = (run (c .before .before .before .before .before .before .before .before .before .before .before .before)) in let s = some _ (c .before .before .before .before .before .before .if1 .left) in omega (arith, r .start, r .reach, s)
-
-loop-again : tie.Need-loop-again Inv-loop μ-loop
-loop-again c =
-    let r = (run (c .before .before .before .before .before .before .before .before .before .before .before .before)) in
-    let h = some _ (c .before .before .before .before .before .before .if1 .left) in (
-      counted-run _ _ _ _ _ (c .before .before .before .before .before .before .before .before .before .before .before .before .before .loop .inv .0) r h,
-      c .before .before .before .put-replacement .kept .0 ∙ c .before .before .before .before .before .before .before .before .before .copy .kept .1 .0 ∙ c .before .before .before .before .before .before .before .before .before .before .before .before .before .loop .inv .1,
-      sets-run _ _ _ _ _ _ _ _ _ _ _ r h refl (copied (c .before .before .before .before .before .before .before .before .before)) (c .before .before .before .before .before .moved .ensures) (c .before .before .before .put-replacement .ensures) (c .moved2 .ensures) ∙ c .before .before .before .before .before .before .before .before .before .before .before .before .before .loop .inv .2,
-    )
+returns-2 : tie.Need-returns-2
+returns-2 c = search needs
 
 pub decode-into-spec : {M : Type 1} → statement M
 decode-into-spec =
     tie.close
     (tie.spec
-    Inv-loop
-    μ-loop
-    loop-holds
-    next-run-requires
-    sub-copy
-    part-copy-start
-    part-copy-end
+    is-ascii-requires
     copy-requires
-    total-requires
     same-length
     returns
-    sub-moved
-    moved-requires
-    put-replacement-requires
-    moved-requires-2
-    sub-grown
-    add-grown
-    add-i
-    loop-less
-    loop-again)
+    decode-mixed-requires
+    same-length-2
+    returns-2)

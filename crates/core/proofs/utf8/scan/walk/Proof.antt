@@ -1,56 +1,77 @@
--- `utf8::scan::walk` meets its contract. The loop's invariant: from here on it is as far to the first ill-formed subpart as from the start.
+use denote.Ref.{now}
+-- `utf8::scan::walk` meets its contract. The loop's invariant: the automaton is inside the character that starts at `i`, or there is none yet.
 -- Assumes nothing.
 use mathlib.Core.Path.{_≡_, refl, _∙_}
 use Prim.Native.Nat.{_+_, _-_, _≤_}
 use native.Mathlib.Omega.{arith}
-use denote.Ref.{now}
-use lib.ListN.{length, drop}
+use lib.ListN.{drop}
 use Rattle.core.specs.Utf8.{sound}
-use Rattle.core.proofs.utf8.Turns.{GoodAt, BadAt, good-at, bad-at}
+use Rattle.core.specs.Flow.{stateOf, State}
+use Rattle.core.proofs.utf8.Automaton.{zero-state, state-zero, state-lost, not-zero, not-lost}
+use Rattle.core.proofs.utf8.Inside.{Inside, inside-start, inside-turn, inside-cut, inside-on, inside-new, inside-done}
 use borrow.Author.Needs.{needs}
 use Rattle.core.proofs.utf8.scan.walk.Statement.{statement}
 use Rattle.core.proofs.utf8.scan.walk.Tie as tie
 
 abbrev Inv-loop : tie.InvT-loop
-Inv-loop s from stop i₀ i = (from ≤ i) × (i ≤ length s) × (i + sound (drop i s) ≡ from + sound (drop from s))
+Inv-loop s from stop classes rows i₀ j₀ q₀ i j q = (from ≤ i) × (j ≤ stop) × State q × Inside s i j (stateOf q) × (i + sound (drop i s) ≡ from + sound (drop from s))
 
 abbrev μ-loop : tie.MeasureT-loop
-μ-loop s from stop i₀ i = length s - i
-
-good-arm : (c : tie.After-known-told Inv-loop μ-loop) → GoodAt (now (c .before .before .before .before .before .before .before .args .s)) (c .before .before .before .before .before .loop .i) (c .before .k .given .0 .0)
-good-arm c = good-at _ _ _ (search needs) _ (c .before .before .before .step-at .ensures) (c .before .k .given .1)
-
-bad-arm : (c : tie.After-known-told2 Inv-loop μ-loop) → BadAt (now (c .before .before .before .before .before .before .before .args .s)) (c .before .before .before .before .before .loop .i) (c .before .k2 .given .0 .0)
-bad-arm c = bad-at _ _ _ (search needs) _ (c .before .before .before .step-at .ensures) (c .before .k2 .given .1)
+μ-loop s from stop classes rows i₀ j₀ q₀ i j q = stop - j
 
 loop-holds : tie.Need-loop-holds Inv-loop μ-loop
-loop-holds c = (omega arith, omega arith, refl)
+loop-holds c = (omega arith, omega arith, zero-state, rw (state-zero 0 refl) (inside-start _ _ (omega arith)), refl)
 
-step-at-requires : tie.Need-step-at-requires Inv-loop μ-loop
-step-at-requires c κs = omega arith
+shared-slice-read-next-state : tie.Need-shared-slice-read-next-state Inv-loop μ-loop
+shared-slice-read-next-state c = omega arith
 
-enum-known-k : tie.Need-enum-known-k Inv-loop μ-loop
-enum-known-k c = c .match .keys1
+next-state-requires : tie.Need-next-state-requires Inv-loop μ-loop
+next-state-requires c κs = (c .before .before .loop .inv .2, c .before .before .before .before .pre .2, c .before .before .before .before .pre .3)
 
-add-i : tie.Need-add-i Inv-loop μ-loop
-add-i c = let t = good-arm c in omega (arith, t .reach)
+sub-at-least-one : tie.Need-sub-at-least-one Inv-loop μ-loop
+sub-at-least-one c = omega (arith, c .before .before .before .before .loop .inv .3 .start)
 
-loop-less : tie.Need-loop-less Inv-loop μ-loop
-loop-less c = let t = good-arm c in omega (arith, t .reach, t .some)
-
-loop-again : tie.Need-loop-again Inv-loop μ-loop
-loop-again c = let t = good-arm c in (omega (arith, c .before .before .before .before .before .loop .inv .0), t .reach, t .on ∙ c .before .before .before .before .before .loop .inv .2)
-
-enum-known-k-2 : tie.Need-enum-known-k-2 Inv-loop μ-loop
-enum-known-k-2 c = c .match .keys2
+at-least-one-requires : tie.Need-at-least-one-requires Inv-loop μ-loop
+at-least-one-requires c κs = search needs
 
 returns : tie.Need-returns Inv-loop μ-loop
 returns c =
-    let t = bad-arm c in
-    (c .before .before .before .before .before .loop .inv .0, c .before .before .before .before .before .loop .inv .1, c .before .before .before .before .before .loop .inv .2, λ e. absurd (omega (arith, t .some, e)), λ h. (t .size, t .here))
+    let b = inside-turn (now (c .before .before .before .before .before .before .before .args .s)) _ _ _ _ (c .before .before .before .before .before .loop .inv .3) (omega arith) (c .before .before .next-state .ensures .1) .lost (state-lost _ (c .before .if1 .taken)) in
+    (c .before .before .before .before .before .loop .inv .0, omega (arith, c .before .before .before .before .before .loop .inv .3 .start), c .before .before .before .before .before .loop .inv .4, λ e. absurd (omega (arith, c .at-least-one .ensures, e)), λ h. (c .at-least-one .ensures ∙ b .size, b .here))
+
+add-j : tie.Need-add-j Inv-loop μ-loop
+add-j c = omega arith
+
+loop-less : tie.Need-loop-less Inv-loop μ-loop
+loop-less c = omega arith
+
+loop-again : tie.Need-loop-again Inv-loop μ-loop
+loop-again c =
+    let t = inside-turn (now (c .before .before .before .before .before .before .before .args .s)) _ _ _ _ (c .before .before .before .before .before .loop .inv .3) (omega arith) (c .before .before .next-state .ensures .1) in
+    let z = state-zero _ (c .if2 .taken) in
+    (omega (arith, c .before .before .before .before .before .loop .inv .3 .start), omega arith, c .before .before .next-state .ensures .0, inside-new _ _ _ (omega arith) z, inside-done _ _ _ _ t (c .before .before .before .before .before .loop .inv .3 .start) z ∙ c .before .before .before .before .before .loop .inv .4)
+
+loop-less-2 : tie.Need-loop-less-2 Inv-loop μ-loop
+loop-less-2 c = omega arith
+
+loop-again-2 : tie.Need-loop-again-2 Inv-loop μ-loop
+loop-again-2 c =
+    let t = inside-turn (now (c .before .before .before .before .before .before .before .args .s)) _ _ _ _ (c .before .before .before .before .before .loop .inv .3) (omega arith) (c .before .before .next-state .ensures .1) in
+    let n = c .before .before .next-state .ensures .0 in
+    (c .before .before .before .before .before .loop .inv .0, omega arith, n, inside-on _ _ _ _ t (c .before .before .before .before .before .loop .inv .3 .start) (omega arith) (not-lost _ n (c .before .if1 .left)) (not-zero _ n (c .if2 .left)), c .before .before .before .before .before .loop .inv .4)
+
+sub-t17 : tie.Need-sub-t17 Inv-loop μ-loop
+sub-t17 c = omega (arith, c .before .before .loop .inv .3 .start)
 
 returns-2 : tie.Need-returns-2 Inv-loop μ-loop
-returns-2 c = (c .before .loop .inv .0, c .before .loop .inv .1, c .before .loop .inv .2, λ e. c .loop-test .left, λ h. absurd (omega (arith, h)))
+returns-2 c =
+    let n = c .before .before .loop .inv .3 in
+    (c .before .before .loop .inv .0, omega (arith, n .start), c .before .before .loop .inv .4, λ e w. omega (arith, e, w, c .if3 .taken), λ h. let b = inside-cut _ _ _ _ n (omega arith) (omega (arith, h)) in (b .size, b .here))
+
+returns-3 : tie.Need-returns-3 Inv-loop μ-loop
+returns-3 c =
+    let n = c .before .before .loop .inv .3 in
+    (c .before .before .loop .inv .0, omega (arith, n .start), c .before .before .loop .inv .4, λ e w. absurd (omega (arith, w, c .if3 .left)), λ h. absurd (omega (arith, h)))
 
 pub walk-spec : {M : Type 1} → statement M
 walk-spec =
@@ -59,11 +80,16 @@ walk-spec =
     Inv-loop
     μ-loop
     loop-holds
-    step-at-requires
-    enum-known-k
-    add-i
+    shared-slice-read-next-state
+    next-state-requires
+    sub-at-least-one
+    at-least-one-requires
+    returns
+    add-j
     loop-less
     loop-again
-    enum-known-k-2
-    returns
-    returns-2)
+    loop-less-2
+    loop-again-2
+    sub-t17
+    returns-2
+    returns-3)

@@ -1,0 +1,22 @@
+-- `utf8::decode_mixed` meets its contract.
+-- Assumes nothing.
+use mathlib.Core.Path.{refl}
+use Rattle.core.specs.Utf8.{rows, within, classOf, byteClass}
+use Rattle.core.specs.Flow.{stateAfter}
+use Rattle.core.proofs.utf8.Tables.{sample, classTest, rowTest, classes-by, rows-by}
+use borrow.Author.Needs.{needs}
+use Rattle.core.proofs.utf8.decode_mixed.Statement.{statement}
+use Rattle.core.proofs.utf8.decode_mixed.Tie as tie
+
+decode-runs-requires : tie.Need-decode-runs-requires
+unfolding classTest rowTest sample byteClass classOf rows within stateAfter
+decode-runs-requires c κs = (classes-by _ refl tt, rows-by _ tt)
+
+same-length : tie.Need-same-length
+same-length c = search needs
+
+returns : tie.Need-returns
+returns c = search needs
+
+pub decode-mixed-spec : {M : Type 1} → statement M
+decode-mixed-spec = tie.close (tie.spec decode-runs-requires same-length returns)

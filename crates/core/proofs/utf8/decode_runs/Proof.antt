@@ -1,0 +1,103 @@
+-- `utf8::decode_runs` meets its contract. The loop's invariant: what is still to be decoded, stored, makes the list that all of it makes.
+-- Assumes nothing.
+use Prim.Native.Nat.{ℕ, _-_, _<_}
+use mathlib.Core.Path.{_≡_, refl, sym, ap, _∙_}
+use native.Mathlib.Omega.{arith}
+use mathlib.Core.List.{List}
+use denote.Ref.{now}
+use lib.ListN.{length, drop}
+use lib.Seq.{sets}
+use Rattle.core.specs.Utf8.{decode}
+use Rattle.core.proofs.utf8.Turns.{part-is, RunAt, run-at, Counted, counted-start, counted-run, counted-last, counted-size, sets-run}
+use borrow.Author.Needs.{needs}
+use Rattle.core.proofs.utf8.decode_runs.Statement.{statement}
+use Rattle.core.proofs.utf8.decode_runs.Tie as tie
+
+abbrev Inv-loop : tie.InvT-loop
+Inv-loop text out₀ at classes rows i₀ o₀ grown₀ out i o grown = Counted text i grown × (length out ≡ length out₀) × (sets out o (decode (drop i text)) ≡ sets out₀ at (decode text))
+
+abbrev μ-loop : tie.MeasureT-loop
+μ-loop text out₀ at classes rows i₀ o₀ grown₀ out i o grown = length text - i
+
+run : (c : tie.After-next-run Inv-loop μ-loop) → RunAt (now (c .before .before .before .before .args .text)) (c .before .loop .i) (c .next-run .result .end) (c .next-run .result .skip)
+run c = run-at _ _ _ _ (c .before .loop .inv .0 .0) (c .next-run .ensures .0) (c .next-run .ensures .1)
+
+some : (n : ℕ) → (n ≡ 0 → ⊥) → 0 < n
+some n h = omega arith
+
+loop-holds : tie.Need-loop-holds Inv-loop μ-loop
+loop-holds c = (counted-start _, refl, refl)
+
+next-run-requires : tie.Need-next-run-requires Inv-loop μ-loop
+next-run-requires c κs = (c .loop .inv .0 .0, c .before .before .before .pre .0, c .before .before .before .pre .1)
+
+sub-copy-on : tie.Need-sub-copy-on Inv-loop μ-loop
+sub-copy-on c = let r = run c in omega (arith, r .start)
+
+part-copy-on-start : tie.Need-part-copy-on-start Inv-loop μ-loop
+part-copy-on-start c = let r = run c in omega (arith, r .start)
+
+part-copy-on-end : tie.Need-part-copy-on-end Inv-loop μ-loop
+part-copy-on-end c = let r = run c in omega (arith, r .reach)
+
+copy-on-requires : tie.Need-copy-on-requires Inv-loop μ-loop
+copy-on-requires c κs = search needs
+
+total-requires : tie.Need-total-requires Inv-loop μ-loop
+total-requires c κs = search needs
+
+same-length : tie.Need-same-length Inv-loop μ-loop
+same-length c = c .before .before .before .before .copy-on .kept .1 .0 ∙ c .before .before .before .before .before .before .before .before .loop .inv .1
+
+returns : tie.Need-returns Inv-loop μ-loop
+returns c =
+    let r = run (c .before .before .before .before .before .before .before) in (
+      counted-size _ _ _ (counted-last _ _ _ _ _ (c .before .before .before .before .before .before .before .before .loop .inv .0) r (c .before .if1 .taken)) (c .total .ensures),
+      c .before .before .before .before .copy-on .ensures .0 ∙ ap (λ (l : List ℕ). sets (c .before .before .before .before .before .before .before .before .loop .out) (c .before .before .before .before .before .before .before .before .loop .o) l) (part-is _ _ _ (r .start) ∙ sym (r .whole (c .before .if1 .taken))) ∙ c .before .before .before .before .before .before .before .before .loop .inv .2,
+    )
+
+put-replacement-requires : tie.Need-put-replacement-requires Inv-loop μ-loop
+put-replacement-requires c κs = search needs
+
+sub-grown : tie.Need-sub-grown Inv-loop μ-loop
+sub-grown c = let r = run (c .before .before .before .before .before .before .before .before .before .before) in omega (arith, r .short)
+
+add-grown : tie.Need-add-grown Inv-loop μ-loop
+add-grown c = let k = counted-run _ _ _ _ _ (c .before .before .before .before .before .before .before .before .before .before .before .loop .inv .0) (run (c .before .before .before .before .before .before .before .before .before .before)) (some _ (c .before .before .before .before .if1 .left)) in omega (arith, k .0, k .2, c .before .before .before .before .before .before .before .before .before .before .before .before .before .before .good)
+
+add-i : tie.Need-add-i Inv-loop μ-loop
+add-i c = let r = run (c .before .before .before .before .before .before .before .before .before .before) in omega (arith, r .reach)
+
+loop-less : tie.Need-loop-less Inv-loop μ-loop
+loop-less c = let r = run (c .before .before .before .before .before .before .before .before .before .before) in let s = some _ (c .before .before .before .before .if1 .left) in omega (arith, r .start, r .reach, s)
+
+loop-again : tie.Need-loop-again Inv-loop μ-loop
+loop-again c =
+    let r = run (c .before .before .before .before .before .before .before .before .before .before) in
+    let h = some _ (c .before .before .before .before .if1 .left) in (
+      counted-run _ _ _ _ _ (c .before .before .before .before .before .before .before .before .before .before .before .loop .inv .0) r h,
+      c .before .before .put-replacement .kept .0 ∙ c .before .before .before .before .before .before .before .copy-on .kept .1 .0 ∙ c .before .before .before .before .before .before .before .before .before .before .before .loop .inv .1,
+      sets-run _ _ _ _ _ _ _ _ _ _ _ r h (part-is _ _ _ (r .start)) (c .before .before .before .before .before .before .before .copy-on .ensures .0) (c .before .before .before .before .before .before .before .copy-on .ensures .1) (c .before .before .put-replacement .ensures .0) (c .before .before .put-replacement .ensures .1) ∙ c .before .before .before .before .before .before .before .before .before .before .before .loop .inv .2,
+    )
+
+pub decode-runs-spec : {M : Type 1} → statement M
+decode-runs-spec =
+    tie.close
+    (tie.spec
+    Inv-loop
+    μ-loop
+    loop-holds
+    next-run-requires
+    sub-copy-on
+    part-copy-on-start
+    part-copy-on-end
+    copy-on-requires
+    total-requires
+    same-length
+    returns
+    put-replacement-requires
+    sub-grown
+    add-grown
+    add-i
+    loop-less
+    loop-again)

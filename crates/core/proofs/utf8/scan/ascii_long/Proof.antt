@@ -1,0 +1,64 @@
+-- `utf8::scan::ascii_long` meets its contract. The loop's invariant: every byte passed is below 128.
+-- Assumes nothing.
+use denote.Ref.{now}
+use Prim.Native.Nat.{ℕ, _-_, _≤_, _<_}
+use mathlib.Core.Path.{sym}
+use mathlib.Core.Bool.{true≢false}
+use native.Mathlib.Omega.{arith}
+use lib.ListN.{length, getD}
+use Rattle.core.proofs.utf8.Turns.{ascii-on, ascii-last}
+use Rattle.core.proofs.utf8.scan.ascii_long.Statement.{statement}
+use Rattle.core.proofs.utf8.scan.ascii_long.Tie as tie
+
+abbrev Inv-loop : tie.InvT-loop
+Inv-loop s n i₀ i = (i ≤ length s) × ((k : ℕ) → k < i → getD s k 0 < 128)
+
+abbrev μ-loop : tie.MeasureT-loop
+μ-loop s n i₀ i = length s - i
+
+loop-holds : tie.Need-loop-holds Inv-loop μ-loop
+loop-holds c = (omega arith, λ k h. absurd (omega arith))
+
+sub-loop : tie.Need-sub-loop Inv-loop μ-loop
+sub-loop c = omega arith
+
+ascii-in-requires : tie.Need-ascii-in-requires Inv-loop μ-loop
+ascii-in-requires c κs = omega arith
+
+add-i : tie.Need-add-i Inv-loop μ-loop
+add-i c = omega arith
+
+loop-less : tie.Need-loop-less Inv-loop μ-loop
+loop-less c = omega arith
+
+loop-again : tie.Need-loop-again Inv-loop μ-loop
+loop-again c = (omega arith, ascii-on (now (c .before .before .before .before .before .args .s)) _ _ (c .before .before .before .loop .inv .1) (c .before .ascii-in .ensures (c .if1 .taken)))
+
+returns : tie.Need-returns Inv-loop μ-loop
+returns c = λ e. absurd (true≢false (sym e))
+
+sub-ascii-in : tie.Need-sub-ascii-in Inv-loop μ-loop
+sub-ascii-in c = omega arith
+
+ascii-in-requires-2 : tie.Need-ascii-in-requires-2 Inv-loop μ-loop
+ascii-in-requires-2 c κs = omega arith
+
+returns-2 : tie.Need-returns-2 Inv-loop μ-loop
+returns-2 c = λ e. ascii-last (now (c .before .before .before .before .args .s)) _ 32 (c .before .before .before .before .pre) (omega arith) (c .before .before .loop .inv .1) (c .ascii-in2 .ensures e)
+
+pub ascii-long-spec : {M : Type 1} → statement M
+ascii-long-spec =
+    tie.close
+    (tie.spec
+    Inv-loop
+    μ-loop
+    loop-holds
+    sub-loop
+    ascii-in-requires
+    add-i
+    loop-less
+    loop-again
+    returns
+    sub-ascii-in
+    ascii-in-requires-2
+    returns-2)
