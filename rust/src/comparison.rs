@@ -11,8 +11,10 @@ const MARGIN: usize = 16;
 /// The words and bytes of a record above which a section is left out, and the same for the large ones.
 const MOST: usize = 300_000;
 const MOST_LARGE: usize = 80_000_000;
-/// One of so many sections has its texts looked for.
-const TEXTS: usize = 4;
+/// One of so many sections has its texts looked for, and so many of them; in a large section only some.
+const SHARE: usize = 4;
+const TEXTS: usize = 24;
+const TEXTS_LARGE: usize = 2;
 
 /// What was seen of one kind of section.
 #[derive(Clone, Default)]
@@ -129,16 +131,16 @@ impl<'a> Comparison<'a> {
         let mut maker = Maker::new(seed);
         fixed_sections(&mut |kind, section| self.look(kind, section));
         random_sections(&mut maker, count, &mut |kind, section| self.look(kind, section));
-        large_sections(&mut maker, &mut |kind, section| self.look_at(kind, section, MOST_LARGE, false));
+        large_sections(&mut maker, &mut |kind, section| self.look_at(kind, section, MOST_LARGE, TEXTS_LARGE));
     }
 
     /// Compares all that can be asked of one section.
     pub fn look(&mut self, kind: &str, section: &[u8]) {
-        let texts = self.random.below(TEXTS) == 0;
+        let texts = if self.random.below(SHARE) == 0 { TEXTS } else { 0 };
         self.look_at(kind, section, MOST, texts);
     }
 
-    fn look_at(&mut self, kind: &str, section: &[u8], most: usize, texts: bool) {
+    fn look_at(&mut self, kind: &str, section: &[u8], most: usize, texts: usize) {
         if self.kinds.get(self.present).is_none_or(|present| present.name != kind) {
             self.present = self.kinds.iter().position(|k| k.name == kind).unwrap_or(self.kinds.len());
             if self.present == self.kinds.len() {
@@ -174,8 +176,8 @@ impl<'a> Comparison<'a> {
         held.resize(before + section.len() + 16, fill);
         let placed = &held[before..before + section.len()];
         self.reads(placed, &walked);
-        if texts {
-            self.finds(placed, &walked);
+        if texts > 0 {
+            self.finds(placed, &walked, texts);
         }
         if placed != section {
             self.differs(section, "the section was changed".to_owned());
@@ -269,8 +271,8 @@ impl<'a> Comparison<'a> {
         self.count(|kind| kind.finds += 1);
     }
 
-    /// Looks for every text, or for some where there are many, and for texts that are not there.
-    fn finds(&mut self, section: &[u8], walked: &Walked) {
+    /// Looks for every text, or for `most` of them, and for texts that are not there.
+    fn finds(&mut self, section: &[u8], walked: &Walked, most: usize) {
         let room = self.random.below(40);
         if let Err(refusal) = &walked.outcome {
             let [number, a, b] = refusal.numbers();
@@ -283,8 +285,8 @@ impl<'a> Comparison<'a> {
         for text in [count, count + 1 + self.random.below(9), usize::MAX] {
             self.find(section, text, room, [10, 0, 0, 0], &[]);
         }
-        for i in 0..count.min(24) {
-            let text = if count > 24 { self.random.below(count) } else { i };
+        for i in 0..count.min(most) {
+            let text = if count > most { self.random.below(count) } else { i };
             let Place { start, len } = walked.places[text];
             let raw = &section[start..start + len];
             if std::str::from_utf8(raw).is_ok() {
@@ -311,7 +313,7 @@ impl<'a> Comparison<'a> {
             // the choices within a look are random: some are tried
             let mut fresh = Comparison::new(reader, 1);
             for _ in 0..4 {
-                fresh.look_at("", section, MOST, true);
+                fresh.look_at("", section, MOST, TEXTS);
             }
             fresh.smallest.map(|(_, what)| what)
         };

@@ -48,6 +48,7 @@ pub mod proved;
 pub mod random;
 pub mod reader;
 pub mod record;
+pub mod sample;
 pub mod sections;
 
 use crate::bflan::anim_info::PaneAnimInfo;

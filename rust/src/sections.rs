@@ -816,6 +816,9 @@ pub fn fixed_sections(see: See) {
     let mut codes: Vec<u32> = TARGET_NUMBERS.iter().map(|(code, _)| u32::from_le_bytes(**code)).collect();
     codes.extend([0, u32::from_le_bytes(*b"XXXX"), u32::from_le_bytes(*b"flvi"), u32::MAX]);
     for letters in codes {
+        let numbers = TARGET_NUMBERS.iter().find(|(code, _)| u32::from_le_bytes(**code) == letters).map_or(1, |n| n.1);
+        let targets = [0, numbers - 1, numbers, 255].map(|target| Target { target, ..Target::default() });
+        see("targets around their number", &written(&one_info(letters, targets.to_vec())));
         // an info has at most 255 targets
         for numbers in [0..=127, 128..=255] {
             let targets = numbers.map(|target| Target { target, ..Target::default() }).collect();

@@ -6,6 +6,7 @@ use compare::layout::{FLEU, Rules};
 use compare::random::Random;
 use compare::reader::{ByLayout, ByReference, Reader};
 use compare::record::{Flat, Refusal, reference};
+use compare::sample::{replay, sample};
 use compare::sections::{
     Maker, Placing, READABLE, Shape, Target, content_p, fixed_sections, placed, random_sections, speed,
 };
@@ -185,5 +186,27 @@ fn every_nan_keeps_its_bits() {
         let section = compare::sections::one_target(*b"FLPA", target);
         let flat = reference(&section).unwrap();
         assert!(flat.words[13..] == keys);
+    }
+}
+
+/// The sample holds every outcome but the limit's, is small, and is what the reader answers.
+#[test]
+fn the_sample_is_replayed() {
+    let sample = sample();
+    assert!(sample.bytes.len() < 1 << 20);
+    assert!(sample.cases > 2_000);
+    assert!([0, 1, 3, 4, 5].iter().all(|&number| sample.numbers[number] > 100), "{:?}", sample.numbers);
+    assert_eq!(replay(&sample.bytes, &ByReference), (sample.cases, None));
+    let (name, reader) = compare::proved::reader();
+    assert_eq!(replay(&sample.bytes, reader), (sample.cases, None), "{name}");
+    // and it catches the mistaken readers too
+    let right = Rules::DOCUMENT;
+    for rules in [
+        Rules { textures_from: 0, ..right },
+        Rules { key_text_from: 4, ..right },
+        Rules { targets_bounded: false, ..right },
+        Rules { one_for_each_byte: true, ..right },
+    ] {
+        assert!(replay(&sample.bytes, &ByLayout(rules)).1.is_some());
     }
 }
