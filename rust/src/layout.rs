@@ -68,7 +68,7 @@ enum Stop {
     TooLong,
 }
 
-/// Walks over a section. None if the record has more than `most` words and bytes, or as many bytes are looked at.
+/// Walks over a section. None if the record's words and its texts' bytes, before decoding, are more than `most`.
 pub fn walk(section: &[u8], rules: &Rules, most: usize) -> Option<Walked> {
     let mut walk = Walk { section, rules, left: most, flat: Flat::default(), places: Vec::new(), asked: 0 };
     let outcome = match walk.section() {
