@@ -50,7 +50,7 @@ fn copy_reference(here: &Path) {
 /// Proves and builds crates/capi, and links its archive.
 fn link_proved(here: &Path) {
     let root = here.parent().unwrap();
-    for watched in ["crates.txt", "crates/core", "crates/capi"] {
+    for watched in ["crates.txt", "crates"] {
         println!("cargo::rerun-if-changed={}", root.join(watched).display());
     }
     let status = Command::new("rt")
@@ -61,7 +61,14 @@ fn link_proved(here: &Path) {
     assert!(status.success(), "rt staticlib capi: {status}");
     // a copy, since the gate removes the repository's target/
     let copy = PathBuf::from(env::var_os("OUT_DIR").unwrap());
-    fs::copy(root.join("target/staticlib/libcapi.a"), copy.join("libcapi.a")).unwrap();
+    let archive = fs::read(root.join("target/staticlib/libcapi.a")).unwrap();
+    fs::write(copy.join("libcapi.a"), &archive).unwrap();
+    // the archive's index has each exported name with a zero behind it
+    let exports = |name: &str| archive.windows(name.len()).any(|bytes| bytes == name.as_bytes());
+    println!("cargo::rustc-check-cfg=cfg(reader)");
+    if exports("nnbfl_read\0") && exports("nnbfl_find_text\0") {
+        println!("cargo::rustc-cfg=reader");
+    }
     println!("cargo::rustc-link-search=native={}", copy.display());
     println!("cargo::rustc-link-lib=static=capi");
 }

@@ -42,8 +42,14 @@ pub mod ui2d {
 }
 
 pub mod chars;
+pub mod comparison;
+pub mod layout;
 pub mod proved;
 pub mod random;
+pub mod reader;
+pub mod record;
+pub mod sample;
+pub mod sections;
 
 use crate::bflan::anim_info::PaneAnimInfo;
 use crate::bflan::file::BflanSections;

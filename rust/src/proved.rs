@@ -1,5 +1,7 @@
 //! The proved functions of crates/capi, as safe functions. None asks anything of its caller, so a wrapper only takes
 //! each slice apart into the address and the length that C passes.
+use crate::reader::Reader;
+
 unsafe extern "C" {
     fn nnbfl_decoded_len(text: *const u8, text_len: usize) -> usize;
     fn nnbfl_decode_into(text: *const u8, text_len: usize, out: *mut u8, out_len: usize, at: usize) -> usize;
@@ -44,4 +46,72 @@ pub fn first_zero(text: &[u8]) -> usize {
 /// The earlier of the two.
 pub fn first_fault(text: &[u8]) -> usize {
     unsafe { nnbfl_first_fault(text.as_ptr(), text.len()) }
+}
+
+#[cfg(reader)]
+unsafe extern "C" {
+    fn nnbfl_read(
+        section: *const u8,
+        section_len: usize,
+        words: *mut u32,
+        words_len: usize,
+        texts: *mut u8,
+        texts_len: usize,
+        answer: *mut usize,
+        answer_len: usize,
+    );
+    fn nnbfl_find_text(
+        section: *const u8,
+        section_len: usize,
+        text: usize,
+        scratch: *mut u8,
+        scratch_len: usize,
+        answer: *mut usize,
+        answer_len: usize,
+    );
+}
+
+/// The proved reader.
+#[cfg(reader)]
+pub struct Proved;
+
+#[cfg(reader)]
+impl Reader for Proved {
+    fn read(&self, section: &[u8], words: &mut [u32], texts: &mut [u8], answer: &mut [usize]) {
+        unsafe {
+            nnbfl_read(
+                section.as_ptr(),
+                section.len(),
+                words.as_mut_ptr(),
+                words.len(),
+                texts.as_mut_ptr(),
+                texts.len(),
+                answer.as_mut_ptr(),
+                answer.len(),
+            )
+        }
+    }
+
+    fn find_text(&self, section: &[u8], text: usize, scratch: &mut [u8], answer: &mut [usize]) {
+        unsafe {
+            nnbfl_find_text(
+                section.as_ptr(),
+                section.len(),
+                text,
+                scratch.as_mut_ptr(),
+                scratch.len(),
+                answer.as_mut_ptr(),
+                answer.len(),
+            )
+        }
+    }
+}
+
+/// The reader that is compared and timed, and its name: the proved one, or the reference behind the same calls while
+/// crates/capi does not export it.
+pub fn reader() -> (&'static str, &'static dyn Reader) {
+    #[cfg(reader)]
+    return ("nnbfl_read", &Proved);
+    #[cfg(not(reader))]
+    return ("a STAND-IN, since crates/capi exports no reader", &crate::reader::ByReference);
 }

@@ -1,4 +1,4 @@
-//! What the reference does on the inputs of docs/DIFFERENCES.md. Each test is one entry there.
+//! What the reference does on the inputs of docs/DIFFERENCES.md, and what the reader answers. Each test is one entry there.
 use std::panic::{AssertUnwindSafe, catch_unwind};
 use std::process::Command;
 
@@ -7,7 +7,7 @@ use compare::bflan::curves::{Curve, StepKey};
 use compare::bflan::file::BflanSections;
 use compare::bflan::targets::{AnimTarget, TargetIndex};
 use compare::core::FormatError;
-use compare::{parse, serialize};
+use compare::{parse, proved, serialize};
 
 const LIMIT: usize = 16_777_216;
 
@@ -23,6 +23,13 @@ fn eof(section: &[u8]) -> (usize, usize) {
         Err(FormatError::UnexpectedEof { offset, requested_bytes }) => (offset, requested_bytes),
         other => panic!("not refused at the end: {other:?}"),
     }
+}
+
+/// What the reader answers, with tables of no length.
+fn here(section: &[u8]) -> [usize; 3] {
+    let mut answer = [usize::MAX; 3];
+    proved::reader().1.read(section, &mut [], &mut [], &mut answer);
+    answer
 }
 
 fn half(bytes: &[u8], at: usize) -> u16 {
@@ -59,6 +66,8 @@ fn entry_1_a_longer_slice_is_read() {
     let mut section = smallest();
     section.resize(LIMIT + 1, 0);
     assert_eq!(read(&section).frame_count, 60);
+    assert_eq!(here(&section), [2, LIMIT + 1, 0]);
+    assert_eq!(here(&section[..LIMIT]), [5, 4, 0]);
 }
 
 #[test]
@@ -83,6 +92,11 @@ fn entry_3_other_letters() {
     let mut tag = b"pat1\x20\0\0\0".to_vec();
     tag.resize(32, 0);
     assert!(matches!(parse(&tag), Ok(BflanSections::PaneAnimTag(_))));
+    for section in [&b"abcd\x0A\0\0\0xy"[..], b"abcd\x04\0\0\0", b"usd1\x0C\0\0\0\0\0\0\0", &tag] {
+        let letters = u32::from_le_bytes(section[..4].try_into().unwrap());
+        assert_eq!(here(section), [1, letters as usize, 0]);
+        assert_eq!(here(&section[..7]), [3, 4, 4]);
+    }
 }
 
 #[test]
@@ -209,6 +223,8 @@ fn parses_one_text_many_times() {
 fn entry_8_an_allocation_that_fails_aborts() {
     assert!(aborts("parses_huge_base_count"));
     assert!(aborts("parses_one_text_many_times"));
+    // the values begin at 92, and there are 112 bytes
+    assert_eq!(here(&huge_base_count()), [3, 112, 4]);
 }
 
 #[test]
@@ -220,7 +236,9 @@ fn entry_9_skipped_bytes_are_not_tested() {
     section.truncate(90);
     section[4..8].copy_from_slice(&90u32.to_le_bytes());
     assert_eq!(read(&section), one);
+    assert_eq!(here(&section), [5, 15, 1]);
     // two keys asked for: the next read starts two bytes past the end, and is refused there
     section[76..78].copy_from_slice(&2u16.to_le_bytes());
     assert_eq!(eof(&section), (92, 4));
+    assert_eq!(here(&section), [3, 92, 4]);
 }

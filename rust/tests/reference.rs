@@ -4,6 +4,7 @@ use compare::bflan::curves::{Curve, StepKey};
 use compare::bflan::file::BflanSections;
 use compare::bflan::targets::{AnimTarget, TargetIndex};
 use compare::core::FormatError;
+use compare::layout::TARGET_NUMBERS;
 use compare::{parse, serialize};
 
 /// Parses `bytes`, which must be a pai1 section that is written back as it is, and hands out the record.
@@ -75,33 +76,13 @@ fn ends_too_early() {
 /// The target numbers of each of the letters, as document 01 has them.
 #[test]
 fn target_numbers() {
-    let numbers = [
-        ("FLCC", 16),
-        ("FLCT", 2),
-        ("FLPA", 10),
-        ("FLVC", 17),
-        ("FLVI", 1),
-        ("FLDS", 19),
-        ("FLMT", 5),
-        ("FLPS", 52),
-        ("FLWN", 4),
-        ("FSMA", 1),
-        ("FLAC", 1),
-        ("FLFS", 7),
-        ("FLIM", 3),
-        ("FLMC", 28),
-        ("FLTS", 5),
-        ("FLTP", 1),
-        ("FTBR", 7),
-        ("FVGA", 1),
-    ];
-    for (letters, number) in numbers {
-        let code = u32::from_le_bytes(letters.as_bytes().try_into().unwrap());
+    for (letters, number) in TARGET_NUMBERS {
+        let code = u32::from_le_bytes(*letters);
         let kind = AnimInfoType::from(code);
         assert_eq!(u32::from(kind), code);
         for raw in 0..=255 {
             let wanted = if raw < number { raw } else { 0 };
-            assert_eq!(TargetIndex::resolve(&kind, raw).to_raw(), wanted, "{letters} {raw}");
+            assert_eq!(TargetIndex::resolve(&kind, raw).to_raw(), wanted, "{letters:?} {raw}");
         }
     }
     let unlisted = AnimInfoType::from(u32::from_le_bytes(*b"XXXX"));

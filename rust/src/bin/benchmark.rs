@@ -1,11 +1,14 @@
-//! Times the proved decoding of texts beside Rust's, on the same bytes in the same program: the best of many
-//! repetitions, in bytes of input a second. Usage: benchmark [SECONDS a cell].
+//! Times the proved code beside the Rust, on the same bytes in the same program: the best of many repetitions, in bytes of
+//! input a second. Usage: benchmark [texts|sections] [SECONDS a cell]; without a part, both.
+//!
+//! texts: the decoding beside Rust's own. sections: reading beside the reference's `BflanSections::parse`.
 use std::hint::black_box;
 use std::time::{Duration, Instant};
 
 use compare::chars::{WORDS, char_of_len, damage, push, push_char};
-use compare::proved;
 use compare::random::Random;
+use compare::sections::speed;
+use compare::{parse, proved};
 
 /// The input of one line: texts one after another, each given by where it ends.
 struct Input {
@@ -90,27 +93,91 @@ fn inputs() -> Vec<(&'static str, Vec<Input>)> {
 
 /// The shortest time of one pass over the input, tried again until `budget` is spent.
 fn best(budget: Duration, mut pass: impl FnMut()) -> f64 {
+    best_of(budget, || {
+        let start = Instant::now();
+        pass();
+        start.elapsed()
+    })
+}
+
+/// The shortest of the times that passes give, tried again until `budget` is spent.
+fn best_of(budget: Duration, mut pass: impl FnMut() -> Duration) -> f64 {
     let begun = Instant::now();
     let mut least = f64::INFINITY;
     let mut tries = 0;
     while tries < 5 || begun.elapsed() < budget {
-        let start = Instant::now();
-        pass();
-        least = least.min(start.elapsed().as_secs_f64());
+        least = least.min(pass().as_secs_f64());
         tries += 1;
     }
     least
 }
 
 fn main() {
-    let seconds = std::env::args().nth(1).map_or(0.5, |a| a.parse().expect("a number of seconds"));
+    let mut args = std::env::args().skip(1).peekable();
+    let part = args.next_if(|a| a.parse::<f64>().is_err());
+    let seconds = args.next().map_or(0.5, |a| a.parse().expect("a number of seconds"));
     let budget = Duration::from_secs_f64(seconds);
     if let Ok(info) = std::fs::read_to_string("/proc/cpuinfo") {
         let model = info.lines().find(|l| l.starts_with("model name")).unwrap_or("");
         println!("{}", model.split(':').nth(1).unwrap_or("").trim());
     }
-    println!("Best of at least 5 passes, {seconds} s a cell. GB/s of input; a ratio above 1 means that decode_into");
-    println!("(or well_formed) takes less time than the call it is named after.\n");
+    println!("Best of at least 5 passes, {seconds} s a cell. GB/s of input.\n");
+    match part.as_deref() {
+        None => {
+            texts(budget);
+            sections(budget);
+        }
+        Some("texts") => texts(budget),
+        Some("sections") => sections(budget),
+        Some(part) => panic!("{part}: neither texts nor sections"),
+    }
+}
+
+/// Reads each section by both, the reference with what it makes dropped within the time and without.
+fn sections(budget: Duration) {
+    let (name, reader) = proved::reader();
+    println!(
+        "The reader is {name}. It fills tables that were made and touched before. A ratio is the reference's time"
+    );
+    println!("divided by the reader's: above 1, the reader takes less.\n");
+    println!("| one section | MB | read | parse | ratio | parse, not dropped | ratio |");
+    println!("|---|---|---|---|---|---|---|");
+    for (name, section) in speed::sections() {
+        let mut answer = [0; 3];
+        reader.read(&section, &mut [], &mut [], &mut answer);
+        let [5, words, texts] = answer else { panic!("{name}: {answer:?}") };
+        let (mut words, mut texts) = (vec![1u32; words], vec![1u8; texts]);
+        let read = best(budget, || {
+            reader.read(black_box(&section), &mut words, &mut texts, &mut answer);
+            black_box((&words, &texts));
+        });
+        assert_eq!(answer, [0, words.len(), texts.len()]);
+        let whole = best(budget, || drop(black_box(parse(black_box(&section)))));
+        let parsed = best_of(budget, || {
+            let start = Instant::now();
+            let record = black_box(parse(black_box(&section)));
+            let time = start.elapsed();
+            drop(record);
+            time
+        });
+        let size = section.len() as f64 / 1e9;
+        println!(
+            "| {name} | {:.1} | {:.3} | {:.3} | {:.2} | {:.3} | {:.2} |",
+            size * 1e3,
+            size / read,
+            size / whole,
+            whole / read,
+            size / parsed,
+            parsed / read
+        );
+    }
+    println!();
+}
+
+fn texts(budget: Duration) {
+    println!(
+        "A ratio above 1 means that decode_into (or well_formed) takes less time than the call it is named after.\n"
+    );
     let mut out = vec![0u8; 4 * LONG];
     for (title, inputs) in inputs() {
         println!(

@@ -1,8 +1,11 @@
-//! Compares the proved decoding of texts with Rust's `String::from_utf8_lossy` and `std::str::from_utf8`: every text of
-//! up to three bytes, and some millions of longer ones. Usage: differential [SEED] [MILLIONS].
+//! Compares the proved code with the Rust. Usage: differential [texts|sections] [SEED] [MILLIONS]; without a part, both.
+//!
+//! texts: the decoding with `String::from_utf8_lossy` and `std::str::from_utf8`: every text of up to three bytes, and some
+//! millions of longer ones. sections: reading with the reference's `BflanSections::parse`, on some millions of sections.
 use std::process::ExitCode;
 
 use compare::chars::{WORDS, boundary_pieces, char_of_len, damage, push, push_char};
+use compare::comparison::Comparison;
 use compare::proved;
 use compare::random::Random;
 
@@ -230,10 +233,31 @@ const MAKERS: [(&str, Make); 10] = [
 ];
 
 fn main() -> ExitCode {
-    let mut args = std::env::args().skip(1);
+    let mut args = std::env::args().skip(1).peekable();
+    let part = args.next_if(|a| a.parse::<u64>().is_err());
     let mut number = |otherwise: u64| args.next().map_or(otherwise, |a| a.parse().expect("a number"));
     let seed = number(20_261_031);
     let millions = number(5);
+    let differences = match part.as_deref() {
+        None => texts(seed, millions) + sections(seed, millions),
+        Some("texts") => texts(seed, millions),
+        Some("sections") => sections(seed, millions),
+        Some(part) => panic!("{part}: neither texts nor sections"),
+    };
+    if differences == 0 { ExitCode::SUCCESS } else { ExitCode::FAILURE }
+}
+
+fn sections(seed: u64, millions: u64) -> u64 {
+    let (name, reader) = proved::reader();
+    println!("seed {seed}, {millions} million sections; the reader is {name}");
+    let mut comparison = Comparison::new(reader, seed);
+    comparison.run(seed, millions * 1_000_000);
+    comparison.shrink();
+    comparison.print();
+    comparison.differences
+}
+
+fn texts(seed: u64, millions: u64) -> u64 {
     println!("seed {seed}, {millions} million longer texts");
 
     let mut run = Run { random: Random(seed), kinds: Vec::new(), differences: 0, buffer: Vec::new() };
@@ -290,7 +314,7 @@ fn main() -> ExitCode {
     }
     line(&sum);
     println!("{} differences", run.differences);
-    if run.differences == 0 { ExitCode::SUCCESS } else { ExitCode::FAILURE }
+    run.differences
 }
 
 fn line(k: &Kind) {

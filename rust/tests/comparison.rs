@@ -1,0 +1,212 @@
+//! The comparison of readers finds what it is there to find: the reference agrees with itself, and each of these mistaken
+//! readers is caught.
+use compare::bflan::file::BflanSections;
+use compare::comparison::Comparison;
+use compare::layout::{FLEU, Rules};
+use compare::random::Random;
+use compare::reader::{ByLayout, ByReference, Reader};
+use compare::record::{Flat, Refusal, reference};
+use compare::sample::{replay, sample};
+use compare::sections::{
+    Maker, Placing, READABLE, Shape, Target, content_p, fixed_sections, placed, random_sections, speed,
+};
+use compare::{parse, serialize};
+
+fn compared(reader: &dyn Reader) -> Comparison<'_> {
+    let mut comparison = Comparison::new(reader, 3);
+    fixed_sections(&mut |kind, section| comparison.look(kind, section));
+    random_sections(&mut Maker::new(4), 1, &mut |kind, section| comparison.look(kind, section));
+    comparison
+}
+
+#[test]
+fn the_reference_agrees() {
+    let comparison = compared(&ByReference);
+    assert_eq!(comparison.differences, 0, "{:?}", comparison.smallest);
+    let sections: u64 = comparison.kinds.iter().map(|kind| kind.sections).sum();
+    assert!(sections > 10_000);
+}
+
+/// The smallest section on which a reader is caught.
+fn caught(reader: &dyn Reader) -> (Vec<u8>, String) {
+    let mut comparison = compared(reader);
+    assert!(comparison.differences > 0);
+    comparison.shrink();
+    let (section, what) = comparison.smallest.unwrap();
+    println!("{what}: {section:02X?}");
+    (section, what)
+}
+
+#[test]
+fn texture_offsets_from_0_are_caught() {
+    // a texture's offset is needed, and a zero behind it is there already
+    let (section, _) = caught(&ByLayout(Rules { textures_from: 0, ..Rules::DOCUMENT }));
+    assert!((24..=25).contains(&section.len()));
+}
+
+#[test]
+fn an_extended_offset_from_after_its_field_is_caught() {
+    let (section, _) = caught(&ByLayout(Rules { key_text_from: 4, ..Rules::DOCUMENT }));
+    assert!(section.windows(4).any(|letters| letters == FLEU.to_le_bytes()));
+}
+
+#[test]
+fn a_target_above_its_number_is_caught() {
+    caught(&ByLayout(Rules { targets_bounded: false, ..Rules::DOCUMENT }));
+}
+
+#[test]
+fn a_replacement_for_each_byte_is_caught() {
+    caught(&ByLayout(Rules { one_for_each_byte: true, ..Rules::DOCUMENT }));
+}
+
+/// What a reader can do wrong with the lists that it is given, or in the order of its refusals.
+#[derive(Clone, Copy, Debug)]
+enum Slip {
+    StoresBeforeRefusing,
+    StoresPastTheRecord,
+    StoresPastTheList,
+    NeedsOneWordMore,
+    NeedsOneByteMore,
+    RefusesTheRoomFirst,
+    RefusesAnExactFit,
+    AnswersLikeAnother,
+    FillsTheScratch,
+    CopiesWellFormedTexts,
+    FindsOneTextMore,
+    FindsBeforeReading,
+    FindsAnEqualText,
+}
+
+struct Slipping(Slip);
+
+const RIGHT: ByLayout = ByLayout(Rules::DOCUMENT);
+
+impl Reader for Slipping {
+    fn read(&self, section: &[u8], words: &mut [u32], texts: &mut [u8], answer: &mut [usize]) {
+        RIGHT.read(section, words, texts, answer);
+        let &mut [number, n, m] = answer else { return };
+        match self.0 {
+            Slip::StoresBeforeRefusing if number != 0 && !words.is_empty() => words[0] = 60,
+            Slip::StoresPastTheRecord if number == 0 && texts.len() > m => texts[m] = 0,
+            Slip::StoresPastTheList if number == 0 && words.len() == n => unsafe { *words.as_mut_ptr().add(n) = 0 },
+            Slip::NeedsOneWordMore if number == 5 => answer[1] += 1,
+            Slip::NeedsOneByteMore if number == 5 => answer[2] += 1,
+            Slip::RefusesTheRoomFirst if number == 3 && words.len() < 4 => answer.copy_from_slice(&[5, 4, 0]),
+            Slip::RefusesAnExactFit if number == 0 && words.len() == n => answer[0] = 5,
+            Slip::AnswersLikeAnother if number == 4 => answer[2] = 1,
+            _ => {}
+        }
+    }
+
+    fn find_text(&self, section: &[u8], text: usize, scratch: &mut [u8], answer: &mut [usize]) {
+        RIGHT.find_text(section, text, scratch, answer);
+        let &mut [number, source, start, len] = answer else { return };
+        match self.0 {
+            Slip::FillsTheScratch if number == 0 && source == 1 => scratch[len..].fill(0),
+            Slip::CopiesWellFormedTexts if number == 0 && source == 0 && scratch.len() >= len => {
+                scratch[..len].copy_from_slice(&section[start..start + len]);
+                answer.copy_from_slice(&[0, 1, 0, len]);
+            }
+            Slip::FindsOneTextMore if number == 10 && text < 9 => answer.copy_from_slice(&[0, 0, 0, 0]),
+            Slip::FindsBeforeReading if number == 3 && text > 9 => answer.copy_from_slice(&[10, 0, 0, 0]),
+            Slip::FindsAnEqualText if number == 0 && source == 0 => {
+                answer[2] =
+                    section.windows(len.max(1)).position(|w| w[..len] == section[start..start + len]).unwrap_or(start);
+            }
+            _ => {}
+        }
+    }
+}
+
+#[test]
+fn slips_are_caught() {
+    use Slip::*;
+    for slip in [
+        StoresBeforeRefusing,
+        StoresPastTheRecord,
+        StoresPastTheList,
+        NeedsOneWordMore,
+        NeedsOneByteMore,
+        RefusesTheRoomFirst,
+        RefusesAnExactFit,
+        AnswersLikeAnother,
+        FillsTheScratch,
+        CopiesWellFormedTexts,
+        FindsOneTextMore,
+        FindsBeforeReading,
+        FindsAnEqualText,
+    ] {
+        let reader = Slipping(slip);
+        let comparison = compared(&reader);
+        assert!(comparison.differences > 0, "{slip:?}");
+    }
+}
+
+/// The flat record of document 01's exercises.
+#[test]
+fn flat_records() {
+    let written = |shape: &Shape| placed(shape, Placing::Written, &mut Random(0)).bytes;
+    let smallest = written(&Shape { frame_count: 60, looping: 1, ..Shape::default() });
+    assert_eq!(smallest, b"pai1\x14\0\0\0\x3C\0\x01\0\0\0\0\0\x14\0\0\0");
+    assert_eq!(reference(&smallest), Ok(Flat { words: vec![60, 1, 0, 0], texts: vec![] }));
+    let texture = written(&Shape { textures: vec![b"a".to_vec()], ..Shape::default() });
+    assert_eq!(reference(&texture), Ok(Flat { words: vec![0, 0, 1, 0, 1], texts: b"a".to_vec() }));
+    let letters = u32::from_le_bytes(*b"FLVI");
+    let words = vec![60, 0, 0, 1, 1, 0, 1, letters, 1, 0, 0, 1, 1, 0, 1];
+    assert_eq!(reference(&content_p()), Ok(Flat { words, texts: b"P".to_vec() }));
+    assert_eq!(reference(b""), Err(Refusal::End { offset: 0, requested: 4 }));
+    assert_eq!(reference(b"quux\0\0"), Err(Refusal::End { offset: 4, requested: 4 }));
+    assert_eq!(reference(b"quux\0\0\0\0"), Err(Refusal::Letters(u32::from_le_bytes(*b"quux"))));
+}
+
+/// What is placed as the writer places it is what the writer writes.
+#[test]
+fn placed_as_the_writer_writes() {
+    let (_, style, placing) = READABLE[0];
+    let mut maker = Maker::new(5);
+    let small = (0..5_000).map(|_| maker.section(style, placing).bytes);
+    for section in small.chain(speed::sections().into_iter().map(|(_, section)| section)) {
+        let Ok(BflanSections::PaneAnimInfo(info)) = parse(&section) else { panic!("{} bytes", section.len()) };
+        assert!(serialize(&info) == section, "{} bytes", section.len());
+    }
+}
+
+/// Every NaN comes through the reference's `f32` with its bits, as do the patterns around them.
+#[test]
+fn every_nan_keeps_its_bits() {
+    let mut patterns = (0x7F7F_FFF0..=0x7FFF_FFFF).chain(0xFF7F_FFF0..=0xFFFF_FFFF).peekable();
+    while patterns.peek().is_some() {
+        let keys: Vec<u32> = patterns.by_ref().take(65_535).collect();
+        let target = Target {
+            key_count: keys.len() as u16,
+            keys: keys.iter().flat_map(|key: &u32| key.to_le_bytes()).collect(),
+            ..Target::default()
+        };
+        let section = compare::sections::one_target(*b"FLPA", target);
+        let flat = reference(&section).unwrap();
+        assert!(flat.words[13..] == keys);
+    }
+}
+
+/// The sample holds every outcome but the limit's, is small, and is what the reader answers.
+#[test]
+fn the_sample_is_replayed() {
+    let sample = sample();
+    assert!(sample.bytes.len() < 1 << 20);
+    assert!(sample.cases > 2_000);
+    assert!([0, 1, 3, 4, 5].iter().all(|&number| sample.numbers[number] > 100), "{:?}", sample.numbers);
+    assert_eq!(replay(&sample.bytes, &ByReference), (sample.cases, None));
+    let (name, reader) = compare::proved::reader();
+    assert_eq!(replay(&sample.bytes, reader), (sample.cases, None), "{name}");
+    // and it catches the mistaken readers too
+    let right = Rules::DOCUMENT;
+    for rules in [
+        Rules { textures_from: 0, ..right },
+        Rules { key_text_from: 4, ..right },
+        Rules { targets_bounded: false, ..right },
+        Rules { one_for_each_byte: true, ..right },
+    ] {
+        assert!(replay(&sample.bytes, &ByLayout(rules)).1.is_some());
+    }
+}
