@@ -1,11 +1,12 @@
 // Infos: eight bytes, and then targets at offsets, or extended data one after another.
 ghost use mathlib.Core.Path.{_≡_};
 ghost use mathlib.Core.List.{List};
-ghost use Prim.Native.Nat.{ℕ, _+_, _<_, _≤_};
+ghost use Prim.Native.Nat.{ℕ, _+_, _*_, _<_, _≤_};
 ghost use lib.ListN.{length};
 ghost use Rattle.core.specs.Number.{get};
+ghost use Rattle.core.specs.Run.{numbersAt};
 ghost use Rattle.bflan.specs.Letters.{fleu};
-ghost use Rattle.bflan.specs.Reader.{stop};
+ghost use Rattle.bflan.specs.Reader.{stop, visit};
 ghost use Rattle.bflan.specs.Reading.{info};
 ghost use Rattle.bflan.specs.Walk.{run, told};
 use crate::datum::data;
@@ -82,4 +83,39 @@ pub(crate) fn info_at(s: &[u8], base: usize, words: &mut [u32], texts: &mut [u8]
         return extended(s, base, n, words, texts, t);
     }
     standard(s, base, letters, n, words, t)
+}
+
+// The infos at the `n` offsets of the table at `table`, which count from `base`.
+pub(crate) fn infos(
+    s: &[u8],
+    base: usize,
+    table: usize,
+    n: usize,
+    pos: usize,
+    words: &mut [u32],
+    texts: &mut [u8],
+    t: Tally,
+) -> Walk
+    requires { ⌜ (length (now s) ≤ 16777216) × (base ≤ 4294967295) × (table + 4 * n ≤ length (now s)) ⌝ }
+    ensures { λ r. ⌜ told r (now (words .exit)) (now (texts .exit)) ≡ run (now (s .entry)) t (now (words .entry)) (now (texts .entry)) (visit base info (numbersAt n (now (s .entry)) table) (now (s .entry)) pos) ⌝ }
+{
+    let mut left = n;
+    let mut at = table;
+    let mut p = pos;
+    let mut u = t;
+    while 0 < left {
+        let off = offset_at(s, at);
+        match info_at(s, base + off, words, texts, u) {
+            Walk::No(f) => {
+                return Walk::No(f);
+            }
+            Walk::On(v, q) => {
+                u = v;
+                p = q;
+            }
+        }
+        at += 4;
+        left -= 1;
+    }
+    Walk::On(u, p)
 }

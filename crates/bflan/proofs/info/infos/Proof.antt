@@ -1,0 +1,121 @@
+-- `info::infos` meets its contract. The loop's invariant: what is left, from here, is what all of it is, from the start.
+-- Assumes nothing.
+use Prim.Native.Nat.{ℕ, _+_, _-_, _*_, _≤_}
+use mathlib.Core.Path.{_≡_, refl, sym, ap, _∙_}
+use native.Mathlib.Omega.{arith}
+use denote.Ref.{now}
+use lib.ListN.{length}
+use Rattle.core.specs.Number.{get}
+use Rattle.core.specs.Run.{numbersAt}
+use Rattle.bflan.specs.Reader.{visit}
+use Rattle.bflan.specs.Reading.{info}
+use Rattle.bflan.specs.Walk.{run}
+use Rattle.bflan.proofs.Walks.{turn-on, turn-no, visits-turn, visits-end, told-ok}
+use borrow.Author.Needs.{needs}
+use Rattle.bflan.proofs.info.infos.Statement.{statement}
+use Rattle.bflan.proofs.info.infos.Tie as tie
+use Rattle.bflan.proofs.info.infos.Reads as reads
+use Rattle.bflan.proofs.info.infos.Lts as lts
+use Rattle.bflan.proofs.offset.offset_at.Reads as offset-at-reads
+use Rattle.bflan.proofs.info.info_at.Reads as info-at-reads
+
+abbrev Inv-loop : tie.InvT-loop
+Inv-loop s base table n pos words₀ texts₀ left₀ at₀ p₀ u₀ words texts left at p u =
+    (at + 4 * left ≤ length s) × (length words ≡ length words₀) × (length texts ≡ length texts₀)
+    × (run s u words texts (visit base info (numbersAt left s at) s p) ≡ run s u₀ words₀ texts₀ (visit base info (numbersAt n s table) s pos))
+
+abbrev μ-loop : tie.MeasureT-loop
+μ-loop s base table n pos words₀ texts₀ left₀ at₀ p₀ u₀ words texts left at p u = left
+
+loop-holds : tie.Need-loop-holds Inv-loop μ-loop
+loop-holds c = (omega arith, refl, refl, refl)
+
+offset-at-requires : tie.Need-offset-at-requires Inv-loop μ-loop
+offset-at-requires c κs = omega arith
+
+add-info-at : tie.Need-add-info-at Inv-loop μ-loop
+add-info-at c = search needs
+
+info-at-requires : tie.Need-info-at-requires Inv-loop μ-loop
+info-at-requires c κs = search needs
+
+enum-known-f : tie.Need-enum-known-f Inv-loop μ-loop
+enum-known-f c = search needs
+
+same-length : tie.Need-same-length Inv-loop μ-loop
+same-length c = c .before .before .before .before .before .before .before .info-at .kept .1 .1 .0 ∙ c .before .before .before .before .before .before .before .before .before .before .before .before .loop .inv .1
+
+same-length-2 : tie.Need-same-length-2 Inv-loop μ-loop
+same-length-2 c = c .before .before .before .before .before .before .before .info-at .kept .1 .1 .1 .0 ∙ c .before .before .before .before .before .before .before .before .before .before .before .before .loop .inv .2
+
+returns : tie.Need-returns Inv-loop μ-loop
+returns c =
+    let hw : length (c .before .before .before .before .before .before .before .before .before .before .before .before .loop .words) ≤ 18446744073709551615 = omega (arith, c .before .before .before .before .before .before .before .before .before .before .before .before .loop .inv .1, c .before .before .before .before .before .before .before .before .before .before .before .before .before .before .before .before .good) in
+    let hx : length (c .before .before .before .before .before .before .before .before .before .before .before .before .loop .texts) ≤ 18446744073709551615 = omega (arith, c .before .before .before .before .before .before .before .before .before .before .before .before .loop .inv .2, c .before .before .before .before .before .before .before .before .before .before .before .before .before .before .before .before .good) in
+    let e =
+    c .before .before .before .before .before .before .before .info-at .ensures (c .before .before .before .before .before .before .before .before .before .before .before .before .loop .p)
+    ∙ ap (λ (k : ℕ). run (now (c .before .before .before .before .before .before .before .before .before .before .before .before .before .before .before .before .args .s)) (c .before .before .before .before .before .before .before .before .before .before .before .before .loop .u) (c .before .before .before .before .before .before .before .before .before .before .before .before .loop .words) (c .before .before .before .before .before .before .before .before .before .before .before .before .loop .texts) (info (c .before .before .before .before .before .before .before .before .before .before .before .before .before .before .before .before .args .base + k) (now (c .before .before .before .before .before .before .before .before .before .before .before .before .before .before .before .before .args .s)) (c .before .before .before .before .before .before .before .before .before .before .before .before .loop .p))) (c .before .before .before .before .before .before .before .before .before .before .offset-at .ensures .0) in
+    let v = visits-turn (c .before .before .before .before .before .before .before .before .before .before .before .before .before .before .before .before .args .base) info (now (c .before .before .before .before .before .before .before .before .before .before .before .before .before .before .before .before .args .s)) (c .before .before .before .before .before .before .before .before .before .before .before .before .loop .at) (c .before .before .before .before .before .before .before .before .before .before .before .before .loop .left) (c .before .before .before .before .before .before .before .before .before .before .before .before .loop .p) (c .before .before .before .before .before .before .before .before .before .before .before .loop-test .taken) in
+    let back = ap (run (now (c .before .before .before .before .before .before .before .before .before .before .before .before .before .before .before .before .args .s)) (c .before .before .before .before .before .before .before .before .before .before .before .before .loop .u) (c .before .before .before .before .before .before .before .before .before .before .before .before .loop .words) (c .before .before .before .before .before .before .before .before .before .before .before .before .loop .texts)) (sym v) ∙ c .before .before .before .before .before .before .before .before .before .before .before .before .loop .inv .3 in
+    turn-no (now (c .before .before .before .before .before .before .before .before .before .before .before .before .before .before .before .before .args .s)) (c .before .before .before .before .before .before .before .before .before .before .before .before .loop .u) (c .before .before .before .before .before .before .before .before .before .before .before .before .loop .words) (c .before .before .before .before .before .before .before .before .before .before .before .before .loop .texts) _ hw hx _ _ _ _ _ _ (λ j. visit (c .before .before .before .before .before .before .before .before .before .before .before .before .before .before .before .before .args .base) info (numbersAt (c .before .before .before .before .before .before .before .before .before .before .before .before .loop .left - 1) (now (c .before .before .before .before .before .before .before .before .before .before .before .before .before .before .before .before .args .s)) (c .before .before .before .before .before .before .before .before .before .before .before .before .loop .at + 4)) (now (c .before .before .before .before .before .before .before .before .before .before .before .before .before .before .before .before .args .s)) j) e (c .before .f .given .1) ∙ back
+
+enum-known-v : tie.Need-enum-known-v Inv-loop μ-loop
+enum-known-v c = search needs
+
+add-at : tie.Need-add-at Inv-loop μ-loop
+add-at c = omega arith
+
+sub-left : tie.Need-sub-left Inv-loop μ-loop
+sub-left c = search needs
+
+loop-less : tie.Need-loop-less Inv-loop μ-loop
+loop-less c = omega arith
+
+loop-again : tie.Need-loop-again Inv-loop μ-loop
+loop-again c =
+    let hw : length (c .before .before .before .before .before .before .before .before .before .before .before .before .loop .words) ≤ 18446744073709551615 = omega (arith, c .before .before .before .before .before .before .before .before .before .before .before .before .loop .inv .1, c .before .before .before .before .before .before .before .before .before .before .before .before .before .before .before .before .good) in
+    let hx : length (c .before .before .before .before .before .before .before .before .before .before .before .before .loop .texts) ≤ 18446744073709551615 = omega (arith, c .before .before .before .before .before .before .before .before .before .before .before .before .loop .inv .2, c .before .before .before .before .before .before .before .before .before .before .before .before .before .before .before .before .good) in
+    let e =
+    c .before .before .before .before .before .before .before .info-at .ensures (c .before .before .before .before .before .before .before .before .before .before .before .before .loop .p)
+    ∙ ap (λ (k : ℕ). run (now (c .before .before .before .before .before .before .before .before .before .before .before .before .before .before .before .before .args .s)) (c .before .before .before .before .before .before .before .before .before .before .before .before .loop .u) (c .before .before .before .before .before .before .before .before .before .before .before .before .loop .words) (c .before .before .before .before .before .before .before .before .before .before .before .before .loop .texts) (info (c .before .before .before .before .before .before .before .before .before .before .before .before .before .before .before .before .args .base + k) (now (c .before .before .before .before .before .before .before .before .before .before .before .before .before .before .before .before .args .s)) (c .before .before .before .before .before .before .before .before .before .before .before .before .loop .p))) (c .before .before .before .before .before .before .before .before .before .before .offset-at .ensures .0) in
+    let v = visits-turn (c .before .before .before .before .before .before .before .before .before .before .before .before .before .before .before .before .args .base) info (now (c .before .before .before .before .before .before .before .before .before .before .before .before .before .before .before .before .args .s)) (c .before .before .before .before .before .before .before .before .before .before .before .before .loop .at) (c .before .before .before .before .before .before .before .before .before .before .before .before .loop .left) (c .before .before .before .before .before .before .before .before .before .before .before .before .loop .p) (c .before .before .before .before .before .before .before .before .before .before .before .loop-test .taken) in
+    let back = ap (run (now (c .before .before .before .before .before .before .before .before .before .before .before .before .before .before .before .before .args .s)) (c .before .before .before .before .before .before .before .before .before .before .before .before .loop .u) (c .before .before .before .before .before .before .before .before .before .before .before .before .loop .words) (c .before .before .before .before .before .before .before .before .before .before .before .before .loop .texts)) (sym v) ∙ c .before .before .before .before .before .before .before .before .before .before .before .before .loop .inv .3 in (
+      omega (arith, c .before .before .before .before .before .before .before .before .before .before .before .before .loop .inv .0),
+      c .before .before .before .before .before .before .before .info-at .kept .1 .1 .0 ∙ c .before .before .before .before .before .before .before .before .before .before .before .before .loop .inv .1,
+      c .before .before .before .before .before .before .before .info-at .kept .1 .1 .1 .0 ∙ c .before .before .before .before .before .before .before .before .before .before .before .before .loop .inv .2,
+      turn-on (now (c .before .before .before .before .before .before .before .before .before .before .before .before .before .before .before .before .args .s)) (c .before .before .before .before .before .before .before .before .before .before .before .before .loop .u) (c .before .before .before .before .before .before .before .before .before .before .before .before .loop .words) (c .before .before .before .before .before .before .before .before .before .before .before .before .loop .texts) _ hw hx _ _ _ _ _ (λ j. visit (c .before .before .before .before .before .before .before .before .before .before .before .before .before .before .before .before .args .base) info (numbersAt (c .before .before .before .before .before .before .before .before .before .before .before .before .loop .left - 1) (now (c .before .before .before .before .before .before .before .before .before .before .before .before .before .before .before .before .args .s)) (c .before .before .before .before .before .before .before .before .before .before .before .before .loop .at + 4)) (now (c .before .before .before .before .before .before .before .before .before .before .before .before .before .before .before .before .args .s)) j) e (c .before .v .given .1) ∙ back,
+    )
+
+same-length-3 : tie.Need-same-length-3 Inv-loop μ-loop
+same-length-3 c = c .before .loop .inv .1
+
+same-length-4 : tie.Need-same-length-4 Inv-loop μ-loop
+same-length-4 c = c .before .loop .inv .2
+
+returns-2 : tie.Need-returns-2 Inv-loop μ-loop
+returns-2 c =
+    let e = visits-end (c .before .before .before .before .before .args .base) info (now (c .before .before .before .before .before .args .s)) (c .before .loop .at) (c .before .loop .left) (c .before .loop .p) (c .loop-test .left) in
+    told-ok _ _ _ _ _ ∙ ap (run (now (c .before .before .before .before .before .args .s)) (c .before .loop .u) (c .before .loop .words) (c .before .loop .texts)) (sym e) ∙ c .before .loop .inv .3
+
+pub infos-spec : {M : Type 1} → statement M
+infos-spec =
+    tie.close
+    (tie.spec
+    Inv-loop
+    μ-loop
+    loop-holds
+    offset-at-requires
+    add-info-at
+    info-at-requires
+    enum-known-f
+    same-length
+    same-length-2
+    returns
+    enum-known-v
+    add-at
+    sub-left
+    loop-less
+    loop-again
+    same-length-3
+    same-length-4
+    returns-2)
