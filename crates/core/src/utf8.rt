@@ -1,14 +1,16 @@
 // UTF-8 by the Unicode Standard's Table 3-7: decoding with one U+FFFD for each maximal ill-formed subpart, and what is asked of a text.
 ghost use mathlib.Core.Path.{_≡_};
-ghost use Prim.Native.Nat.{_+_, _-_, min};
-ghost use lib.ListN.{length};
+ghost use mathlib.Core.Bool.{true};
+ghost use Prim.Native.Nat.{_+_, _-_, _<_, min};
+ghost use lib.ListN.{length, getD};
 ghost use lib.Seq.{sets};
-ghost use Rattle.core.specs.Utf8.{Classes, replacement, decode, decodedSize, sound, wellFormed};
+ghost use Rattle.core.specs.Utf8.{Classes, classOf, replacement, decode, decodedSize, sound, wellFormed};
 ghost use Rattle.core.specs.Flow.{Rows};
 use crate::fill::ahead;
 use crate::fill::copy;
 use crate::fill::copy_on;
 use crate::utf8::class::CLASSES;
+use crate::utf8::class::class_in;
 use crate::utf8::flow::ROWS;
 use crate::utf8::scan::is_ascii;
 use crate::utf8::scan::next_run;
@@ -75,10 +77,28 @@ pub fn first_ill(text: &[u8]) -> usize
 pub fn well_formed(text: &[u8]) -> bool
     ensures { λ r. ⌜ r ≡ wellFormed (now (text .entry)) ⌝ }
 {
-    first_ill(text) == text.len()
+    if is_ascii(text) {
+        return true;
+    }
+    ill_mixed(text) == text.len()
 }
 
-// The decoding by runs of characters, each up to an ill-formed subpart.
+// A byte that begins nothing is an ill-formed subpart by itself.
+fn lone(text: &[u8], at: usize, classes: &[u8; 256]) -> bool
+    requires { ⌜ Classes (now classes) ⌝ }
+    ensures { λ r. ⌜ (r ≡ true → (at < length (now (text .entry))) × (classOf (getD (now (text .entry)) at 0) ≡ 0)) ⌝ }
+{
+    if at < text.len() {
+        let c = class_in(classes, text[at]);
+        if c == 0 {
+            return true;
+        }
+        return 9 < c;
+    }
+    false
+}
+
+// The decoding by runs of characters, each up to an ill-formed subpart. Where these come one after another they are not looked for.
 fn decode_runs(
     text: &[u8],
     out: &mut [u8],
@@ -93,6 +113,12 @@ fn decode_runs(
     let mut o = at;
     let mut grown: usize = 0;
     loop {
+        if lone(text, i, classes) {
+            o = put_replacement(out, o);
+            grown += 2;
+            i += 1;
+            continue;
+        }
         let run = next_run(text, i, classes, rows);
         let end = run.end;
         let skip = run.skip;

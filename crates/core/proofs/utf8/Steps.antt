@@ -99,7 +99,7 @@ class-row x c e h = go (within (range 0x80 0x8F) x) (within (range 0x90 0x9F) x)
     go false false true q = absurd (omega arith)
     go false false false q = sym q
 
-class-tail : (x c : ℕ) → c ≡ byteClass x → 9 < c → classOf x ≡ 0
+pub class-tail : (x c : ℕ) → c ≡ byteClass x → 9 < c → classOf x ≡ 0
 unfolding byteClass
 class-tail x c e h = go (within (range 0x80 0x8F) x) (within (range 0x90 0x9F) x) (within (range 0xA0 0xBF) x) refl refl refl e
   where

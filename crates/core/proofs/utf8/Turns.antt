@@ -15,7 +15,7 @@ use Rattle.core.specs.declared.utf8.step.Step.{Step}
 use Rattle.core.specs.declared.utf8.step.Step.the-variants.{Good, Bad}
 use Rattle.core.specs.Utf8.{rows, classOf, laterOf, matched, more, good, stepOf, replacement, decode, decodedSize, sound, illSize}
 use Rattle.core.proofs.Stores.{sets-on}
-use Rattle.core.proofs.utf8.Steps.{matched-none, ascii-class}
+use Rattle.core.proofs.utf8.Steps.{matched-none, ascii-class, step-none}
 use Rattle.core.proofs.utf8.Pieces.{more-within, step-good, step-bad, decode-nil, decode-good, sound-nil, sound-good, sound-bad, ill-nil, ill-bad}
 use Rattle.core.proofs.utf8.Laws.{good-from, whole-well, decode-well, sound-le, decode-front, ill-short, ill-within, ill-or-end, decode-ill}
 
@@ -261,6 +261,10 @@ counted-good s i grown k c g =
 -- an ill-formed subpart is a run of no characters with it behind
 pub run-bad : (s : List ℕ) (i k : ℕ) → BadAt s i k → RunAt s i i k
 run-bad s i k b = run-at s i i k (omega (arith, b .reach)) (omega (arith, b .here)) (b .size)
+
+-- and so is a byte that begins nothing
+pub lone-bad : (s : List ℕ) (i : ℕ) → (i < length s) × (classOf (getD s i 0) ≡ 0) → BadAt s i 1
+lone-bad s i h = bad-at s i 1 (h .0) (Bad 1) (step-none _ _ (h .1)) refl
 
 pub counted-end : (s : List ℕ) (i grown : ℕ) → Counted s i grown → length s ≤ i → length s + grown ≡ length (decode s)
 counted-end s i grown c h =

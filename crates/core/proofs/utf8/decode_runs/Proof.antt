@@ -8,7 +8,7 @@ use denote.Ref.{now}
 use lib.ListN.{length, drop}
 use lib.Seq.{sets}
 use Rattle.core.specs.Utf8.{decode}
-use Rattle.core.proofs.utf8.Turns.{part-is, RunAt, run-at, Counted, counted-start, counted-run, counted-last, counted-size, sets-run}
+use Rattle.core.proofs.utf8.Turns.{part-is, BadAt, RunAt, run-at, run-bad, lone-bad, Counted, counted-start, counted-run, counted-last, counted-size, sets-run, sets-bad}
 use borrow.Author.Needs.{needs}
 use Rattle.core.proofs.utf8.decode_runs.Statement.{statement}
 use Rattle.core.proofs.utf8.decode_runs.Tie as tie
@@ -19,8 +19,11 @@ Inv-loop text out₀ at classes rows i₀ o₀ grown₀ out i o grown = Counted 
 abbrev μ-loop : tie.MeasureT-loop
 μ-loop text out₀ at classes rows i₀ o₀ grown₀ out i o grown = length text - i
 
-run : (c : tie.After-next-run Inv-loop μ-loop) → RunAt (now (c .before .before .before .before .args .text)) (c .before .loop .i) (c .next-run .result .end) (c .next-run .result .skip)
-run c = run-at _ _ _ _ (c .before .loop .inv .0 .0) (c .next-run .ensures .0) (c .next-run .ensures .1)
+bad : (c : tie.Then1 Inv-loop μ-loop) → BadAt (now (c .before .before .before .before .before .args .text)) (c .before .before .loop .i) 1
+bad c = lone-bad _ _ (c .before .lone .ensures (c .if1 .taken))
+
+run : (c : tie.After-next-run Inv-loop μ-loop) → RunAt (now (c .before .before .before .before .before .before .args .text)) (c .before .before .before .loop .i) (c .next-run .result .end) (c .next-run .result .skip)
+run c = run-at _ _ _ _ (c .before .before .before .loop .inv .0 .0) (c .next-run .ensures .0) (c .next-run .ensures .1)
 
 some : (n : ℕ) → (n ≡ 0 → ⊥) → 0 < n
 some n h = omega arith
@@ -28,8 +31,31 @@ some n h = omega arith
 loop-holds : tie.Need-loop-holds Inv-loop μ-loop
 loop-holds c = (counted-start _, refl, refl)
 
+lone-requires : tie.Need-lone-requires Inv-loop μ-loop
+lone-requires c κs = c .before .before .before .pre .0
+
+put-replacement-requires : tie.Need-put-replacement-requires Inv-loop μ-loop
+put-replacement-requires c κs = search needs
+
+add-grown : tie.Need-add-grown Inv-loop μ-loop
+add-grown c = let b = bad (c .before .before .before .before) in let k = counted-run _ _ _ _ _ (c .before .before .before .before .before .before .loop .inv .0) (run-bad _ _ _ b) (b .some) in omega (arith, k .0, k .2, c .before .before .before .before .before .before .before .before .before .good)
+
+add-i : tie.Need-add-i Inv-loop μ-loop
+add-i c = let b = bad (c .before .before .before .before) in omega (arith, b .reach)
+
+loop-less : tie.Need-loop-less Inv-loop μ-loop
+loop-less c = let b = bad (c .before .before .before .before) in omega (arith, b .reach)
+
+loop-again : tie.Need-loop-again Inv-loop μ-loop
+loop-again c =
+    let b = bad (c .before .before .before .before) in (
+      counted-run _ _ _ _ _ (c .before .before .before .before .before .before .loop .inv .0) (run-bad _ _ _ b) (b .some),
+      c .before .before .put-replacement .kept .0 ∙ c .before .before .before .before .before .before .loop .inv .1,
+      sets-bad _ _ _ _ _ _ _ b (c .before .before .put-replacement .ensures .0) (c .before .before .put-replacement .ensures .1) ∙ c .before .before .before .before .before .before .loop .inv .2,
+    )
+
 next-run-requires : tie.Need-next-run-requires Inv-loop μ-loop
-next-run-requires c κs = (c .loop .inv .0 .0, c .before .before .before .pre .0, c .before .before .before .pre .1)
+next-run-requires c κs = (c .before .before .loop .inv .0 .0, c .before .before .before .before .before .pre .0, c .before .before .before .before .before .pre .1)
 
 sub-copy-on : tie.Need-sub-copy-on Inv-loop μ-loop
 sub-copy-on c = let r = run c in omega (arith, r .start)
@@ -47,37 +73,37 @@ total-requires : tie.Need-total-requires Inv-loop μ-loop
 total-requires c κs = search needs
 
 same-length : tie.Need-same-length Inv-loop μ-loop
-same-length c = c .before .before .before .before .copy-on .kept .1 .0 ∙ c .before .before .before .before .before .before .before .before .loop .inv .1
+same-length c = c .before .before .before .before .copy-on .kept .1 .0 ∙ c .before .before .before .before .before .before .before .before .before .before .loop .inv .1
 
 returns : tie.Need-returns Inv-loop μ-loop
 returns c =
     let r = run (c .before .before .before .before .before .before .before) in (
-      counted-size _ _ _ (counted-last _ _ _ _ _ (c .before .before .before .before .before .before .before .before .loop .inv .0) r (c .before .if1 .taken)) (c .total .ensures),
-      c .before .before .before .before .copy-on .ensures .0 ∙ ap (λ (l : List ℕ). sets (c .before .before .before .before .before .before .before .before .loop .out) (c .before .before .before .before .before .before .before .before .loop .o) l) (part-is _ _ _ (r .start) ∙ sym (r .whole (c .before .if1 .taken))) ∙ c .before .before .before .before .before .before .before .before .loop .inv .2,
+      counted-size _ _ _ (counted-last _ _ _ _ _ (c .before .before .before .before .before .before .before .before .before .before .loop .inv .0) r (c .before .if2 .taken)) (c .total .ensures),
+      c .before .before .before .before .copy-on .ensures .0 ∙ ap (λ (l : List ℕ). sets (c .before .before .before .before .before .before .before .before .before .before .loop .out) (c .before .before .before .before .before .before .before .before .before .before .loop .o) l) (part-is _ _ _ (r .start) ∙ sym (r .whole (c .before .if2 .taken))) ∙ c .before .before .before .before .before .before .before .before .before .before .loop .inv .2,
     )
 
-put-replacement-requires : tie.Need-put-replacement-requires Inv-loop μ-loop
-put-replacement-requires c κs = search needs
+put-replacement-requires-2 : tie.Need-put-replacement-requires-2 Inv-loop μ-loop
+put-replacement-requires-2 c κs = search needs
 
 sub-grown : tie.Need-sub-grown Inv-loop μ-loop
 sub-grown c = let r = run (c .before .before .before .before .before .before .before .before .before .before) in omega (arith, r .short)
 
-add-grown : tie.Need-add-grown Inv-loop μ-loop
-add-grown c = let k = counted-run _ _ _ _ _ (c .before .before .before .before .before .before .before .before .before .before .before .loop .inv .0) (run (c .before .before .before .before .before .before .before .before .before .before)) (some _ (c .before .before .before .before .if1 .left)) in omega (arith, k .0, k .2, c .before .before .before .before .before .before .before .before .before .before .before .before .before .before .good)
+add-grown-2 : tie.Need-add-grown-2 Inv-loop μ-loop
+add-grown-2 c = let k = counted-run _ _ _ _ _ (c .before .before .before .before .before .before .before .before .before .before .before .before .before .loop .inv .0) (run (c .before .before .before .before .before .before .before .before .before .before)) (some _ (c .before .before .before .before .if2 .left)) in omega (arith, k .0, k .2, c .before .before .before .before .before .before .before .before .before .before .before .before .before .before .before .before .good)
 
-add-i : tie.Need-add-i Inv-loop μ-loop
-add-i c = let r = run (c .before .before .before .before .before .before .before .before .before .before) in omega (arith, r .reach)
+add-i-2 : tie.Need-add-i-2 Inv-loop μ-loop
+add-i-2 c = let r = run (c .before .before .before .before .before .before .before .before .before .before) in omega (arith, r .reach)
 
-loop-less : tie.Need-loop-less Inv-loop μ-loop
-loop-less c = let r = run (c .before .before .before .before .before .before .before .before .before .before) in let s = some _ (c .before .before .before .before .if1 .left) in omega (arith, r .start, r .reach, s)
+loop-less-2 : tie.Need-loop-less-2 Inv-loop μ-loop
+loop-less-2 c = let r = run (c .before .before .before .before .before .before .before .before .before .before) in let s = some _ (c .before .before .before .before .if2 .left) in omega (arith, r .start, r .reach, s)
 
-loop-again : tie.Need-loop-again Inv-loop μ-loop
-loop-again c =
+loop-again-2 : tie.Need-loop-again-2 Inv-loop μ-loop
+loop-again-2 c =
     let r = run (c .before .before .before .before .before .before .before .before .before .before) in
-    let h = some _ (c .before .before .before .before .if1 .left) in (
-      counted-run _ _ _ _ _ (c .before .before .before .before .before .before .before .before .before .before .before .loop .inv .0) r h,
-      c .before .before .put-replacement .kept .0 ∙ c .before .before .before .before .before .before .before .copy-on .kept .1 .0 ∙ c .before .before .before .before .before .before .before .before .before .before .before .loop .inv .1,
-      sets-run _ _ _ _ _ _ _ _ _ _ _ r h (part-is _ _ _ (r .start)) (c .before .before .before .before .before .before .before .copy-on .ensures .0) (c .before .before .before .before .before .before .before .copy-on .ensures .1) (c .before .before .put-replacement .ensures .0) (c .before .before .put-replacement .ensures .1) ∙ c .before .before .before .before .before .before .before .before .before .before .before .loop .inv .2,
+    let h = some _ (c .before .before .before .before .if2 .left) in (
+      counted-run _ _ _ _ _ (c .before .before .before .before .before .before .before .before .before .before .before .before .before .loop .inv .0) r h,
+      c .before .before .put-replacement2 .kept .0 ∙ c .before .before .before .before .before .before .before .copy-on .kept .1 .0 ∙ c .before .before .before .before .before .before .before .before .before .before .before .before .before .loop .inv .1,
+      sets-run _ _ _ _ _ _ _ _ _ _ _ r h (part-is _ _ _ (r .start)) (c .before .before .before .before .before .before .before .copy-on .ensures .0) (c .before .before .before .before .before .before .before .copy-on .ensures .1) (c .before .before .put-replacement2 .ensures .0) (c .before .before .put-replacement2 .ensures .1) ∙ c .before .before .before .before .before .before .before .before .before .before .before .before .before .loop .inv .2,
     )
 
 pub decode-runs-spec : {M : Type 1} → statement M
@@ -87,6 +113,12 @@ decode-runs-spec =
     Inv-loop
     μ-loop
     loop-holds
+    lone-requires
+    put-replacement-requires
+    add-grown
+    add-i
+    loop-less
+    loop-again
     next-run-requires
     sub-copy-on
     part-copy-on-start
@@ -95,9 +127,9 @@ decode-runs-spec =
     total-requires
     same-length
     returns
-    put-replacement-requires
+    put-replacement-requires-2
     sub-grown
-    add-grown
-    add-i
-    loop-less
-    loop-again)
+    add-grown-2
+    add-i-2
+    loop-less-2
+    loop-again-2)

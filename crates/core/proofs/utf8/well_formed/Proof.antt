@@ -1,16 +1,23 @@
 -- `utf8::well_formed` meets its contract.
 -- Assumes nothing.
 use mathlib.Core.Path.{sym}
-use Rattle.core.proofs.utf8.Laws.{well-sound}
+use Rattle.core.proofs.utf8.Laws.{well-sound, whole-well}
+use Rattle.core.proofs.utf8.Turns.{ascii-sound}
 use borrow.Author.Needs.{needs}
 use Rattle.core.proofs.utf8.well_formed.Statement.{statement}
 use Rattle.core.proofs.utf8.well_formed.Tie as tie
 
-first-ill-requires : tie.Need-first-ill-requires
-first-ill-requires c κs = search needs
+is-ascii-requires : tie.Need-is-ascii-requires
+is-ascii-requires c κs = search needs
 
 returns : tie.Need-returns
-returns c = rw (c .first-ill .ensures) (sym (well-sound _))
+returns c = sym (whole-well _ (ascii-sound _ (c .before .is-ascii .ensures (c .if1 .taken))))
+
+ill-mixed-requires : tie.Need-ill-mixed-requires
+ill-mixed-requires c κs = search needs
+
+returns-2 : tie.Need-returns-2
+returns-2 c = rw (c .ill-mixed .ensures) (sym (well-sound _))
 
 pub well-formed-spec : {M : Type 1} → statement M
-well-formed-spec = tie.close (tie.spec first-ill-requires returns)
+well-formed-spec = tie.close (tie.spec is-ascii-requires returns ill-mixed-requires returns-2)
