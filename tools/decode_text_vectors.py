@@ -4,7 +4,7 @@
 The answers come from the Unicode Standard's rule and from none of our code: Table 3-7 gives the well-formed sequences, and
 "U+FFFD Substitution of Maximal Subparts" (section 3.9) says that each maximal subpart of what is ill-formed becomes U+FFFD,
 the subpart being the longest start of a well-formed sequence there, or one byte. Each answer is held to Python's own decoder,
-and those of Tables 3-8 to 3-11 to what the standard prints.
+and those of Tables 3-8 to 3-11 to its results as entered below by hand.
 """
 import os
 
