@@ -5,6 +5,8 @@ pub mod Emits
 pub mod Exercises
 pub mod InfoParts
 pub mod KeyRuns
+pub mod Layouts
+pub mod ReadBack
 pub mod SectionParts
 pub mod TargetParts
 pub mod Walks

@@ -12,3 +12,4 @@ pub mod read;
 pub mod tally;
 mod target;
 mod texture;
+pub mod write;
