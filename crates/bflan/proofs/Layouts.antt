@@ -1,17 +1,16 @@
 -- Layouts: their sizes, and what it means that one stands somewhere among bytes.
 -- Assumes nothing.
-use Prim.Native.Nat.{ℕ, zero, suc, _+_, _*_, _^_, _≤_, _<_}
-use mathlib.Core.Path.{_≡_, refl, ap, ap₂, sym, subst, _∙_}
+use Prim.Native.Nat.{ℕ, _+_, _*_, _^_, _≤_, _<_}
+use mathlib.Core.Path.{_≡_, refl, ap, sym, subst, _∙_}
 use mathlib.Core.List.{List, [], _∷_, _++_}
-use native.Mathlib.Nat.{add-assoc, add-zero}
+use native.Mathlib.Nat.{add-zero}
 use native.Mathlib.Omega.{arith}
 use lib.ListN.{length, take, drop, length-append}
 use lib.Seq.{take-take, take-append-seam, drop-drop, take-add, take-length, drop-at}
-use Rattle.core.specs.Number.{le, get, val}
-use Rattle.core.specs.Run.{numbersAt}
+use Rattle.core.specs.Number.{get}
 use Rattle.core.proofs.Numbers.{length-le, val-le}
 use Rattle.bflan.specs.Layout.{Layout, nothing, number, bytes, _⨾_, size, written, parts, table}
-use Rattle.bflan.specs.Reader.{Res, ok, num, numbers}
+use Rattle.bflan.specs.Reader.{ok, num, numbers}
 use Rattle.bflan.proofs.KeyRuns.{num-there}
 
 pub size-written : (l : Layout) → length (written l) ≡ size l

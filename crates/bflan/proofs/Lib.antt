@@ -7,6 +7,7 @@ pub mod InfoParts
 pub mod KeyRuns
 pub mod Layouts
 pub mod ReadBack
+pub mod RoundTrip
 pub mod SectionParts
 pub mod TargetParts
 pub mod Walks

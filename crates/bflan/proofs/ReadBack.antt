@@ -1,15 +1,13 @@
 -- Reading what is written gives the record's cells back: the laws of single parts.
 -- Assumes nothing.
-use Prim.Native.Nat.{ℕ, zero, suc, _+_, _-_, _*_, _^_, _≤_, _<_}
+use Prim.Native.Nat.{ℕ, zero, suc, _+_, _-_, _<_}
 use mathlib.Core.Path.{_≡_, refl, ap, ap₂, sym, _∙_}
-use mathlib.Core.Bool.{true}
-use mathlib.Core.List.{List, [], _∷_, _++_, map, append-assoc, append-nil}
-use native.Mathlib.Nat.{add-assoc, add-zero}
+use mathlib.Core.List.{List, [], _∷_, _++_, map}
 use native.Mathlib.Omega.{arith}
 use lib.ListN.{length}
-use Rattle.bflan.specs.Layout.{Layout, nothing, number, bytes, _⨾_, size, written, row, parts, keySkip, keyLay, zeros}
+use Rattle.bflan.specs.Layout.{Layout, size, row, parts, keySkip, keyLay}
 use Rattle.bflan.specs.Limits.{All, Fits}
-use Rattle.bflan.specs.Reader.{Res, ok, stop, P, andThen, Item, word, text, many, visit, num, skip}
+use Rattle.bflan.specs.Reader.{Res, ok, P, Item, word, text, many, visit, skip}
 use Rattle.bflan.specs.Reading.{keyOf}
 use Rattle.bflan.specs.Record.{Cell, word as wordCell, chars, wordsIn, bytesIn, each, keyWidths}
 use Rattle.bflan.specs.Walk.{shownAt, wordsOf, textsOf}

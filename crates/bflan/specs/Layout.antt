@@ -1,7 +1,6 @@
 -- What is written, field by field (document 01, 'The section' and 'Writing'). A layout keeps numbers and bytes apart, so that its size and
 -- its bytes are computed from one description.
-use Prim.Native.Nat.{ℕ, zero, suc, _+_, _-_, _*_}
-use mathlib.Core.Bool.{Bool, true, false}
+use Prim.Native.Nat.{ℕ, _+_, _-_, _*_}
 use mathlib.Core.List.{List, [], _∷_, _++_}
 use lib.Dec.{eqb}
 use lib.ListN.{length, replicate}
