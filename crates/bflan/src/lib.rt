@@ -8,6 +8,7 @@ mod info;
 mod keys;
 pub mod letters;
 mod offset;
+pub mod place;
 pub mod read;
 pub mod tally;
 mod target;
