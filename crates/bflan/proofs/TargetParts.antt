@@ -7,13 +7,12 @@ use mathlib.Core.List.{List, [], _∷_, _++_, map, map-append}
 use native.Mathlib.Omega.{arith}
 use borrow.Author.Tests.{leb-true, leb-false, le-leb, lt-leb}
 use lib.Dec.{leb}
-use lib.ListN.{length, getD}
+use lib.ListN.{length}
 use lib.Seq.{sets, length-sets}
 use Rattle.core.specs.Number.{get}
 use Rattle.core.specs.Run.{pairsAt, pairsOf}
 use Rattle.core.specs.Seek.{seekOf}
 use Rattle.core.specs.declared.seek.Sought.the-variants.{At, Past as SoughtPast}
-use Rattle.core.proofs.Numbers.{get-zero, get-suc}
 use Rattle.core.proofs.Seeks.{seek-there, seek-over}
 use Rattle.core.proofs.Stores.{sets-append}
 use Rattle.bflan.specs.declared.fault.Fault.{Fault}
@@ -133,9 +132,6 @@ module _ (letters base : ℕ) (s : List ℕ) (i : ℕ) where
   target-fields p h k el er ec en = rw (el, er, ec, en) (sym (target-on p h k))
 
 -- ---- its fields
-
-pub byte-is : (s : List ℕ) (at : ℕ) → getD s at 0 ≡ get 1 s at
-byte-is s at = omega (arith, get-suc 0 s at, get-zero s (at + 1))
 
 module _ (curve n : ℕ) where
   pub curve-low : curve ≤ 2 → curveOf curve ≡ curve

@@ -25,6 +25,7 @@ use core::run::numbers_end;
 use core::seek::Sought;
 use core::seek::seek;
 
+// The letters `pai1`, as the number that their four bytes are.
 const PAI1: u32 = 0x3169_6170;
 
 // Where the reading stops of a section that has its first eight bytes, but not the twelve behind them.
@@ -69,6 +70,7 @@ fn short(s: &[u8]) -> Fault
     short_body(s)
 }
 
+// The word of the looping byte: any but 0 is yes.
 fn flag_of(b: u32) -> u32
     ensures { λ r. ⌜ r ≡ flagOf b ⌝ }
 {
