@@ -1,5 +1,7 @@
+pub mod Bounds
 pub mod Codes
 pub mod ContentParts
+pub mod Counts
 pub mod DatumParts
 pub mod Emits
 pub mod Exercises
