@@ -4,6 +4,7 @@ pub mod DatumParts
 pub mod Emits
 pub mod Exercises
 pub mod InfoParts
+pub mod Judging
 pub mod KeyRuns
 pub mod Layouts
 pub mod ReadBack
