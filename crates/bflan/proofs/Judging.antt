@@ -159,6 +159,15 @@ module _ {w x : List ℕ} {i j : ℕ} (cs ds : List Cell) where
         lengths = lengths-join cs ds (h .lengths) (k .lengths);
       }
 
+module _ {w x : List ℕ} {i j : ℕ} {cs : List Cell} (h : Place w x i j cs) where
+  place-words : i + wordCount cs ≤ length w
+  unfolding size
+  place-words = h .words .fits
+
+  place-texts : j + byteCount cs ≤ length x
+  unfolding size
+  place-texts = h .texts .fits
+
 place-to : {w x : List ℕ} {i k j l : ℕ} {cs : List Cell} → i ≡ k → j ≡ l → Place w x i j cs → Place w x k l cs
 place-to e f h = rw (← e, ← f) h
 
@@ -287,16 +296,27 @@ target-law letters w x i j t q h =
     )
     (unfold wordsIn bytesIn in fine-at (omega arith) refl)
 
-datum-counts : (d : ExtendedUserDataAnim) (i j : ℕ)
-    → fine d (i + 1 + 1 + 1 + 1 + 1 + wordCount (map wordCell (d .values)) + 1) (j + byteCount (map wordCell (d .values)) + length (d .key))
-    ≡ fine d (i + wordCount (datumCells d)) (j + byteCount (datumCells d))
-unfolding datumCells wordsIn bytesIn
-datum-counts d i j =
-    let vs = map wordCell (d .values) in
-    let key = charsCell (d .key) ∷ [] in
-    let n : wordCount (vs ++ key) ≡ wordCount vs + 1 = word-counts vs key in
-    let m : byteCount (vs ++ key) ≡ byteCount vs + length (d .key) = byte-counts vs key ∙ rw append-nil in
-    fine-at (omega (arith, n)) (omega (arith, m))
+module _ (d : ExtendedUserDataAnim) where
+  datum-words : wordCount (datumCells d) ≡ 5 + wordCount (map wordCell (d .values)) + 1
+  unfolding datumCells wordsIn
+  datum-words = let n : wordCount (map wordCell (d .values) ++ (charsCell (d .key) ∷ [])) ≡ _ = word-counts (map wordCell (d .values)) (charsCell (d .key) ∷ []) in omega (arith, n)
+
+  datum-bytes : byteCount (datumCells d) ≡ byteCount (map wordCell (d .values)) + length (d .key)
+  unfolding datumCells bytesIn
+  datum-bytes = byte-counts (map wordCell (d .values)) (charsCell (d .key) ∷ []) ∙ rw append-nil
+
+content-bytes : (c : AnimContent) → byteCount (contentCells c) ≡ length (c .name) + byteCount (each infoCells (c .infos))
+unfolding contentCells bytesIn
+content-bytes c = length-append (c .name) (bytesIn (each infoCells (c .infos)))
+
+module _ (r : PaneAnimInfo) where
+  section-words : wordCount (cells r) ≡ 4 + wordCount (each textureCells (r .textures)) + wordCount (each contentCells (r .contents))
+  unfolding cells wordsIn
+  section-words = let n = word-counts (each textureCells (r .textures)) (each contentCells (r .contents)) in omega arith
+
+  section-bytes : byteCount (cells r) ≡ byteCount (each textureCells (r .textures)) + byteCount (each contentCells (r .contents))
+  unfolding cells bytesIn
+  section-bytes = byte-counts (each textureCells (r .textures)) (each contentCells (r .contents))
 
 datum-law : Walks datum datumCells FineDatum
 unfolding datum datumCells
@@ -319,7 +339,7 @@ datum-law w x i j d q h =
       values-law w x (i + 1 + 1 + 1 + 1 + 1) j (d .values) (q .values) (place-left vs key h5),
       text-law (wide 4) (λ l. lt-ltb (length (d .key)) (256 ^ 4) l) (q .key) h6,
     )
-    (datum-counts d i j)
+    (fine-at (omega (arith, datum-words d)) (omega (arith, datum-bytes d)))
 
 fleu-fits : lettersFit fleu ≡ true
 unfolding lettersFit rows fleu val
@@ -360,7 +380,7 @@ content-law w x i j c q h =
       word-law (wide 1) (lt-ltb (length (c .infos)) 256 (q .count)) h2,
       times-law info infoCells FineInfo info-law w x (i + 1 + 1 + 1) (j + length (c .name)) (c .infos) (q .infos) h3,
     )
-    (unfold wordsIn bytesIn in fine-at (omega arith) (rw length-append (omega arith)))
+    (fine-at (unfold wordsIn in omega arith) (omega (arith, content-bytes c)))
 
 texture-law : Walks (text (wide 4)) textureCells FineText
 unfolding textureCells
@@ -404,3 +424,364 @@ judge-flat r q l =
           (unfold wordsIn in omega (arith, n)) (unfold bytesIn in omega (arith, m)),
     )
     (fine-at (unfold wordsIn in omega (arith, n)) (unfold bytesIn in omega (arith, m)))
+
+-- ---- what the walk accepts stands there
+
+record Got {X : Type 0} (cellsOf : X → List Cell) (Q : X → Type 0) (w x : List ℕ) (i j : ℕ) (a : X) (k l : ℕ) : Type 0 where
+  place : Place w x i j (cellsOf a)
+  good : Q a
+  words : k ≡ i + wordCount (cellsOf a)
+  texts : l ≡ j + byteCount (cellsOf a)
+
+abbrev Sound : {X : Type 0} → J X → (X → List Cell) → (X → Type 0) → Type 0
+Sound {X = X} p cellsOf Q =
+    (w x : List ℕ) (i j : ℕ) (a : X) (k l : ℕ) → i ≤ length w → j ≤ length x → p w x i j ≡ fine a k l → Got cellsOf Q w x i j a k l
+
+fine-to : {A : Type 0} (R : A → ℕ → ℕ → Type 0) {a b : A} {i j k l : ℕ} → fine a i j ≡ fine b k l → R a i j → R b k l
+fine-to R {a} {b} {i} {j} {k} {l} e r =
+    let ea : a ≡ b = cc in
+    let ei : i ≡ k = cc in
+    let ej : j ≡ l = cc in
+    rw (← ea, ← ei, ← ej) r
+
+-- a walk that a fault ends accepts nothing
+module _ {A C : Type 0} {a : A} {k l n : ℕ} where
+  no-word : badWord n ≡ fine a k l → C
+  no-word e = let z : _≡_ {A = ℕ} 0 1 = cc in absurd (omega arith)
+
+  no-text : badText n ≡ fine a k l → C
+  no-text e = let z : _≡_ {A = ℕ} 0 1 = cc in absurd (omega arith)
+
+-- where a walk goes on after its first part: that part stands there, and the positions are within the lists
+module _ {Y C : Type 0} (w x : List ℕ) (i j : ℕ) (y : Y) (k l : ℕ) (a : i ≤ length w) (b : j ≤ length x) where
+  opens : {X : Type 0} (p : J X) (cellsOf : X → List Cell) (Q : X → Type 0) → Sound p cellsOf Q → (q : X → J Y) → _>>=_ p q w x i j ≡ fine y k l
+      → ((v : X) → Place w x i j (cellsOf v) → Q v → i + wordCount (cellsOf v) ≤ length w → j + byteCount (cellsOf v) ≤ length x
+      → q v w x (i + wordCount (cellsOf v)) (j + byteCount (cellsOf v)) ≡ fine y k l → C)
+      → C
+  opens {X} p cellsOf Q sound q e f = go (p w x i j) refl e
+    where
+      go : (r : Judged X) → p w x i j ≡ r → andThen r q w x ≡ fine y k l → C
+      go (fine v m n) c d =
+          let g : Got cellsOf Q w x i j v m n = sound w x i j v m n a b c in
+          f v (g .place) (g .good) (place-words (g .place)) (place-texts (g .place)) (rw (g .words, g .texts) at d)
+      go (badWord m) c d = no-word d
+      go (badText m) c d = no-text d
+
+-- ---- words and texts
+
+word-there : {w x : List ℕ} {i j : ℕ} → i < length w → j ≤ length x → Place w x i j (one (getD w i 0))
+unfolding size written wordsIn bytesIn Lengths
+word-there {w} {x} {i} {j} a b =
+    record {
+      words = record { fits = omega arith; same = ap (take 1) (drop-cons w i 0 a) };
+      texts = record { fits = omega arith; same = refl };
+      lengths = tt;
+    }
+
+word-sound : (test : ℕ → Bool) → Sound (word test) one (λ v. test v ≡ true)
+unfolding word
+word-sound test w x i j v k l a b e = go (ltb i (length w)) (test (getD w i 0)) refl refl e
+  where
+    go : (s t : Bool) → ltb i (length w) ≡ s → test (getD w i 0) ≡ t → pick (s && t) (fine (getD w i 0) (i + 1) j) (badWord i) ≡ fine v k l
+        → Got one (λ v. test v ≡ true) w x i j v k l
+    go true true c t d =
+        fine-to (λ (v k l : ℕ). Got one (λ v. test v ≡ true) w x i j v k l) d
+        (record {
+          place = word-there (ltb-true i (length w) c) b;
+          good = t;
+          words = unfold wordsIn in refl;
+          texts = unfold bytesIn in sym (add-zero j);
+        })
+    go true false c t d = no-word d
+    go false t c u d = no-word d
+
+module _ {w x : List ℕ} {i j v : ℕ} {cs : List Cell} where
+  word-join : Place w x i j (one v) → Place w x (i + 1) j cs → Place w x i j (wordCell v ∷ cs)
+  unfolding wordsIn bytesIn
+  word-join h k = place-join (one v) cs h (place-to refl (sym (add-zero j)) k)
+
+module _ {w x : List ℕ} {i j : ℕ} {t : List ℕ} {cs : List Cell} where
+  text-join : Place w x i j (textureCells t) → Place w x (i + 1) (j + length t) cs → Place w x i j (charsCell t ∷ cs)
+  unfolding wordsIn bytesIn textureCells
+  text-join h k = place-join (charsCell t ∷ []) cs h (place-to refl (rw append-nil) k)
+
+module _ {Y C : Type 0} (w x : List ℕ) (i j : ℕ) (y : Y) (k l : ℕ) (a : i ≤ length w) (b : j ≤ length x) where
+  opens-word : (test : ℕ → Bool) (q : ℕ → J Y) → _>>=_ (word test) q w x i j ≡ fine y k l
+      → ((v : ℕ) → Place w x i j (one v) → test v ≡ true → i + 1 ≤ length w → q v w x (i + 1) j ≡ fine y k l → C) → C
+  unfolding wordsIn bytesIn
+  opens-word test q e f =
+      opens w x i j y k l a b (word test) one (λ v. test v ≡ true) (word-sound test) q e λ v p t m n d.
+      f v p t m (rw add-zero at d)
+
+taken-length : (n j : ℕ) (x : List ℕ) → j + n ≤ length x → length (take n (drop j x)) ≡ n
+taken-length n j x h = simp (length-take, length-drop) (omega arith)
+
+texture-bytes : (t : List ℕ) → byteCount (textureCells t) ≡ length t
+unfolding textureCells bytesIn
+texture-bytes t = ap length (append-nil t)
+
+text-place : {w x : List ℕ} {i j n : ℕ} → Place w x i j (one n) → n < 256 ^ 4 → j + n ≤ length x → Place w x i j (textureCells (take n (drop j x)))
+unfolding textureCells wordsIn bytesIn Lengths size written
+text-place {w} {x} {i} {j} {n} p s h =
+    let m = taken-length n j x h in
+    record {
+      words = rw m (p .words);
+      texts = rw append-nil (record { fits = omega (arith, m); same = rw m refl });
+      lengths = (omega (arith, m), tt);
+    }
+
+text-sound : (test : ℕ → Bool) → ((n : ℕ) → test n ≡ true → n < 256 ^ 4) → Sound (text test) textureCells (λ t. FineText t × (test (length t) ≡ true))
+unfolding text chars
+text-sound test small w x i j v k l a b e =
+    opens-word w x i j v k l a b test chars e λ n p t m d.
+    go n p t (take n (drop j x)) refl (leb (j + n) (length x)) (ltb (firstFault (take n (drop j x))) n) refl refl d
+  where
+    go : (n : ℕ) → Place w x i j (one n) → test n ≡ true → (u : List ℕ) → take n (drop j x) ≡ u → (c d : Bool) → leb (j + n) (length x) ≡ c → ltb (firstFault u) n ≡ d
+        → pick c (pick d (badText (j + firstFault u)) (fine u (i + 1) (j + n))) (badText (length x)) ≡ fine v k l
+        → Got textureCells (λ t. FineText t × (test (length t) ≡ true)) w x i j v k l
+    go n p t u s true true c d f = no-text f
+    go n p t u s true false c d f =
+        let h : j + n ≤ length x = leb-true (j + n) (length x) c in
+        let m : length u ≡ n = ap length (sym s) ∙ taken-length n j x h in
+        fine-to (λ (v : List ℕ) (k l : ℕ). Got textureCells (λ t. FineText t × (test (length t) ≡ true)) w x i j v k l) f
+        (record {
+          place = rw (← s) (text-place p (small n t) h);
+          good = (none-fault u (rw m (ltb-false (firstFault u) n d)), rw m t);
+          words = unfold textureCells wordsIn in refl;
+          texts = omega (arith, texture-bytes u, m);
+        })
+    go n p t u s false d c q f = no-text f
+
+module _ {Y C : Type 0} (w x : List ℕ) (i j : ℕ) (y : Y) (k l : ℕ) (a : i ≤ length w) (b : j ≤ length x) where
+  opens-text : (test : ℕ → Bool) → ((n : ℕ) → test n ≡ true → n < 256 ^ 4) → (q : List ℕ → J Y) → _>>=_ (text test) q w x i j ≡ fine y k l
+      → ((t : List ℕ) → Place w x i j (textureCells t) → FineText t → test (length t) ≡ true → i + 1 ≤ length w → j + length t ≤ length x
+      → q t w x (i + 1) (j + length t) ≡ fine y k l → C)
+      → C
+  unfolding textureCells wordsIn bytesIn
+  opens-text test small q e f =
+      opens w x i j y k l a b (text test) textureCells (λ t. FineText t × (test (length t) ≡ true)) (text-sound test small) q e λ t p g m n d.
+      f t p (g .0) (g .1) m (rw append-nil at n) (rw append-nil at d)
+
+-- ---- rows and runs
+
+none-there : {w x : List ℕ} {i j : ℕ} → i ≤ length w → j ≤ length x → Place w x i j []
+unfolding size written wordsIn bytesIn Lengths
+none-there a b =
+    record {
+      words = record { fits = omega arith; same = refl };
+      texts = record { fits = omega arith; same = refl };
+      lengths = tt;
+    }
+
+abbrev AllOf : {X : Type 0} → (X → Type 0) → ℕ → List X → Type 0
+AllOf Q n xs = All Q xs × (length xs ≡ n)
+
+module _ {X : Type 0} (p : J X) (cellsOf : X → List Cell) (Q : X → Type 0) (sound : Sound p cellsOf Q) where
+  times-sound : (n : ℕ) → Sound (times n p) (each cellsOf) (AllOf Q n)
+  unfolding times each
+  times-sound zero w x i j ys k l a b e =
+      fine-to (λ (ys : List X) (k l : ℕ). Got (each cellsOf) (AllOf Q zero) w x i j ys k l) e
+      (record { place = none-there a b; good = (tt, refl); words = unfold wordsIn in sym (add-zero i); texts = unfold bytesIn in sym (add-zero j) })
+  times-sound (suc n) w x i j ys k l a b e =
+      opens w x i j ys k l a b p cellsOf Q sound _ e λ y py qy a b e.
+      opens w x (i + wordCount (cellsOf y)) (j + byteCount (cellsOf y)) ys k l a b (times n p) (each cellsOf) (AllOf Q n) (times-sound n) _ e λ zs pz qz a b e.
+      fine-to (λ (ys : List X) (k l : ℕ). Got (each cellsOf) (AllOf Q (suc n)) w x i j ys k l) e
+      (record {
+        place = place-join (cellsOf y) (each cellsOf zs) py pz;
+        good = ((qy, qz .0), ap suc (qz .1));
+        words = omega (arith, word-counts (cellsOf y) (each cellsOf zs));
+        texts = omega (arith, byte-counts (cellsOf y) (each cellsOf zs));
+      })
+
+row-sound : (ks : List ℕ) → Sound (row ks) (map wordCell) (Fits ks)
+unfolding row
+row-sound [] w x i j vs k l a b e =
+    fine-to (λ (vs : List ℕ) (k l : ℕ). Got (map wordCell) (Fits []) w x i j vs k l) e
+    (record { place = none-there a b; good = tt; words = unfold wordsIn in sym (add-zero i); texts = unfold bytesIn in sym (add-zero j) })
+row-sound (c ∷ cs) w x i j vs k l a b e =
+    opens-word w x i j vs k l a b (wide c) _ e λ v pv qv a e.
+    opens w x (i + 1) j vs k l a b (row cs) (map wordCell) (Fits cs) (row-sound cs) _ e λ us pu qu a b e.
+    fine-to (λ (vs : List ℕ) (k l : ℕ). Got (map wordCell) (Fits (c ∷ cs)) w x i j vs k l) e
+    (record {
+      place = word-join pv pu;
+      good = (ltb-true v (256 ^ c) qv, qu);
+      words = unfold wordsIn in omega arith;
+      texts = unfold bytesIn in refl;
+    })
+
+values-sound : (n : ℕ) → Sound (times n (word (wide 4))) (map wordCell) (AllOf (λ v. v < 256 ^ 4) n)
+values-sound n w x i j vs k l a b e =
+    let g = times-sound (word (wide 4)) one (λ v. wide 4 v ≡ true) (word-sound (wide 4)) n w x i j vs k l a b e in
+    record {
+      place = rw (← each-one vs) (g .place);
+      good = (all-map (λ v. wide 4 v ≡ true) (λ v. v < 256 ^ 4) (λ v t. ltb-true v (256 ^ 4) t) vs (g .good .0), g .good .1);
+      words = rw (← each-one vs) (g .words);
+      texts = rw (← each-one vs) (g .texts);
+    }
+
+-- ---- the parts
+
+target-sound : (letters : ℕ) → Sound (target letters) targetCells (FineTarget letters)
+unfolding target targetCells
+target-sound letters w x i j t k l a b e =
+    opens-word w x i j t k l a b (wide 1) _ e λ layer p1 q1 a e.
+    opens-word w x (i + 1) j t k l a b (targetFits letters) _ e λ number p2 q2 a e.
+    opens-word w x (i + 1 + 1) j t k l a b (λ c. ltb c 3) _ e λ curve p3 q3 a e.
+    opens-word w x (i + 1 + 1 + 1) j t k l a b (wide 2) _ e λ n p4 q4 a e.
+    opens w x (i + 1 + 1 + 1 + 1) j t k l a b (times n (row (keyWidths curve))) (each (map wordCell)) (AllOf (Fits (keyWidths curve)) n)
+    (times-sound (row (keyWidths curve)) (map wordCell) (Fits (keyWidths curve)) (row-sound (keyWidths curve)) n) _ e λ ks p5 q5 a b e.
+    fine-to (λ (t : AnimTarget) (k l : ℕ). Got targetCells (FineTarget letters) w x i j t k l) e
+    (record {
+      place = word-join p1 (word-join p2 (word-join p3 (word-join (rw (q5 .1) p4) p5)));
+      good = record {
+        layer = ltb-true layer 256 q1;
+        target = q2;
+        curve = ltb-true curve 3 q3;
+        count = rw (q5 .1) (ltb-true n 65536 q4);
+        keys = q5 .0;
+      };
+      words = unfold wordsIn in omega arith;
+      texts = unfold bytesIn in refl;
+    })
+
+wide-four : (n : ℕ) → wide 4 n ≡ true → n < 256 ^ 4
+wide-four n t = ltb-true n (256 ^ 4) t
+
+datum-sound : Sound datum datumCells FineDatum
+unfolding datum datumCells
+datum-sound w x i j d k l a b e =
+    opens-word w x i j d k l a b (wide 4) _ e λ size p1 q1 a e.
+    opens-word w x (i + 1) j d k l a b (wide 2) _ e λ one p2 q2 a e.
+    opens-word w x (i + 1 + 1) j d k l a b (wide 2) _ e λ two p3 q3 a e.
+    opens-word w x (i + 1 + 1 + 1) j d k l a b (wide 4) _ e λ base p4 q4 a e.
+    opens-word w x (i + 1 + 1 + 1 + 1) j d k l a b (wide 4) _ e λ three p5 q5 a e.
+    opens w x (i + 1 + 1 + 1 + 1 + 1) j d k l a b (times (3 * base) (word (wide 4))) (map wordCell) (AllOf (λ v. v < 256 ^ 4) (3 * base)) (values-sound (3 * base)) _ e λ vs p6 q6 a b e.
+    opens-text w x (i + 1 + 1 + 1 + 1 + 1 + wordCount (map wordCell vs)) (j + byteCount (map wordCell vs)) d k l a b (wide 4) wide-four _ e λ key p7 f q7 a b e.
+    fine-to (λ (d : ExtendedUserDataAnim) (k l : ℕ). Got datumCells FineDatum w x i j d k l) e
+    (record {
+      place = word-join p1 (word-join p2 (word-join p3 (word-join p4 (word-join p5 (place-join (map wordCell vs) (charsCell key ∷ []) p6 (unfold textureCells in p7))))));
+      good = record {
+        headerSize = wide-four size q1;
+        unk1 = ltb-true one 65536 q2;
+        unk2 = ltb-true two 65536 q3;
+        baseCount = wide-four base q4;
+        unk3 = wide-four three q5;
+        count = q6 .1;
+        values = q6 .0;
+        key = f;
+      };
+      words = omega (arith, datum-words (record { headerSize = size; unk1 = one; unk2 = two; baseCount = base; unk3 = three; values = vs; key = key }));
+      texts = omega (arith, datum-bytes (record { headerSize = size; unk1 = one; unk2 = two; baseCount = base; unk3 = three; values = vs; key = key }));
+    })
+
+module _ (w x : List ℕ) (i j letters n : ℕ) (p : Place w x i j (one letters)) (f : lettersFit letters ≡ true) (p′ : Place w x (i + 1) j (one n)) (h : wide 1 n ≡ true) where
+  infos-sound : (t : Bool) → eqb letters fleu ≡ t → (y : AnimInfo) (k l : ℕ) → i + 1 + 1 ≤ length w → j ≤ length x
+      → given t (_>>=_ (times n datum) (λ ds. ret (ExtendedUserData ds))) (_>>=_ (times n (target letters)) (λ ts. ret (Standard letters ts))) w x (i + 1 + 1) j ≡ fine y k l
+      → Got infoCells FineInfo w x i j y k l
+  unfolding infoCells
+  infos-sound true t y k l a b e =
+      opens w x (i + 1 + 1) j y k l a b (times n datum) (each datumCells) (AllOf FineDatum n) (times-sound datum datumCells FineDatum datum-sound n) _ e λ ds pd qd a b e.
+      fine-to (λ (y : AnimInfo) (k l : ℕ). Got infoCells FineInfo w x i j y k l) e
+      (record {
+        place = word-join (rw (← eqb-true letters fleu t) p) (word-join (rw (qd .1) p′) pd);
+        good = (rw (qd .1) (ltb-true n 256 h), qd .0);
+        words = unfold wordsIn in omega arith;
+        texts = unfold bytesIn in refl;
+      })
+  infos-sound false t y k l a b e =
+      opens w x (i + 1 + 1) j y k l a b (times n (target letters)) (each targetCells) (AllOf (FineTarget letters) n)
+      (times-sound (target letters) targetCells (FineTarget letters) (target-sound letters) n) _ e λ ts pt qt a b e.
+      fine-to (λ (y : AnimInfo) (k l : ℕ). Got infoCells FineInfo w x i j y k l) e
+      (record {
+        place = word-join p (word-join (rw (qt .1) p′) pt);
+        good = record { letters = f; standard = eqb-false letters fleu t; count = rw (qt .1) (ltb-true n 256 h); targets = qt .0 };
+        words = unfold wordsIn in omega arith;
+        texts = unfold bytesIn in refl;
+      })
+
+info-sound : Sound info infoCells FineInfo
+unfolding info
+info-sound w x i j y k l a b e =
+    opens-word w x i j y k l a b lettersFit _ e λ letters p1 q1 a e.
+    opens-word w x (i + 1) j y k l a b (wide 1) _ e λ n p2 q2 a e.
+    infos-sound w x i j letters n p1 q1 p2 q2 (eqb letters fleu) refl y k l a b e
+
+content-sound : Sound content contentCells FineContent
+unfolding content contentCells
+content-sound w x i j c k l a b e =
+    opens-text w x i j c k l a b (λ n. leb n 28) (λ n t. let h = leb-true n 28 t in omega arith) _ e λ name p1 f q1 a b e.
+    opens-word w x (i + 1) (j + length name) c k l a b (λ t. leb t 4) _ e λ type p2 q2 a e.
+    opens-word w x (i + 1 + 1) (j + length name) c k l a b (wide 1) _ e λ n p3 q3 a e.
+    opens w x (i + 1 + 1 + 1) (j + length name) c k l a b (times n info) (each infoCells) (AllOf FineInfo n) (times-sound info infoCells FineInfo info-sound n) _ e λ is p4 q4 a b e.
+    fine-to (λ (c : AnimContent) (k l : ℕ). Got contentCells FineContent w x i j c k l) e
+    (record {
+      place = text-join p1 (word-join p2 (word-join (rw (q4 .1) p3) p4));
+      good = record {
+        short = leb-true (length name) 28 q1;
+        name = f;
+        type = let h = leb-true type 4 q2 in omega arith;
+        count = rw (q4 .1) (ltb-true n 256 q3);
+        infos = q4 .0;
+      };
+      words = unfold wordsIn in omega arith;
+      texts = omega (arith, content-bytes (record { name = name; type = type; infos = is }));
+    })
+
+-- ---- the whole
+
+ends-then : {Y : Type 0} (q : ℕ → J Y) (w x : List ℕ) (i j : ℕ) (y : Y) (k l : ℕ) → _>>=_ ends q w x i j ≡ fine y k l
+    → (length w ≤ i) × (length x ≤ j) × (q 0 w x i j ≡ fine y k l)
+unfolding ends
+ends-then q w x i j y k l e = go (ltb i (length w)) (ltb j (length x)) refl refl e
+  where
+    go : (s t : Bool) → ltb i (length w) ≡ s → ltb j (length x) ≡ t → andThen (pick s (badWord i) (pick t (badText j) (fine 0 i j))) q w x ≡ fine y k l
+        → (length w ≤ i) × (length x ≤ j) × (q 0 w x i j ≡ fine y k l)
+    go true t a b e = no-word e
+    go false true a b e = no-text e
+    go false false a b e = (ltb-false i (length w) a, ltb-false j (length x) b, e)
+
+-- the two lists that the walk accepts are those of a record within the limits, all of them
+pub record Accepted (w x : List ℕ) (r : PaneAnimInfo) : Type 0 where
+  pub fine : Fine r
+  pub lengths : Lengths (cells r)
+  pub words : words r ≡ w
+  pub texts : texts r ≡ x
+
+whole : {w x : List ℕ} (r : PaneAnimInfo) → Fine r → Place w x 0 0 (cells r) → length w ≤ wordCount (cells r) → length x ≤ byteCount (cells r) → Accepted w x r
+unfolding words texts size written
+whole {w} {x} r f p a b =
+    record {
+      fine = f;
+      lengths = p .lengths;
+      words = sym (p .words .same) ∙ take-all (wordCount (cells r)) w a;
+      texts = sym (p .texts .same) ∙ take-all (byteCount (cells r)) x b;
+    }
+
+pub judge-accepts : (w x : List ℕ) (r : PaneAnimInfo) (i j : ℕ) → section w x 0 0 ≡ fine r i j → Accepted w x r
+unfolding section
+judge-accepts w x r i j e =
+    opens-word w x 0 0 r i j (omega arith) (omega arith) (wide 2) _ e λ frames p1 q1 a e.
+    opens-word w x 1 0 r i j a (omega arith) (λ b. leb b 1) _ e λ looping p2 q2 a e.
+    opens-word w x 2 0 r i j a (omega arith) (wide 2) _ e λ nt p3 q3 a e.
+    opens-word w x 3 0 r i j a (omega arith) (wide 2) _ e λ nc p4 q4 a e.
+    opens w x 4 0 r i j a (omega arith) (times nt (text (wide 4))) (each textureCells) (AllOf (λ t. FineText t × (wide 4 (length t) ≡ true)) nt)
+    (times-sound (text (wide 4)) textureCells (λ t. FineText t × (wide 4 (length t) ≡ true)) (text-sound (wide 4) wide-four) nt) _ e λ ts p5 q5 a b e.
+    opens w x (4 + wordCount (each textureCells ts)) (0 + byteCount (each textureCells ts)) r i j a b (times nc content) (each contentCells) (AllOf FineContent nc)
+    (times-sound content contentCells FineContent content-sound nc) _ e λ cs p6 q6 a b e.
+    let q : PaneAnimInfo = record { frames = frames; looping = looping; textures = ts; contents = cs } in
+    let d = ends-then (λ u. ret q) w x (4 + wordCount (each textureCells ts) + wordCount (each contentCells cs)) (0 + byteCount (each textureCells ts) + byteCount (each contentCells cs)) r i j e in
+    fine-to (λ (r : PaneAnimInfo) (i j : ℕ). Accepted w x r) (d .2)
+    (whole q
+    (record {
+      frames = ltb-true frames 65536 q1;
+      looping = let h = leb-true looping 1 q2 in omega arith;
+      textureCount = rw (q5 .1) (ltb-true nt 65536 q3);
+      contentCount = rw (q6 .1) (ltb-true nc 65536 q4);
+      textures = all-map (λ t. FineText t × (wide 4 (length t) ≡ true)) FineText (λ t h. h .0) ts (q5 .0);
+      contents = q6 .0;
+    })
+    (unfold cells in word-join p1 (word-join p2 (word-join (rw (q5 .1) p3) (word-join (rw (q6 .1) p4) (place-join (each textureCells ts) (each contentCells cs) p5 p6)))))
+    (omega (arith, d .0, section-words q)) (omega (arith, d .1, section-bytes q)))
+
+pub judge-sound : (w x : List ℕ) (r : PaneAnimInfo) (i j : ℕ) → section w x 0 0 ≡ fine r i j → Fine r × (words r ≡ w) × (texts r ≡ x)
+judge-sound w x r i j e = let h = judge-accepts w x r i j e in (h .fine, h .words, h .texts)
