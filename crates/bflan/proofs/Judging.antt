@@ -1,12 +1,11 @@
 -- The walk that judges words and texts: over the two lists of a record within the limits it gives the record, and what it accepts is the
 -- two lists of a record within the limits.
 -- Assumes nothing.
-use Prim.Native.Nat.{ℕ, zero, suc, _+_, _*_, _^_, _≤_, _<_, min}
-use mathlib.Core.Path.{_≡_, refl, sym, ap, ap₂, subst, _∙_}
+use Prim.Native.Nat.{ℕ, zero, suc, _+_, _*_, _^_, _≤_, _<_}
+use mathlib.Core.Path.{_≡_, refl, sym, ap, ap₂, _∙_}
 use mathlib.Core.Bool.{Bool, true, false, _&&_}
 use mathlib.Core.List.{List, [], _∷_, _++_, map, append-assoc, append-nil}
-use native.Mathlib.Nat.{add-assoc, add-zero}
-use native.Mathlib.Numerals.{add-one}
+use native.Mathlib.Nat.{add-zero}
 use native.Mathlib.Omega.{arith}
 use borrow.Author.Tests.{ltb-true, ltb-false, lt-ltb, le-ltb, leb-true, le-leb, eqb-true, eqb-false, eq-eqb, ne-eqb}
 use lib.Dec.{eqb, ltb, leb}
@@ -21,13 +20,13 @@ use Rattle.core.proofs.utf8.Laws.{sound-le, well-sound}
 use Rattle.bflan.specs.Judge.{Judged, fine, badWord, badText, J, andThen, _>>=_, ret, given, word, chars, text, times, wide, row, target, datum, info, content, ends, section}
 use Rattle.bflan.specs.Layout.{bytes, _⨾_, size, written}
 use Rattle.bflan.specs.Letters.{rows, fleu, lettersFit, targetFits}
-use Rattle.bflan.specs.Limits.{All, Fits, FineText, FineTarget, FineDatum, FineStandard, FineInfo, FineContent, Fine}
+use Rattle.bflan.specs.Limits.{All, Fits, FineText, FineTarget, FineDatum, FineInfo, FineContent, Fine}
 use Rattle.bflan.specs.Record.{AnimTarget, ExtendedUserDataAnim, AnimInfo, Standard, ExtendedUserData, AnimContent, PaneAnimInfo, keyWidths, Cell, word as wordCell, chars as charsCell, wordsIn, bytesIn, each, targetCells, datumCells, infoCells, contentCells, textureCells, cells, words, texts}
-use Rattle.bflan.proofs.Layouts.{Stands, stands-left, stands-right, stands-to}
+use Rattle.bflan.proofs.Layouts.{Stands, stands-left, stands-right}
 
 -- ---- texts
 
--- a text with none of the two faults has no first one
+-- a text with neither fault has no first one
 pub fault-none : (t : List ℕ) → FineText t → firstFault t ≡ length t
 unfolding firstFault
 fault-none t f =
@@ -35,7 +34,6 @@ fault-none t f =
     let s = eqb-true (sound t) (length t) (sym (well-sound t) ∙ f .wellFormed) in
     rw (z, s) (omega arith)
 
--- and back
 free-none : (t : List ℕ) → beforeZero t ≡ length t → zeroFree t ≡ true
 free-none t e = go (zeroFree t) refl
   where
@@ -45,6 +43,7 @@ free-none t e = go (zeroFree t) refl
         let l = block-zero t 0 (length t) (omega arith) (rw (take-length t) q) in
         absurd (omega arith)
 
+-- and back
 pub none-fault : (t : List ℕ) → length t ≤ firstFault t → FineText t
 unfolding firstFault
 none-fault t h =
@@ -116,16 +115,16 @@ lengths-join [] ds h k = k
 lengths-join (wordCell v ∷ cs) ds h k = lengths-join cs ds h k
 lengths-join (charsCell t ∷ cs) ds h k = (h .0, lengths-join cs ds (h .1) k)
 
-abbrev wordCount : List Cell → ℕ
+abbrev pub wordCount : List Cell → ℕ
 wordCount cs = length (wordsIn cs)
 
-abbrev byteCount : List Cell → ℕ
+abbrev pub byteCount : List Cell → ℕ
 byteCount cs = length (bytesIn cs)
 
 word-counts : (cs ds : List Cell) → wordCount (cs ++ ds) ≡ wordCount cs + wordCount ds
 word-counts cs ds = ap length (words-append cs ds) ∙ length-append (wordsIn cs) (wordsIn ds)
 
-byte-counts : (cs ds : List Cell) → byteCount (cs ++ ds) ≡ byteCount cs + byteCount ds
+pub byte-counts : (cs ds : List Cell) → byteCount (cs ++ ds) ≡ byteCount cs + byteCount ds
 byte-counts cs ds = ap length (bytes-append cs ds) ∙ length-append (bytesIn cs) (bytesIn ds)
 
 -- the cells' words stand in w from i on, their bytes in x from j on
@@ -301,11 +300,11 @@ module _ (d : ExtendedUserDataAnim) where
   unfolding datumCells wordsIn
   datum-words = let n : wordCount (map wordCell (d .values) ++ (charsCell (d .key) ∷ [])) ≡ _ = word-counts (map wordCell (d .values)) (charsCell (d .key) ∷ []) in omega (arith, n)
 
-  datum-bytes : byteCount (datumCells d) ≡ byteCount (map wordCell (d .values)) + length (d .key)
+  pub datum-bytes : byteCount (datumCells d) ≡ byteCount (map wordCell (d .values)) + length (d .key)
   unfolding datumCells bytesIn
   datum-bytes = byte-counts (map wordCell (d .values)) (charsCell (d .key) ∷ []) ∙ rw append-nil
 
-content-bytes : (c : AnimContent) → byteCount (contentCells c) ≡ length (c .name) + byteCount (each infoCells (c .infos))
+pub content-bytes : (c : AnimContent) → byteCount (contentCells c) ≡ length (c .name) + byteCount (each infoCells (c .infos))
 unfolding contentCells bytesIn
 content-bytes c = length-append (c .name) (bytesIn (each infoCells (c .infos)))
 
@@ -314,7 +313,7 @@ module _ (r : PaneAnimInfo) where
   unfolding cells wordsIn
   section-words = let n = word-counts (each textureCells (r .textures)) (each contentCells (r .contents)) in omega arith
 
-  section-bytes : byteCount (cells r) ≡ byteCount (each textureCells (r .textures)) + byteCount (each contentCells (r .contents))
+  pub section-bytes : byteCount (cells r) ≡ byteCount (each textureCells (r .textures)) + byteCount (each contentCells (r .contents))
   unfolding cells bytesIn
   section-bytes = byte-counts (each textureCells (r .textures)) (each contentCells (r .contents))
 
@@ -516,7 +515,7 @@ module _ {Y C : Type 0} (w x : List ℕ) (i j : ℕ) (y : Y) (k l : ℕ) (a : i 
 taken-length : (n j : ℕ) (x : List ℕ) → j + n ≤ length x → length (take n (drop j x)) ≡ n
 taken-length n j x h = simp (length-take, length-drop) (omega arith)
 
-texture-bytes : (t : List ℕ) → byteCount (textureCells t) ≡ length t
+pub texture-bytes : (t : List ℕ) → byteCount (textureCells t) ≡ length t
 unfolding textureCells bytesIn
 texture-bytes t = ap length (append-nil t)
 

@@ -10,4 +10,5 @@ pub mod Layouts
 pub mod ReadBack
 pub mod SectionParts
 pub mod TargetParts
+pub mod Verdicts
 pub mod Walks
