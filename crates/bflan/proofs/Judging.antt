@@ -44,12 +44,13 @@ free-none t e = go (zeroFree t) refl
         absurd (omega arith)
 
 -- and back
-pub none-fault : (t : List ℕ) → length t ≤ firstFault t → FineText t
+pub none-fault : (t : List ℕ) → length t < 256 ^ 4 → length t ≤ firstFault t → FineText t
 unfolding firstFault
-none-fault t h =
+none-fault t l h =
     let a = before-le t in
     let b = sound-le t in
     record {
+      short = l;
       wellFormed = well-sound t ∙ eq-eqb (sound t) (length t) (omega arith);
       zeroFree = free-none t (omega arith);
     }
@@ -91,30 +92,6 @@ module _ {s : List ℕ} {i : ℕ} (a b : List ℕ) where
         same = rw (length-append a b, take-add (length a) (length b) (drop i s), h .same, drop-drop (length a) i s, k .same);
       }
 
--- the length of every text is a word of 32 bits
-unfoldable pub Lengths : List Cell → Type 0
-Lengths [] = Unit {0}
-Lengths (wordCell v ∷ cs) = Lengths cs
-Lengths (charsCell t ∷ cs) = (length t < 256 ^ 4) × Lengths cs
-
-lengths-left : (cs ds : List Cell) → Lengths (cs ++ ds) → Lengths cs
-unfolding Lengths
-lengths-left [] ds h = tt
-lengths-left (wordCell v ∷ cs) ds h = lengths-left cs ds h
-lengths-left (charsCell t ∷ cs) ds h = (h .0, lengths-left cs ds (h .1))
-
-lengths-right : (cs ds : List Cell) → Lengths (cs ++ ds) → Lengths ds
-unfolding Lengths
-lengths-right [] ds h = h
-lengths-right (wordCell v ∷ cs) ds h = lengths-right cs ds h
-lengths-right (charsCell t ∷ cs) ds h = lengths-right cs ds (h .1)
-
-lengths-join : (cs ds : List Cell) → Lengths cs → Lengths ds → Lengths (cs ++ ds)
-unfolding Lengths
-lengths-join [] ds h k = k
-lengths-join (wordCell v ∷ cs) ds h k = lengths-join cs ds h k
-lengths-join (charsCell t ∷ cs) ds h k = (h .0, lengths-join cs ds (h .1) k)
-
 abbrev pub wordCount : List Cell → ℕ
 wordCount cs = length (wordsIn cs)
 
@@ -131,7 +108,6 @@ byte-counts cs ds = ap length (bytes-append cs ds) ∙ length-append (bytesIn cs
 record Place (w x : List ℕ) (i j : ℕ) (cs : List Cell) : Type 0 where
   words : Stands w i (bytes (wordsIn cs))
   texts : Stands x j (bytes (bytesIn cs))
-  lengths : Lengths cs
 
 module _ {w x : List ℕ} {i j : ℕ} (cs ds : List Cell) where
   place-left : Place w x i j (cs ++ ds) → Place w x i j cs
@@ -139,7 +115,6 @@ module _ {w x : List ℕ} {i j : ℕ} (cs ds : List Cell) where
       record {
         words = list-left (wordsIn cs) (wordsIn ds) (rw (words-append cs ds) at (h .words));
         texts = list-left (bytesIn cs) (bytesIn ds) (rw (bytes-append cs ds) at (h .texts));
-        lengths = lengths-left cs ds (h .lengths);
       }
 
   place-right : Place w x i j (cs ++ ds) → Place w x (i + wordCount cs) (j + byteCount cs) ds
@@ -147,7 +122,6 @@ module _ {w x : List ℕ} {i j : ℕ} (cs ds : List Cell) where
       record {
         words = list-right (wordsIn cs) (wordsIn ds) (rw (words-append cs ds) at (h .words));
         texts = list-right (bytesIn cs) (bytesIn ds) (rw (bytes-append cs ds) at (h .texts));
-        lengths = lengths-right cs ds (h .lengths);
       }
 
   place-join : Place w x i j cs → Place w x (i + wordCount cs) (j + byteCount cs) ds → Place w x i j (cs ++ ds)
@@ -155,7 +129,6 @@ module _ {w x : List ℕ} {i j : ℕ} (cs ds : List Cell) where
       record {
         words = rw (words-append cs ds) (list-join (wordsIn cs) (wordsIn ds) (h .words) (k .words));
         texts = rw (bytes-append cs ds) (list-join (bytesIn cs) (bytesIn ds) (h .texts) (k .texts));
-        lengths = lengths-join cs ds (h .lengths) (k .lengths);
       }
 
 module _ {w x : List ℕ} {i j : ℕ} {cs : List Cell} (h : Place w x i j cs) where
@@ -195,10 +168,6 @@ module _ {w x : List ℕ} {i j : ℕ} {t : List ℕ} {cs : List Cell} (h : Place
   unfolding bytesIn size written
   text-there = let k = list-left t (bytesIn cs) (h .texts) in (k .fits, k .same)
 
-  text-length : length t < 256 ^ 4
-  unfolding Lengths
-  text-length = h .lengths .0
-
   text-next : Place w x (i + 1) (j + length t) cs
   unfolding wordsIn bytesIn
   text-next = place-to refl (rw append-nil) (place-right (charsCell t ∷ []) cs h)
@@ -219,7 +188,7 @@ word-law {w} {x} {i} {j} {v} test q h =
     let f = word-first h in
     rw (lt-ltb i (length w) (f .0), f .1, q)
 
-text-law : {w x : List ℕ} {i j : ℕ} {t : List ℕ} {cs : List Cell} (test : ℕ → Bool) → (length t < 256 ^ 4 → test (length t) ≡ true) → FineText t
+text-law : {w x : List ℕ} {i j : ℕ} {t : List ℕ} {cs : List Cell} (test : ℕ → Bool) → test (length t) ≡ true → FineText t
     → Place w x i j (charsCell t ∷ cs) → text test w x i j ≡ fine t (i + 1) (j + length t)
 unfolding text word chars
 text-law {w} {x} {i} {j} {t} test q f h =
@@ -228,7 +197,7 @@ text-law {w} {x} {i} {j} {t} test q f h =
     rw (
       lt-ltb i (length w) (a .0),
       a .1,
-      q (text-length h),
+      q,
       le-leb (j + length t) (length x) (b .0),
       b .1,
       fault-none t f,
@@ -336,7 +305,7 @@ datum-law w x i j d q h =
       word-law (wide 4) (lt-ltb (d .unk3) (256 ^ 4) (q .unk3)) h4,
       ← q .count,
       values-law w x (i + 1 + 1 + 1 + 1 + 1) j (d .values) (q .values) (place-left vs key h5),
-      text-law (wide 4) (λ l. lt-ltb (length (d .key)) (256 ^ 4) l) (q .key) h6,
+      text-law (wide 4) (lt-ltb (length (d .key)) (256 ^ 4) (q .key .short)) (q .key) h6,
     )
     (fine-at (omega (arith, datum-words d)) (omega (arith, datum-bytes d)))
 
@@ -374,7 +343,7 @@ content-law w x i j c q h =
     let h2 = word-next h1 in
     let h3 = word-next h2 in
     rw (
-      text-law (λ n. leb n 28) (λ l. le-leb (length (c .name)) 28 (q .short)) (q .name) h,
+      text-law (λ n. leb n 28) (le-leb (length (c .name)) 28 (q .short)) (q .name) h,
       word-law (λ t. leb t 4) (le-leb (c .type) 4 (omega (arith, q .type))) h1,
       word-law (wide 1) (lt-ltb (length (c .infos)) 256 (q .count)) h2,
       times-law info infoCells FineInfo info-law w x (i + 1 + 1 + 1) (j + length (c .name)) (c .infos) (q .infos) h3,
@@ -384,26 +353,25 @@ content-law w x i j c q h =
 texture-law : Walks (text (wide 4)) textureCells FineText
 unfolding textureCells
 texture-law w x i j t q h =
-    text-law (wide 4) (λ l. lt-ltb (length t) (256 ^ 4) l) q h ∙ unfold wordsIn bytesIn in fine-at refl (rw append-nil)
+    text-law (wide 4) (lt-ltb (length t) (256 ^ 4) (q .short)) q h ∙ unfold wordsIn bytesIn in fine-at refl (rw append-nil)
 
 -- cells that stand there from the start on and are all of the two lists
-place-all : (cs : List Cell) → Lengths cs → Place (wordsIn cs) (bytesIn cs) 0 0 cs
+place-all : (cs : List Cell) → Place (wordsIn cs) (bytesIn cs) 0 0 cs
 unfolding size written
-place-all cs l =
+place-all cs =
     record {
       words = record { fits = omega arith; same = take-length (wordsIn cs) };
       texts = record { fits = omega arith; same = take-length (bytesIn cs) };
-      lengths = l;
     }
 
 ends-law : (w x : List ℕ) (i j : ℕ) → length w ≤ i → length x ≤ j → ends w x i j ≡ fine 0 i j
 unfolding ends
 ends-law w x i j h k = rw (le-ltb i (length w) h, le-ltb j (length x) k)
 
-pub judge-flat : (r : PaneAnimInfo) → Fine r → Lengths (cells r) → section (words r) (texts r) 0 0 ≡ fine r (length (words r)) (length (texts r))
+pub judge-flat : (r : PaneAnimInfo) → Fine r → section (words r) (texts r) 0 0 ≡ fine r (length (words r)) (length (texts r))
 unfolding section words texts cells
-judge-flat r q l =
-    let h = place-all (cells r) l in
+judge-flat r q =
+    let h = place-all (cells r) in
     let h1 = word-next h in
     let h2 = word-next h1 in
     let h3 = word-next h2 in
@@ -469,12 +437,11 @@ module _ {Y C : Type 0} (w x : List ℕ) (i j : ℕ) (y : Y) (k l : ℕ) (a : i 
 -- ---- words and texts
 
 word-there : {w x : List ℕ} {i j : ℕ} → i < length w → j ≤ length x → Place w x i j (one (getD w i 0))
-unfolding size written wordsIn bytesIn Lengths
+unfolding size written wordsIn bytesIn
 word-there {w} {x} {i} {j} a b =
     record {
       words = record { fits = omega arith; same = ap (take 1) (drop-cons w i 0 a) };
       texts = record { fits = omega arith; same = refl };
-      lengths = tt;
     }
 
 word-sound : (test : ℕ → Bool) → Sound (word test) one (λ v. test v ≡ true)
@@ -519,14 +486,13 @@ pub texture-bytes : (t : List ℕ) → byteCount (textureCells t) ≡ length t
 unfolding textureCells bytesIn
 texture-bytes t = ap length (append-nil t)
 
-text-place : {w x : List ℕ} {i j n : ℕ} → Place w x i j (one n) → n < 256 ^ 4 → j + n ≤ length x → Place w x i j (textureCells (take n (drop j x)))
-unfolding textureCells wordsIn bytesIn Lengths size written
-text-place {w} {x} {i} {j} {n} p s h =
+text-place : {w x : List ℕ} {i j n : ℕ} → Place w x i j (one n) → j + n ≤ length x → Place w x i j (textureCells (take n (drop j x)))
+unfolding textureCells wordsIn bytesIn size written
+text-place {w} {x} {i} {j} {n} p h =
     let m = taken-length n j x h in
     record {
       words = rw m (p .words);
       texts = rw append-nil (record { fits = omega (arith, m); same = rw m refl });
-      lengths = (omega (arith, m), tt);
     }
 
 text-sound : (test : ℕ → Bool) → ((n : ℕ) → test n ≡ true → n < 256 ^ 4) → Sound (text test) textureCells (λ t. FineText t × (test (length t) ≡ true))
@@ -544,8 +510,8 @@ text-sound test small w x i j v k l a b e =
         let m : length u ≡ n = ap length (sym s) ∙ taken-length n j x h in
         fine-to (λ (v : List ℕ) (k l : ℕ). Got textureCells (λ t. FineText t × (test (length t) ≡ true)) w x i j v k l) f
         (record {
-          place = rw (← s) (text-place p (small n t) h);
-          good = (none-fault u (rw m (ltb-false (firstFault u) n d)), rw m t);
+          place = rw (← s) (text-place p h);
+          good = (none-fault u (rw m (small n t)) (rw m (ltb-false (firstFault u) n d)), rw m t);
           words = unfold textureCells wordsIn in refl;
           texts = omega (arith, texture-bytes u, m);
         })
@@ -564,12 +530,11 @@ module _ {Y C : Type 0} (w x : List ℕ) (i j : ℕ) (y : Y) (k l : ℕ) (a : i 
 -- ---- rows and runs
 
 none-there : {w x : List ℕ} {i j : ℕ} → i ≤ length w → j ≤ length x → Place w x i j []
-unfolding size written wordsIn bytesIn Lengths
+unfolding size written wordsIn bytesIn
 none-there a b =
     record {
       words = record { fits = omega arith; same = refl };
       texts = record { fits = omega arith; same = refl };
-      lengths = tt;
     }
 
 abbrev AllOf : {X : Type 0} → (X → Type 0) → ℕ → List X → Type 0
@@ -742,7 +707,6 @@ ends-then q w x i j y k l e = go (ltb i (length w)) (ltb j (length x)) refl refl
 -- the two lists that the walk accepts are those of a record within the limits, all of them
 pub record Accepted (w x : List ℕ) (r : PaneAnimInfo) : Type 0 where
   pub fine : Fine r
-  pub lengths : Lengths (cells r)
   pub words : words r ≡ w
   pub texts : texts r ≡ x
 
@@ -751,7 +715,6 @@ unfolding words texts size written
 whole {w} {x} r f p a b =
     record {
       fine = f;
-      lengths = p .lengths;
       words = sym (p .words .same) ∙ take-all (wordCount (cells r)) w a;
       texts = sym (p .texts .same) ∙ take-all (byteCount (cells r)) x b;
     }

@@ -1,39 +1,25 @@
 -- What the judging walk says of records: their two lists determine them, and a call of writing that is accepted writes one within the limits.
 -- Assumes nothing.
-use Prim.Native.Nat.{ℕ, _^_, _≤_, _<_}
+use Prim.Native.Nat.{ℕ, _≤_}
 use mathlib.Core.Path.{_≡_, refl, sym, _∙_}
 use mathlib.Core.Bool.{Bool, true, false}
 use mathlib.Core.List.{List, [], _∷_, map}
 use native.Mathlib.Omega.{arith}
 use borrow.Author.Tests.{leb-true, le-leb}
 use lib.Dec.{leb}
-use lib.ListN.{length, length-append}
+use lib.ListN.{length}
 use lib.Seq.{sets}
 use Rattle.core.specs.Choice.{pick}
 use Rattle.core.specs.Outcome.{Outcome, accepted}
 use Rattle.bflan.specs.Answer.{refused}
 use Rattle.bflan.specs.Judge.{Judged, fine, badWord, badText, section}
 use Rattle.bflan.specs.Layout.{Layout, size, written, parts, ended, targetLay, datumLay, infoLay, contentBody, contentLay, sectionLay}
-use Rattle.bflan.specs.Limits.{All, limit, Fine, Within}
-use Rattle.bflan.specs.Record.{AnimTarget, ExtendedUserDataAnim, AnimInfo, Standard, ExtendedUserData, AnimContent, PaneAnimInfo, Cell, word, chars, wordsIn, bytesIn, each, targetCells, datumCells, infoCells, contentCells, textureCells, cells, words, texts}
+use Rattle.bflan.specs.Limits.{limit, Fine, Within}
+use Rattle.bflan.specs.Record.{AnimTarget, ExtendedUserDataAnim, AnimInfo, Standard, ExtendedUserData, AnimContent, PaneAnimInfo, Cell, word, bytesIn, each, targetCells, datumCells, infoCells, contentCells, textureCells, words, texts}
 use Rattle.bflan.specs.Writing.{stored, judged, writing}
-use Rattle.bflan.proofs.Judging.{Lengths, byteCount, byte-counts, texture-bytes, datum-bytes, content-bytes, section-bytes, judge-flat, judge-accepts}
+use Rattle.bflan.proofs.Judging.{byteCount, byte-counts, texture-bytes, datum-bytes, content-bytes, section-bytes, judge-flat, judge-accepts}
 
--- ---- records whose texts have lengths of 32 bits
-
--- where all words are of 32 bits
-pub lengths-words : (cs : List Cell) → All (λ v. v < 256 ^ 4) (wordsIn cs) → Lengths cs
-unfolding Lengths wordsIn
-lengths-words [] h = tt
-lengths-words (word v ∷ cs) h = lengths-words cs (h .1)
-lengths-words (chars t ∷ cs) h = (h .0, lengths-words cs (h .1))
-
--- where all texts together are that short
-pub lengths-bytes : (cs : List Cell) → length (bytesIn cs) < 256 ^ 4 → Lengths cs
-unfolding Lengths bytesIn
-lengths-bytes [] h = tt
-lengths-bytes (word v ∷ cs) h = lengths-bytes cs h
-lengths-bytes (chars t ∷ cs) h = let e = length-append t (bytesIn cs) in (omega arith, lengths-bytes cs (omega arith))
+-- ---- sizes
 
 -- the texts are no longer than what is written
 module _ {X : Type 0} (cellsOf : X → List Cell) (lay : X → Layout) (law : (a : X) → byteCount (cellsOf a) ≤ size (lay a)) where
@@ -78,22 +64,16 @@ unfolding texts sectionLay size
 texts-size r =
     omega (arith, section-bytes r, each-bytes textureCells ended texture-size (r .textures), each-bytes contentCells contentLay content-size (r .contents))
 
-pub within-lengths : (r : PaneAnimInfo) → Within r → Lengths (cells r)
-within-lengths r h = lengths-bytes (cells r) (let s : byteCount (cells r) ≤ size (sectionLay r) = unfold texts in texts-size r in omega (arith, s, h .short))
-
 -- ---- the two lists determine the record
 
 fine-same : {r q : PaneAnimInfo} {i j k l : ℕ} → fine r i j ≡ fine q k l → r ≡ q
 fine-same e = cc
 
-pub refused-beyond : (w x : List ℕ) (r : PaneAnimInfo) → Fine r → Lengths (cells r) → words r ≡ w → texts r ≡ x → section w x 0 0 ≡ fine r (length w) (length x)
-refused-beyond w x r f l e d = rw (← e, ← d) (judge-flat r f l)
+pub refused-beyond : (w x : List ℕ) (r : PaneAnimInfo) → Fine r → words r ≡ w → texts r ≡ x → section w x 0 0 ≡ fine r (length w) (length x)
+refused-beyond w x r f e d = rw (← e, ← d) (judge-flat r f)
 
-pub flat-once : (r q : PaneAnimInfo) → Fine r → Fine q → Lengths (cells r) → Lengths (cells q) → words r ≡ words q → texts r ≡ texts q → r ≡ q
-flat-once r q f g l m e d = fine-same (sym (judge-flat r f l) ∙ refused-beyond (words r) (texts r) q g m (sym e) (sym d))
-
-pub within-once : (r q : PaneAnimInfo) → Within r → Within q → words r ≡ words q → texts r ≡ texts q → r ≡ q
-within-once r q f g = flat-once r q (f .fine) (g .fine) (within-lengths r f) (within-lengths q g)
+pub flat-once : (r q : PaneAnimInfo) → Fine r → Fine q → words r ≡ words q → texts r ≡ texts q → r ≡ q
+flat-once r q f g e d = fine-same (sym (judge-flat r f) ∙ refused-beyond (words r) (texts r) q g (sym e) (sym d))
 
 -- ---- writing
 
@@ -101,7 +81,7 @@ pub written-there : (r : PaneAnimInfo) (out : List ℕ) → Within r → size (s
     → writing (words r) (texts r) out ≡ (accepted (size (sectionLay r) ∷ []), sets out 0 (written (sectionLay r)))
 unfolding writing judged stored
 written-there r out h l =
-    rw (judge-flat r (h .fine) (within-lengths r h), le-leb (size (sectionLay r)) limit (h .short), le-leb (size (sectionLay r)) (length out) l)
+    rw (judge-flat r (h .fine), le-leb (size (sectionLay r)) limit (h .short), le-leb (size (sectionLay r)) (length out) l)
 
 -- a call that is accepted: the record, and what is answered and written
 pub record WrittenOf (w x out : List ℕ) : Type 0 where
