@@ -26,6 +26,8 @@ Fits (k ∷ ks) [] = ⊥
 Fits (k ∷ ks) (v ∷ vs) = (v < 256 ^ k) × Fits ks vs
 
 pub record FineText (t : List ℕ) : Type 0 where
+  -- its length is a word of 32 bits
+  pub short : length t < 256 ^ 4
   pub wellFormed : wellFormed t ≡ true
   pub zeroFree : zeroFree t ≡ true
 
