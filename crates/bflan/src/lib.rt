@@ -16,3 +16,4 @@ pub mod tally;
 mod target;
 mod texture;
 pub mod write;
+pub mod writer;
