@@ -3,10 +3,12 @@ pub mod ContentParts
 pub mod DatumParts
 pub mod Emits
 pub mod Exercises
+pub mod Fields
 pub mod InfoParts
 pub mod KeyRuns
 pub mod Layouts
 pub mod ReadBack
+pub mod Replacing
 pub mod RoundTrip
 pub mod SectionParts
 pub mod TargetParts

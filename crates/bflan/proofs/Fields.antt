@@ -1,0 +1,153 @@
+-- A field that is found in a written section is the record's, and the section with other values there is the record's with these values.
+-- Assumes nothing.
+use Prim.Native.Nat.{ℕ, zero, suc, _+_, _-_, _*_, _^_, _≤_, _<_}
+use mathlib.Core.Path.{_≡_, refl, ap, ap₂, sym, _∙_}
+use mathlib.Core.Bool.{Bool, true, false, _&&_}
+use mathlib.Core.List.{List, [], _∷_, _++_, map}
+use native.Mathlib.Nat.{add-zero, zero-add, add-assoc}
+use native.Mathlib.Omega.{arith}
+use borrow.Author.Tests.{ltb-true, ltb-false, leb-true, ne-eqb}
+use lib.Dec.{eqb, leb, ltb}
+use lib.ListN.{length, replicate, length-replicate}
+use lib.Seq.{sets}
+use Rattle.core.specs.Choice.{pick}
+use Rattle.core.specs.Fill.{paddingOf}
+use Rattle.core.specs.Number.{get, val}
+use Rattle.bflan.specs.declared.place.Place.{Place}
+use Rattle.bflan.specs.declared.place.Place.the-variants.{FrameCount, Looping, Layer, Target, Key, Value}
+use Rattle.bflan.specs.declared.place.Field.{Field}
+use Rattle.bflan.specs.declared.place.Field.the-variants.{FrameCount as framesField, Looping as loopingField, Layer as layerField, Target as numberField, Key as keyField, Value as valueField}
+use Rattle.bflan.specs.Letters.{fleu, lettersOf, targetFits}
+use Rattle.bflan.specs.Layout.{Layout, nothing, number, bytes, _⨾_, size, written, zeros, row, parts, table, keySkip, keyLay, targetLay, ended, datumLay, infoHead, infoLay, dataOut, infosOut, tableFrom, infosFrom, userLay, contentBody, contentLay, namesEnd, contentTable, sectionSize, sectionLay}
+use Rattle.bflan.specs.Limits.{All, Fits, FineTarget, FineDatum, FineStandard, FineInfo, FineContent, Fine, Within}
+use Rattle.bflan.specs.Places.{widths, total, fitWidths, first, allowed, fit, Spot, nowhere, spot, stride, keyIn, valueIn, after, targetIn, datumIn, infoTableIn, infoIn, contentIn, locate, ofElement, changed, Found, missing, found, targetOf, datumOf, infoOf, fieldOf, onTarget, onDatum, onContent, onInfo, replaced}
+use Rattle.bflan.specs.Reader.{Res, Item, many}
+use Rattle.bflan.specs.Reading.{curveOf, countOf, datum, pai1}
+use Rattle.bflan.specs.Record.{AnimTarget, ExtendedUserDataAnim, AnimInfo, Standard, ExtendedUserData, AnimContent, PaneAnimInfo, keyWidths}
+use Rattle.bflan.proofs.Codes.{fits-lt, fit-lt, letters-own}
+use Rattle.bflan.proofs.Layouts.{size-written, Stands, stands-left, stands-right, stands-to, stands-all, stands-get, size-table}
+use Rattle.bflan.proofs.Replacing.{Replaces, replaces-to, replaces-left, replaces-right, replaces-whole, replaces-number, size-row, length-row, length-changed, no-element, ahead, ahead-even, table-entry, Element, element}
+use Rattle.bflan.proofs.TargetParts.{curve-low, count-low}
+
+-- ---- what values fit
+
+and-left : (a b : Bool) → (a && b) ≡ true → a ≡ true
+and-left true b e = refl
+and-left false b e = e
+
+and-right : (a b : Bool) → (a && b) ≡ true → b ≡ true
+and-right true b e = e
+and-right false b e = absurd (no e)
+  where
+    no : _≡_ {A = Bool} false true → ⊥
+    no e = let z : _≡_ {A = ℕ} 0 1 = cc in omega arith
+
+fits-widths : (ks vs : List ℕ) → fitWidths ks vs ≡ true → Fits ks vs
+unfolding fitWidths
+fits-widths [] [] e = tt
+fits-widths [] (v ∷ vs) e = let z : _≡_ {A = ℕ} 0 1 = cc in absurd (omega arith)
+fits-widths (k ∷ ks) [] e = let z : _≡_ {A = ℕ} 0 1 = cc in absurd (omega arith)
+fits-widths (k ∷ ks) (v ∷ vs) e = (ltb-true v (256 ^ k) (and-left (ltb v (256 ^ k)) (fitWidths ks vs) e), fits-widths ks vs (and-right (ltb v (256 ^ k)) (fitWidths ks vs) e))
+
+module _ (f : Field) (vs : List ℕ) (e : fit f vs ≡ true) where
+  fit-widths : Fits (widths f) vs
+  unfolding fit
+  fit-widths = fits-widths (widths f) vs (and-left (fitWidths (widths f) vs) (allowed f vs) e)
+
+  fit-allowed : allowed f vs ≡ true
+  unfolding fit
+  fit-allowed = and-right (fitWidths (widths f) vs) (allowed f vs) e
+
+first-lt : (k : ℕ) (vs : List ℕ) → Fits (k ∷ []) vs → first vs < 256 ^ k
+first-lt k [] f = absurd f
+first-lt k (v ∷ vs) f = f .0
+
+-- ---- a field inside a part
+
+-- the field f, o bytes into x: with values there, x is what `up` makes of it
+pub record Change {X : Type 0} (lay : X → Layout) (Q : X → Type 0) (x : X) (up : List ℕ → X → X) (o : ℕ) (f : Field) : Type 0 where
+  pub replaces : (vs : List ℕ) → Replaces (written (row (widths f) vs)) o (lay x) (lay (up vs x))
+  pub fine : (vs : List ℕ) → fit f vs ≡ true → Q (up vs x)
+
+-- what a section and the record say of a place in the part x that starts at b
+pub data Inside {X : Type 0} (lay : X → Layout) (Q : X → Type 0) (b : ℕ) (x : X) (up : List ℕ → X → X) (look : Spot) (say : Found) : Type 0 where
+  gone : say ≡ missing → look ≡ nowhere → Inside lay Q b x up look say
+  there : (o : ℕ) (f : Field) → say ≡ found f → look ≡ spot (b + o) f → Change lay Q x up o f → Inside lay Q b x up look say
+
+-- the same of the part y that holds x, k bytes on
+module _ {X Y : Type 0} {lay : X → Layout} {Q : X → Type 0} (lay′ : Y → Layout) (Q′ : Y → Type 0) (k b : ℕ) {x : X} {up : List ℕ → X → X} {look : Spot} {say : Found} (y : Y) (up′ : List ℕ → Y → Y) where
+  lift : ((vs bs : List ℕ) (o : ℕ) → Replaces bs o (lay x) (lay (up vs x)) → Replaces bs (k + o) (lay′ y) (lay′ (up′ vs y))) → ((vs : List ℕ) → Q (up vs x) → Q′ (up′ vs y))
+      → Inside lay Q (b + k) x up look say → Inside lay′ Q′ b y up′ look say
+  lift r q (gone e l) = gone e l
+  lift r q (there o f e l c) =
+      there (k + o) f e (l ∙ ap (λ (n : ℕ). spot n f) (add-assoc b k o))
+      (record { replaces = λ vs. r vs (written (row (widths f) vs)) o (c .replaces vs); fine = λ vs p. q vs (c .fine vs p) })
+
+-- ---- under a target
+
+module _ (letters b : ℕ) (y : AnimTarget) (f : FineTarget letters y) where
+  layer-inside : Inside targetLay (FineTarget letters) b y (λ vs z. record { layer = first vs; target = z .target; curve = z .curve; keys = z .keys }) (spot b layerField) (found layerField)
+  unfolding targetLay widths
+  layer-inside =
+      there 0 layerField refl (rw add-zero)
+      (record {
+        replaces = λ vs. replaces-left _ (replaces-number 1 (y .layer) vs);
+        fine = λ vs e. record { layer = first-lt 1 vs (fit-widths layerField vs e); target = f .target; curve = f .curve; count = f .count; keys = f .keys };
+      })
+
+  number-inside : Inside targetLay (FineTarget letters) b y (λ vs z. record { layer = z .layer; target = first vs; curve = z .curve; keys = z .keys }) (spot (b + 1) (numberField letters)) (found (numberField letters))
+  unfolding targetLay widths allowed size
+  number-inside =
+      there 1 (numberField letters) refl refl
+      (record {
+        replaces = λ vs. replaces-to (replaces-right _ (replaces-left _ (replaces-number 1 (y .target) vs))) (omega arith);
+        fine = λ vs e. record { layer = f .layer; target = fit-allowed (numberField letters) vs e; curve = f .curve; count = f .count; keys = f .keys };
+      })
+
+size-key : (curve : ℕ) (k : List ℕ) → size (keyLay curve k) ≡ stride curve
+unfolding keyLay size stride
+size-key curve k = ap₂ (λ (m n : ℕ). m + n) (size-row (keyWidths curve) k) (length-replicate (keySkip curve) 0)
+
+replaces-key : (curve : ℕ) (old vs : List ℕ) → Replaces (written (row (keyWidths curve) vs)) 0 (keyLay curve old) (keyLay curve vs)
+unfolding keyLay
+replaces-key curve old vs = replaces-left _ (replaces-whole (row (keyWidths curve) old) (row (keyWidths curve) vs) (size-row (keyWidths curve) old ∙ sym (size-row (keyWidths curve) vs)))
+
+key-found : (s : List ℕ) (letters b k : ℕ) (y : AnimTarget) → FineTarget letters y → Stands s b (targetLay y)
+    → keyIn s b k ≡ pick (ltb k (length (y .keys))) (spot (b + 12 + k * stride (y .curve)) (keyField (y .curve))) nowhere
+unfolding targetLay size keyIn
+key-found s letters b k y f h =
+    let h1 = stands-right h in
+    let h2 = stands-right h1 in
+    let h3 = stands-right h2 in
+    let h4 = stands-right h3 in
+    let h5 = stands-right h4 in
+    let h6 = stands-right h5 in
+    let low : y .curve ≤ 2 = omega (arith, f .curve) in
+    let ec : get 1 s (b + 2) ≡ y .curve = stands-get (stands-to (stands-left h2) (omega arith)) (omega (arith, f .curve)) in
+    let en : get 2 s (b + 4) ≡ length (y .keys) = stands-get (stands-to (stands-left h4) (omega arith)) (f .count) in
+    let eo : get 4 s (b + 8) ≡ 12 = stands-get (stands-to (stands-left h6) (omega arith)) (omega arith) in
+    rw (ec, en, eo, curve-low (y .curve) (length (y .keys)) low, count-low (y .curve) (length (y .keys)) low)
+
+key-inside : (s : List ℕ) (letters b k : ℕ) (y : AnimTarget) → FineTarget letters y → Stands s b (targetLay y)
+    → Inside targetLay (FineTarget letters) b y (λ vs z. record { layer = z .layer; target = z .target; curve = z .curve; keys = changed (z .keys) k (λ old. vs) }) (keyIn s b k)
+    (pick (ltb k (length (y .keys))) (found (keyField (y .curve))) missing)
+unfolding targetLay size widths
+key-inside s letters b k y f h = rw (key-found s letters b k y f h) (go (ltb k (length (y .keys))) refl)
+  where
+    go : (t : Bool) → ltb k (length (y .keys)) ≡ t
+        → Inside targetLay (FineTarget letters) b y (λ vs z. record { layer = z .layer; target = z .target; curve = z .curve; keys = changed (z .keys) k (λ old. vs) })
+        (pick t (spot (b + 12 + k * stride (y .curve)) (keyField (y .curve))) nowhere) (pick t (found (keyField (y .curve))) missing)
+    go false e = gone refl refl
+    go true e =
+        let lt : k < length (y .keys) = ltb-true k (length (y .keys)) e in
+        let el : Element (keyLay (y .curve)) (Fits (keyWidths (y .curve))) (y .keys) k = element (keyLay (y .curve)) (Fits (keyWidths (y .curve))) (y .keys) k lt in
+        let a : ahead (keyLay (y .curve)) (y .keys) k ≡ k * stride (y .curve) = ahead-even (keyLay (y .curve)) (stride (y .curve)) (size-key (y .curve)) (y .keys) k (omega arith) in
+        there (12 + k * stride (y .curve)) (keyField (y .curve)) refl (ap (λ (n : ℕ). spot n (keyField (y .curve))) (add-assoc b 12 (k * stride (y .curve))))
+        (record {
+          replaces = λ vs.
+              rw length-changed
+              (replaces-to (replaces-right _ (replaces-right _ (replaces-right _ (replaces-right _ (replaces-right _ (replaces-right _ (replaces-right _ (el .replaces (λ old. vs) (written (row (keyWidths (y .curve)) vs)) 0 (replaces-key (y .curve) (el .part) vs)))))))))
+              (omega (arith, a)));
+          fine = λ vs q.
+              record { layer = f .layer; target = f .target; curve = f .curve; count = rw length-changed (f .count); keys = el .every (λ old. vs) (fit-widths (keyField (y .curve)) vs q) (f .keys) };
+        })
