@@ -6,9 +6,9 @@ use mathlib.Core.Bool.{Bool, true, false, _&&_}
 use mathlib.Core.List.{List, [], _∷_, _++_, map}
 use native.Mathlib.Nat.{add-zero, zero-add, add-assoc}
 use native.Mathlib.Omega.{arith}
-use borrow.Author.Tests.{ltb-true, ltb-false, leb-true, ne-eqb}
+use borrow.Author.Tests.{ltb-true, ltb-false, leb-true, eq-eqb, ne-eqb}
 use lib.Dec.{eqb, leb, ltb}
-use lib.ListN.{length, replicate, length-replicate}
+use lib.ListN.{length, take, replicate, length-replicate}
 use lib.Seq.{sets}
 use Rattle.core.specs.Choice.{pick}
 use Rattle.core.specs.Fill.{paddingOf}
@@ -21,13 +21,16 @@ use Rattle.bflan.specs.Letters.{fleu, lettersOf, targetFits}
 use Rattle.bflan.specs.Layout.{Layout, nothing, number, bytes, _⨾_, size, written, zeros, row, parts, table, keySkip, keyLay, targetLay, ended, datumLay, infoHead, infoLay, dataOut, infosOut, tableFrom, infosFrom, userLay, contentBody, contentLay, namesEnd, contentTable, sectionSize, sectionLay}
 use Rattle.bflan.specs.Limits.{All, Fits, FineTarget, FineDatum, FineStandard, FineInfo, FineContent, Fine, Within}
 use Rattle.bflan.specs.Places.{widths, total, fitWidths, first, allowed, fit, Spot, nowhere, spot, stride, keyIn, valueIn, after, targetIn, datumIn, infoTableIn, infoIn, contentIn, locate, ofElement, changed, Found, missing, found, targetOf, datumOf, infoOf, fieldOf, onTarget, onDatum, onContent, onInfo, replaced}
-use Rattle.bflan.specs.Reader.{Res, Item, many}
+use Rattle.bflan.specs.Reader.{P, Item, many}
 use Rattle.bflan.specs.Reading.{curveOf, countOf, datum, pai1}
-use Rattle.bflan.specs.Record.{AnimTarget, ExtendedUserDataAnim, AnimInfo, Standard, ExtendedUserData, AnimContent, PaneAnimInfo, keyWidths}
-use Rattle.bflan.proofs.Codes.{fits-lt, fit-lt, letters-own}
+use Rattle.bflan.specs.Record.{AnimTarget, ExtendedUserDataAnim, AnimInfo, Standard, ExtendedUserData, AnimContent, PaneAnimInfo, keyWidths, Cell, each, datumCells}
+use Rattle.bflan.proofs.Codes.{fleu-lt, fit-lt, letters-own}
 use Rattle.bflan.proofs.Layouts.{size-written, Stands, stands-left, stands-right, stands-to, stands-all, stands-get, size-table}
+use Rattle.bflan.proofs.ReadBack.{Reads, reads-as, reads-none, reads-joined, ReadsPart}
 use Rattle.bflan.proofs.Replacing.{Replaces, replaces-to, replaces-left, replaces-right, replaces-whole, replaces-number, size-row, length-row, length-changed, no-element, ahead, ahead-even, table-entry, Element, element}
+use Rattle.bflan.proofs.RoundTrip.{datum-reads, user-size}
 use Rattle.bflan.proofs.TargetParts.{curve-low, count-low}
+use Rattle.bflan.proofs.Walks.{many-suc}
 
 -- ---- what values fit
 
@@ -151,3 +154,139 @@ key-inside s letters b k y f h = rw (key-found s letters b k y f h) (go (ltb k (
           fine = λ vs q.
               record { layer = f .layer; target = f .target; curve = f .curve; count = rw length-changed (f .count); keys = el .every (λ old. vs) (fit-widths (keyField (y .curve)) vs q) (f .keys) };
         })
+
+-- ---- under an extended datum
+
+value-below : (l v n : ℕ) → l < 3 → v < n → l * n + v < 3 * n
+value-below zero v n h k = omega arith
+value-below (suc zero) v n h k = omega arith
+value-below (suc (suc zero)) v n h k = omega arith
+value-below (suc (suc (suc l))) v n h k = absurd (omega arith)
+
+abbrev valued : ℕ → ℕ → List ℕ → ExtendedUserDataAnim → ExtendedUserDataAnim
+valued l v vs z =
+    record { headerSize = z .headerSize; unk1 = z .unk1; unk2 = z .unk2; baseCount = z .baseCount; unk3 = z .unk3; values = changed (z .values) (l * z .baseCount + v) (λ old. first vs); key = z .key }
+
+value-inside : (s : List ℕ) (b l v : ℕ) (y : ExtendedUserDataAnim) → FineDatum y → Stands s b (datumLay y)
+    → Inside datumLay FineDatum b y (valued l v) (valueIn s b l v) (pick (ltb l 3 && ltb v (y .baseCount)) (found valueField) missing)
+unfolding datumLay size widths valueIn
+value-inside s b l v y f h = rw (stands-get (stands-to (stands-left (stands-right (stands-right (stands-right h)))) at8) (f .baseCount)) (go (ltb l 3 && ltb v (y .baseCount)) refl)
+  where
+    at8 : b + 4 + 2 + 2 ≡ b + 8
+    at8 = omega arith
+
+    n : ℕ
+    n = l * y .baseCount + v
+
+    go : (t : Bool) → (ltb l 3 && ltb v (y .baseCount)) ≡ t
+        → Inside datumLay FineDatum b y (valued l v) (pick t (spot (b + 16 + 4 * n) valueField) nowhere) (pick t (found valueField) missing)
+    go false e = gone refl refl
+    go true e =
+        let ll : l < 3 = ltb-true l 3 (and-left (ltb l 3) (ltb v (y .baseCount)) e) in
+        let lv : v < y .baseCount = ltb-true v (y .baseCount) (and-right (ltb l 3) (ltb v (y .baseCount)) e) in
+        let lt : n < length (y .values) = rw (f .count) (value-below l v (y .baseCount) ll lv) in
+        let el : Element (number 4) (λ w. w < 256 ^ 4) (y .values) n = element (number 4) (λ w. w < 256 ^ 4) (y .values) n lt in
+        let a : ahead (number 4) (y .values) n ≡ n * 4 = ahead-even (number 4) 4 (λ w. refl) (y .values) n (omega arith) in
+        there (16 + 4 * n) valueField refl (ap (λ (m : ℕ). spot m valueField) (add-assoc b 16 (4 * n)))
+        (record {
+          replaces = λ vs.
+              replaces-to (replaces-right _ (replaces-right _ (replaces-right _ (replaces-right _ (replaces-right _ (replaces-left _ (el .replaces (λ old. first vs) (written (row (4 ∷ []) vs)) 0 (replaces-number 4 (el .part) vs))))))))
+              (omega (arith, a));
+          fine = λ vs q.
+              record {
+                headerSize = f .headerSize;
+                unk1 = f .unk1;
+                unk2 = f .unk2;
+                baseCount = f .baseCount;
+                unk3 = f .unk3;
+                count = length-changed (y .values) n (λ old. first vs) ∙ f .count;
+                values = el .every (λ old. first vs) (first-lt 4 vs (fit-widths valueField vs q)) (f .values);
+                key = f .key;
+              };
+        })
+
+-- ---- under an info
+
+-- the first n parts, read one after another
+module _ {X : Type 0} (lay : X → Layout) (cells : X → List Cell) (Q : X → Type 0) (s : List ℕ) (p : P (List Item)) where
+  many-ahead : ReadsPart lay cells Q s p → (i : ℕ) (xs : List X) (n : ℕ) → n ≤ length xs → All Q xs → Stands s i (parts lay xs)
+      → Reads s (many n p s i) (each cells (take n xs)) (i + ahead lay xs n)
+  unfolding parts each size
+  many-ahead law i [] zero l q h = unfold many in reads-as refl refl (omega arith) (reads-none i)
+  many-ahead law i (x ∷ xs) zero l q h = unfold many in reads-as refl refl (omega arith) (reads-none i)
+  many-ahead law i [] (suc n) l q h = absurd (omega arith)
+  many-ahead law i (x ∷ xs) (suc n) l q h =
+      let a = law i x (q .0) (stands-left h) in
+      let b = many-ahead law (i + size (lay x)) xs n (omega arith) (q .1) (stands-right h) in
+      reads-as (sym (many-suc n p s i)) refl (omega arith) (reads-joined (λ j. many n p s j) a b)
+
+module _ (s : List ℕ) (short : length s ≤ 16777216) where
+  module _ (t : ℕ) (look : ℕ → Spot) (say : ℕ → AnimTarget → Found) (up : List ℕ → AnimTarget → AnimTarget) where
+    target-inside : (b : ℕ) (x : AnimInfo) → FineInfo x → Stands s b (infoLay x)
+        → ((letters a : ℕ) (y : AnimTarget) → lettersOf (get 4 s b) ≡ letters → FineTarget letters y → Stands s a (targetLay y) → Inside targetLay (FineTarget letters) a y up (look a) (say letters y))
+        → Inside infoLay FineInfo b x (λ vs. onTarget t (up vs)) (targetIn s b t look) (targetOf x t say)
+    unfolding infoLay infoHead size targetIn targetOf onTarget
+    target-inside b (ExtendedUserData ds) f h law =
+        let e : get 4 s b ≡ fleu = stands-get (stands-left (stands-left h)) fleu-lt in
+        gone refl (rw (e, eq-eqb fleu fleu refl))
+    target-inside b (Standard letters ts) f h law = rw (e, ne-eqb letters fleu (f .standard), en) (go (ltb t n) refl)
+      where
+        e : get 4 s b ≡ letters
+        e = stands-get (stands-left (stands-left h)) (fit-lt letters (f .letters))
+
+        n : ℕ
+        n = length ts
+
+        en : get 1 s (b + 4) ≡ n
+        en = stands-get (stands-left (stands-right (stands-left h))) (f .count)
+
+        go : (u : Bool) → ltb t n ≡ u
+            → Inside infoLay FineInfo b (Standard letters ts) (λ vs. onTarget t (up vs)) (pick u (look (b + get 4 s (b + 8 + 4 * t))) nowhere) (ofElement ts t missing (say letters))
+        go false k = gone (no-element ts t missing (say letters) (ltb-false t n k)) refl
+        go true k =
+            let h1 = stands-right h in
+            let lt : size (table targetLay (8 + 4 * n) ts) ≡ 4 * n = size-table targetLay (8 + 4 * n) ts in
+            let hp : Stands s (b + (8 + 4 * n)) (parts targetLay ts) = stands-to (stands-right h1) (omega (arith, lt)) in
+            let lp : 8 + 4 * n + size (parts targetLay ts) < 256 ^ 4 = omega (arith, hp .fits) in
+            let l : t < n = ltb-true t n k in
+            let el : Element targetLay (FineTarget letters) ts t = element targetLay (FineTarget letters) ts t l in
+            let to : get 4 s (b + 8 + 4 * t) ≡ 8 + 4 * n + ahead targetLay ts t = table-entry targetLay s (b + 8) (8 + 4 * n) ts t l lp (stands-to (stands-left h1) (omega arith)) in
+            let re : (vs bs : List ℕ) (o : ℕ) → Replaces bs o (targetLay (el .part)) (targetLay (up vs (el .part))) → Replaces bs (8 + 4 * n + ahead targetLay ts t + o) (infoLay (Standard letters ts)) (infoLay (Standard letters (changed ts t (up vs)))) =
+            λ vs bs o r. rw (length-changed, el .tabled (up vs) (8 + 4 * n) (r .same)) (replaces-to (replaces-right _ (replaces-right _ (el .replaces (up vs) bs o r))) (omega (arith, lt))) in
+            rw (to, el .says (say letters))
+            (lift infoLay FineInfo (8 + 4 * n + ahead targetLay ts t) b (Standard letters ts) (λ vs. onTarget t (up vs)) re
+              (λ vs q. record { letters = f .letters; standard = f .standard; count = rw length-changed (f .count); targets = el .every (up vs) q (f .targets) })
+              (law letters (b + (8 + 4 * n + ahead targetLay ts t)) (el .part) (ap lettersOf e ∙ letters-own letters (f .letters)) (el .fine (f .targets)) (stands-to (el .stands s (b + (8 + 4 * n)) hp) (omega arith))))
+
+  module _ (d : ℕ) (look : ℕ → Spot) (say : ExtendedUserDataAnim → Found) (up : List ℕ → ExtendedUserDataAnim → ExtendedUserDataAnim)
+      (law : (a : ℕ) (y : ExtendedUserDataAnim) → FineDatum y → Stands s a (datumLay y) → Inside datumLay FineDatum a y up (look a) (say y)) where
+    datum-inside : (b : ℕ) (x : AnimInfo) → FineInfo x → Stands s b (infoLay x) → Inside infoLay FineInfo b x (λ vs. onDatum d (up vs)) (datumIn s b d look) (datumOf x d say)
+    unfolding infoLay infoHead size datumIn datumOf onDatum
+    datum-inside b (Standard letters ts) f h =
+        let e : get 4 s b ≡ letters = stands-get (stands-left (stands-left h)) (fit-lt letters (f .letters)) in
+        gone refl (rw (e, ne-eqb letters fleu (f .standard)))
+    datum-inside b (ExtendedUserData ds) f h = rw (e, eq-eqb fleu fleu refl, en) (go (ltb d n) refl)
+      where
+        e : get 4 s b ≡ fleu
+        e = stands-get (stands-left (stands-left h)) fleu-lt
+
+        n : ℕ
+        n = length ds
+
+        en : get 1 s (b + 4) ≡ n
+        en = stands-get (stands-left (stands-right (stands-left h))) (f .0)
+
+        go : (u : Bool) → ltb d n ≡ u
+            → Inside infoLay FineInfo b (ExtendedUserData ds) (λ vs. onDatum d (up vs)) (pick u (after (many d datum s (b + 8)) look) nowhere) (ofElement ds d missing say)
+        go false k = gone (no-element ds d missing say (ltb-false d n k)) refl
+        go true k =
+            let hp : Stands s (b + 8) (parts datumLay ds) = stands-to (stands-right h) (omega arith) in
+            let l : d < n = ltb-true d n k in
+            let el : Element datumLay FineDatum ds d = element datumLay FineDatum ds d l in
+            let m = many-ahead datumLay datumCells FineDatum s datum (datum-reads s) (b + 8) ds d (omega arith) (f .1) hp in
+            let re : (vs bs : List ℕ) (o : ℕ) → Replaces bs o (datumLay (el .part)) (datumLay (up vs (el .part))) → Replaces bs (8 + ahead datumLay ds d + o) (infoLay (ExtendedUserData ds)) (infoLay (ExtendedUserData (changed ds d (up vs)))) =
+            λ vs bs o r. rw length-changed (replaces-to (replaces-right (infoHead fleu n) (el .replaces (up vs) bs o r)) (omega arith)) in
+            rw (m .reads, el .says say, add-assoc b 8 (ahead datumLay ds d))
+            (lift infoLay FineInfo (8 + ahead datumLay ds d) b (ExtendedUserData ds) (λ vs. onDatum d (up vs)) re
+              (λ vs q. (rw length-changed (f .0), el .every (up vs) q (f .1)))
+              (law (b + (8 + ahead datumLay ds d)) (el .part) (el .fine (f .1)) (stands-to (el .stands s (b + 8) hp) (omega arith))))
