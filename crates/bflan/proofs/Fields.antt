@@ -290,3 +290,117 @@ module _ (s : List ℕ) (short : length s ≤ 16777216) where
             (lift infoLay FineInfo (8 + ahead datumLay ds d) b (ExtendedUserData ds) (λ vs. onDatum d (up vs)) re
               (λ vs q. (rw length-changed (f .0), el .every (up vs) q (f .1)))
               (law (b + (8 + ahead datumLay ds d)) (el .part) (el .fine (f .1)) (stands-to (el .stands s (b + 8) hp) (omega arith))))
+
+  -- ---- under a content
+
+  content-replaces : (c : AnimContent) (i : ℕ) (g : AnimInfo → AnimInfo) (el : Element infoLay FineInfo (c .infos) i) → infosOut (changed (c .infos) i g) ≡ infosOut (c .infos) → length (c .name) ≤ 28
+      → (bs : List ℕ) (o : ℕ) → Replaces bs o (infoLay (el .part)) (infoLay (g (el .part))) → Replaces bs (infosFrom c + ahead infoLay (c .infos) i + o) (contentLay c) (contentLay (onContent i g c))
+  unfolding contentLay
+  content-replaces c i g el quiet sh bs o r = rw (← body .same) (replaces-left _ body)
+    where
+      body : Replaces bs (infosFrom c + ahead infoLay (c .infos) i + o) (contentBody c) (contentBody (onContent i g c))
+      body = unfold contentBody infosFrom onContent size in
+          let p = el .replaces g bs o r in
+          let n : ℕ = length (c .infos) in
+          let from : ℕ = tableFrom (c .type) + 4 * n in
+          let total : ℕ = from + size (parts infoLay (c .infos)) - infosOut (c .infos) in
+          let z : length (replicate {A = ℕ} (28 - length (c .name)) 0) ≡ 28 - length (c .name) = length-replicate (28 - length (c .name)) 0 in
+          let u : 32 + size (userLay (c .type) total) ≡ tableFrom (c .type) = user-size s short (c .type) total in
+          let lt : size (table infoLay from (c .infos)) ≡ 4 * n = size-table infoLay from (c .infos) in
+          rw (length-changed, quiet, ← p .same, el .tabled g from (r .same))
+          (replaces-to (replaces-right _ (replaces-right _ (replaces-right _ (replaces-right _ (replaces-right _ (replaces-right _ (replaces-right _ p))))))) (omega (arith, z, sh, u, lt)))
+
+  table-in : (b type total : ℕ) → get 1 s (b + 29) ≡ type → Stands s (b + 32) (userLay type total) → infoTableIn s b ≡ b + tableFrom type
+  unfolding infoTableIn userLay tableFrom
+  table-in b type total e h = rw e (go (eqb type 2) h)
+    where
+      go : (u : Bool) → Stands s (b + 32) (pick u (number 4 40 ⨾ number 4 total) nothing) → pick u (b + get 4 s (b + 32)) (b + 32) ≡ b + pick u 40 32
+      go true h = ap (λ (n : ℕ). b + n) (stands-get (stands-left h) (omega arith))
+      go false h = refl
+
+  -- what a content's head says, and where its infos stand
+  record Content (b : ℕ) (c : AnimContent) : Type 0 where
+    count : get 1 s (b + 28) ≡ length (c .infos)
+    start : infoTableIn s b ≡ b + tableFrom (c .type)
+    offsets : Stands s (b + tableFrom (c .type)) (table infoLay (infosFrom c) (c .infos))
+    infos : Stands s (b + infosFrom c) (parts infoLay (c .infos))
+
+  content-there : (b : ℕ) (c : AnimContent) → FineContent c → Stands s b (contentLay c) → Content b c
+  unfolding contentLay contentBody infosFrom size
+  content-there b c f h0 =
+      let h = stands-left h0 in
+      let h1 = stands-right h in
+      let h2 = stands-right h1 in
+      let h3 = stands-right h2 in
+      let h4 = stands-right h3 in
+      let h5 = stands-right h4 in
+      let h6 = stands-right h5 in
+      let h7 = stands-right h6 in
+      let n : ℕ = length (c .infos) in
+      let from : ℕ = tableFrom (c .type) + 4 * n in
+      let total : ℕ = from + size (parts infoLay (c .infos)) - infosOut (c .infos) in
+      let z : length (replicate {A = ℕ} (28 - length (c .name)) 0) ≡ 28 - length (c .name) = length-replicate (28 - length (c .name)) 0 in
+      let sh : length (c .name) ≤ 28 = f .short in
+      let u : 32 + size (userLay (c .type) total) ≡ tableFrom (c .type) = user-size s short (c .type) total in
+      let lt : size (table infoLay from (c .infos)) ≡ 4 * n = size-table infoLay from (c .infos) in
+      let g2 : Stands s (b + 28) (number 1 n) = stands-to (stands-left h2) (omega (arith, z, sh)) in
+      let g3 : Stands s (b + 29) (number 1 (c .type)) = stands-to (stands-left h3) (omega (arith, z, sh)) in
+      let g5 : Stands s (b + 32) (userLay (c .type) total) = stands-to (stands-left h5) (omega (arith, z, sh)) in
+      record {
+        count = stands-get g2 (f .count);
+        start = table-in b (c .type) total (stands-get g3 (omega (arith, f .type))) g5;
+        offsets = stands-to (stands-left h6) (omega (arith, z, sh, u));
+        infos = stands-to h7 (omega (arith, z, sh, u, lt));
+      }
+
+  -- what the total size of a User content leaves out stays
+  abbrev Quiet : ℕ → (List ℕ → AnimInfo → AnimInfo) → Type 0
+  Quiet i up = (vs : List ℕ) (is : List AnimInfo) → infosOut (changed is i (up vs)) ≡ infosOut is
+
+  module _ (i : ℕ) (look : ℕ → Spot) (say : AnimInfo → Found) (up : List ℕ → AnimInfo → AnimInfo) (quiet : Quiet i up)
+      (law : (b : ℕ) (x : AnimInfo) → FineInfo x → Stands s b (infoLay x) → Inside infoLay FineInfo b x up (look b) (say x)) where
+    info-inside : (b : ℕ) (c : AnimContent) → FineContent c → Stands s b (contentLay c)
+        → Inside contentLay FineContent b c (λ vs. onContent i (up vs)) (infoIn s b i look) (ofElement (c .infos) i missing say)
+    unfolding infoIn
+    info-inside b c f h = rw (t .count, t .start) (go (ltb i n) refl)
+      where
+        t : Content b c
+        t = content-there b c f h
+
+        n : ℕ
+        n = length (c .infos)
+
+        go : (u : Bool) → ltb i n ≡ u
+            → Inside contentLay FineContent b c (λ vs. onContent i (up vs)) (pick u (look (b + get 4 s (b + tableFrom (c .type) + 4 * i))) nowhere) (ofElement (c .infos) i missing say)
+        go false k = gone (no-element (c .infos) i missing say (ltb-false i n k)) refl
+        go true k =
+            let l : i < n = ltb-true i n k in
+            let el : Element infoLay FineInfo (c .infos) i = element infoLay FineInfo (c .infos) i l in
+            let lp : infosFrom c + size (parts infoLay (c .infos)) < 256 ^ 4 = omega (arith, t .infos .fits) in
+            let to : get 4 s (b + tableFrom (c .type) + 4 * i) ≡ infosFrom c + ahead infoLay (c .infos) i = table-entry infoLay s (b + tableFrom (c .type)) (infosFrom c) (c .infos) i l lp (t .offsets) in
+            let re : (vs bs : List ℕ) (o : ℕ) → Replaces bs o (infoLay (el .part)) (infoLay (up vs (el .part))) → Replaces bs (infosFrom c + ahead infoLay (c .infos) i + o) (contentLay c) (contentLay (onContent i (up vs) c)) =
+            λ vs bs o r. content-replaces c i (up vs) el (quiet vs (c .infos)) (f .short) bs o r in
+            let fi : (vs : List ℕ) → FineInfo (up vs (el .part)) → FineContent (onContent i (up vs) c) =
+            λ vs q. unfold onContent in record { short = f .short; name = f .name; type = f .type; count = rw length-changed (f .count); infos = el .every (up vs) q (f .infos) } in
+            rw (to, el .says say)
+            (lift contentLay FineContent (infosFrom c + ahead infoLay (c .infos) i) b c (λ vs. onContent i (up vs)) re fi
+              (law (b + (infosFrom c + ahead infoLay (c .infos) i)) (el .part) (el .fine (f .infos)) (stands-to (el .stands s (b + infosFrom c) (t .infos)) (omega arith))))
+
+-- ---- in a section
+
+section-replaces : (r : PaneAnimInfo) (c : ℕ) (g : AnimContent → AnimContent) (el : Element contentLay FineContent (r .contents) c)
+    → (bs : List ℕ) (o : ℕ) → Replaces bs o (contentLay (el .part)) (contentLay (g (el .part)))
+    → Replaces bs (contentTable r + 4 * length (r .contents) + ahead contentLay (r .contents) c + o) (sectionLay r) (sectionLay (record { frames = r .frames; looping = r .looping; textures = r .textures; contents = changed (r .contents) c g }))
+unfolding sectionLay contentTable sectionSize namesEnd size
+section-replaces r c g el bs o q =
+    let p = el .replaces g bs o q in
+    let nt : ℕ = length (r .textures) in
+    let nc : ℕ = length (r .contents) in
+    let ne : ℕ = 20 + (4 * nt + size (parts ended (r .textures))) in
+    let at : ℕ = ne + paddingOf ne in
+    let z : length (replicate {A = ℕ} (paddingOf ne) 0) ≡ paddingOf ne = length-replicate (paddingOf ne) 0 in
+    let lt : size (table ended (4 * nt) (r .textures)) ≡ 4 * nt = size-table ended (4 * nt) (r .textures) in
+    let lc : size (table contentLay (at + 4 * nc) (r .contents)) ≡ 4 * nc = size-table contentLay (at + 4 * nc) (r .contents) in
+    rw (length-changed, ← p .same, el .tabled g (at + 4 * nc) (q .same))
+    (replaces-to (replaces-right _ (replaces-right _ (replaces-right _ (replaces-right _ (replaces-right _ (replaces-right _ (replaces-right _ (replaces-right _ (replaces-right _ (replaces-right _ (replaces-right _ (replaces-right _ p))))))))))))
+    (omega (arith, z, lt, lc)))
