@@ -404,3 +404,97 @@ section-replaces r c g el bs o q =
     rw (length-changed, ← p .same, el .tabled g (at + 4 * nc) (q .same))
     (replaces-to (replaces-right _ (replaces-right _ (replaces-right _ (replaces-right _ (replaces-right _ (replaces-right _ (replaces-right _ (replaces-right _ (replaces-right _ (replaces-right _ (replaces-right _ (replaces-right _ p))))))))))))
     (omega (arith, z, lt, lc)))
+
+-- what a section's head says, and where its contents stand
+record Section (s : List ℕ) (r : PaneAnimInfo) : Type 0 where
+  count : get 2 s 14 ≡ length (r .contents)
+  start : get 4 s 16 ≡ contentTable r
+  offsets : Stands s (contentTable r) (table contentLay (contentTable r + 4 * length (r .contents)) (r .contents))
+  contents : Stands s (contentTable r + 4 * length (r .contents)) (parts contentLay (r .contents))
+
+module _ (s : List ℕ) (short : length s ≤ 16777216) (r : PaneAnimInfo) (f : Fine r) where
+  section-there : Stands s 0 (sectionLay r) → Section s r
+  unfolding sectionLay contentTable sectionSize namesEnd size
+  section-there h =
+      let h1 = stands-right h in
+      let h2 = stands-right h1 in
+      let h3 = stands-right h2 in
+      let h4 = stands-right h3 in
+      let h5 = stands-right h4 in
+      let h6 = stands-right h5 in
+      let h7 = stands-right h6 in
+      let h8 = stands-right h7 in
+      let h9 = stands-right h8 in
+      let h10 = stands-right h9 in
+      let h11 = stands-right h10 in
+      let h12 = stands-right h11 in
+      let nt : ℕ = length (r .textures) in
+      let nc : ℕ = length (r .contents) in
+      let ne : ℕ = 20 + (4 * nt + size (parts ended (r .textures))) in
+      let at : ℕ = ne + paddingOf ne in
+      let z : length (replicate {A = ℕ} (paddingOf ne) 0) ≡ paddingOf ne = length-replicate (paddingOf ne) 0 in
+      let lt : size (table ended (4 * nt) (r .textures)) ≡ 4 * nt = size-table ended (4 * nt) (r .textures) in
+      let lc : size (table contentLay (at + 4 * nc) (r .contents)) ≡ 4 * nc = size-table contentLay (at + 4 * nc) (r .contents) in
+      let g11 : Stands s at (table contentLay (at + 4 * nc) (r .contents)) = stands-to (stands-left h11) (omega (arith, lt, z)) in
+      record {
+        count = stands-get (stands-left h6) (f .contentCount);
+        start = stands-get (stands-left h7) (omega (arith, g11 .fits));
+        offsets = g11;
+        contents = stands-to h12 (omega (arith, lt, lc, z));
+      }
+
+  module _ (c : ℕ) (look : ℕ → Spot) (say : AnimContent → Found) (up : List ℕ → AnimContent → AnimContent)
+      (law : (b : ℕ) (x : AnimContent) → FineContent x → Stands s b (contentLay x) → Inside contentLay FineContent b x up (look b) (say x)) where
+    abbrev withContent : List ℕ → PaneAnimInfo → PaneAnimInfo
+    withContent vs z = record { frames = z .frames; looping = z .looping; textures = z .textures; contents = changed (z .contents) c (up vs) }
+
+    content-inside : Stands s 0 (sectionLay r) → Inside sectionLay Fine 0 r withContent (contentIn s c look) (ofElement (r .contents) c missing say)
+    unfolding contentIn
+    content-inside h = rw (t .count, t .start) (go (ltb c n) refl)
+      where
+        t : Section s r
+        t = section-there h
+
+        n : ℕ
+        n = length (r .contents)
+
+        from : ℕ
+        from = contentTable r + 4 * n
+
+        go : (u : Bool) → ltb c n ≡ u → Inside sectionLay Fine 0 r withContent (pick u (look (get 4 s (contentTable r + 4 * c))) nowhere) (ofElement (r .contents) c missing say)
+        go false k = gone (no-element (r .contents) c missing say (ltb-false c n k)) refl
+        go true k =
+            let l : c < n = ltb-true c n k in
+            let el : Element contentLay FineContent (r .contents) c = element contentLay FineContent (r .contents) c l in
+            let lp : from + size (parts contentLay (r .contents)) < 256 ^ 4 = omega (arith, t .contents .fits) in
+            let to : get 4 s (contentTable r + 4 * c) ≡ 0 + (from + ahead contentLay (r .contents) c) = table-entry contentLay s (contentTable r) from (r .contents) c l lp (t .offsets) ∙ sym (zero-add (from + ahead contentLay (r .contents) c)) in
+            let re : (vs bs : List ℕ) (o : ℕ) → Replaces bs o (contentLay (el .part)) (contentLay (up vs (el .part))) → Replaces bs (from + ahead contentLay (r .contents) c + o) (sectionLay r) (sectionLay (withContent vs r)) =
+            λ vs bs o q. section-replaces r c (up vs) el bs o q in
+            rw (to, el .says say)
+            (lift sectionLay Fine (from + ahead contentLay (r .contents) c) 0 r withContent re
+              (λ vs q. record { frames = f .frames; looping = f .looping; textureCount = f .textureCount; contentCount = rw length-changed (f .contentCount); textures = f .textures; contents = el .every (up vs) q (f .contents) })
+              (law (0 + (from + ahead contentLay (r .contents) c)) (el .part) (el .fine (f .contents)) (stands-to (el .stands s from (t .contents)) (omega arith))))
+
+-- a field that is replaced is no key text, so what the total size leaves out stays
+quiet-target : (t i : ℕ) (g : AnimTarget → AnimTarget) (is : List AnimInfo) → infosOut (changed is i (onTarget t g)) ≡ infosOut is
+unfolding infosOut changed onTarget
+quiet-target t i g [] = refl
+quiet-target t zero g (Standard letters ts ∷ is) = refl
+quiet-target t zero g (ExtendedUserData ds ∷ is) = refl
+quiet-target t (suc i) g (Standard letters ts ∷ is) = quiet-target t i g is
+quiet-target t (suc i) g (ExtendedUserData ds ∷ is) = ap (λ (n : ℕ). dataOut ds + n) (quiet-target t i g is)
+
+module _ (g : ExtendedUserDataAnim → ExtendedUserDataAnim) (same : (y : ExtendedUserDataAnim) → length (g y .key) ≡ length (y .key)) where
+  quiet-data : (ds : List ExtendedUserDataAnim) (d : ℕ) → dataOut (changed ds d g) ≡ dataOut ds
+  unfolding dataOut changed
+  quiet-data [] d = refl
+  quiet-data (y ∷ ds) zero = rw (same y)
+  quiet-data (y ∷ ds) (suc d) = rw (quiet-data ds d)
+
+  quiet-datum : (d i : ℕ) (is : List AnimInfo) → infosOut (changed is i (onDatum d g)) ≡ infosOut is
+  unfolding infosOut changed onDatum
+  quiet-datum d i [] = refl
+  quiet-datum d zero (Standard letters ts ∷ is) = refl
+  quiet-datum d zero (ExtendedUserData ds ∷ is) = rw (quiet-data ds d)
+  quiet-datum d (suc i) (Standard letters ts ∷ is) = quiet-datum d i is
+  quiet-datum d (suc i) (ExtendedUserData ds ∷ is) = rw (quiet-datum d i is)
