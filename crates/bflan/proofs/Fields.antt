@@ -498,3 +498,87 @@ module _ (g : ExtendedUserDataAnim → ExtendedUserDataAnim) (same : (y : Extend
   quiet-datum d zero (ExtendedUserData ds ∷ is) = rw (quiet-data ds d)
   quiet-datum d (suc i) (Standard letters ts ∷ is) = quiet-datum d i is
   quiet-datum d (suc i) (ExtendedUserData ds ∷ is) = rw (quiet-datum d i is)
+
+-- the two fields of the section's own head
+module _ (r : PaneAnimInfo) (f : Fine r) where
+  frames-inside : Inside sectionLay Fine 0 r (λ vs z. replaced z FrameCount vs) (spot 8 framesField) (found framesField)
+  unfolding sectionLay sectionSize contentTable namesEnd size widths replaced
+  frames-inside =
+      there 8 framesField refl refl
+      (record {
+        replaces = λ vs. replaces-to (replaces-right _ (replaces-right _ (replaces-left _ (replaces-number 2 (r .frames) vs)))) (omega arith);
+        fine = λ vs e. record { frames = first-lt 2 vs (fit-widths framesField vs e); looping = f .looping; textureCount = f .textureCount; contentCount = f .contentCount; textures = f .textures; contents = f .contents };
+      })
+
+  looping-inside : Inside sectionLay Fine 0 r (λ vs z. replaced z Looping vs) (spot 10 loopingField) (found loopingField)
+  unfolding sectionLay sectionSize contentTable namesEnd size widths allowed replaced
+  looping-inside =
+      there 10 loopingField refl refl
+      (record {
+        replaces = λ vs. replaces-to (replaces-right _ (replaces-right _ (replaces-right _ (replaces-left _ (replaces-number 1 (r .looping) vs))))) (omega arith);
+        fine = λ vs e.
+            let l : first vs ≤ 1 = leb-true (first vs) 1 (fit-allowed loopingField vs e) in
+            record { frames = f .frames; looping = omega arith; textureCount = f .textureCount; contentCount = f .contentCount; textures = f .textures; contents = f .contents };
+      })
+
+module _ (s : List ℕ) (short : length s ≤ 16777216) (r : PaneAnimInfo) (f : Fine r) (h : Stands s 0 (sectionLay r)) where
+  under-target : (c i t : ℕ) (look : ℕ → ℕ → Spot) (say : ℕ → AnimTarget → Found) (up : List ℕ → AnimTarget → AnimTarget)
+      → ((letters a b : ℕ) (y : AnimTarget) → lettersOf (get 4 s a) ≡ letters → FineTarget letters y → Stands s b (targetLay y) → Inside targetLay (FineTarget letters) b y up (look a b) (say letters y))
+      → Inside sectionLay Fine 0 r (λ vs z. onInfo z c i (onTarget t (up vs))) (contentIn s c (λ b. infoIn s b i (λ a. targetIn s a t (look a)))) (infoOf r c i (λ x. targetOf x t say))
+  unfolding onInfo infoOf
+  under-target c i t look say up law =
+      content-inside s short r f c (λ b. infoIn s b i (λ a. targetIn s a t (look a))) (λ x. ofElement (x .infos) i missing (λ z. targetOf z t say)) (λ vs. onContent i (onTarget t (up vs)))
+      (info-inside s short i (λ a. targetIn s a t (look a)) (λ z. targetOf z t say) (λ vs. onTarget t (up vs)) (λ vs. quiet-target t i (up vs))
+        (λ a x fx hx. target-inside s short t (look a) say up a x fx hx (λ letters b y e fy hy. law letters a b y e fy hy)))
+      h
+
+  under-datum : (c i d : ℕ) (look : ℕ → Spot) (say : ExtendedUserDataAnim → Found) (up : List ℕ → ExtendedUserDataAnim → ExtendedUserDataAnim) → ((vs : List ℕ) (y : ExtendedUserDataAnim) → length (up vs y .key) ≡ length (y .key))
+      → ((b : ℕ) (y : ExtendedUserDataAnim) → FineDatum y → Stands s b (datumLay y) → Inside datumLay FineDatum b y up (look b) (say y))
+      → Inside sectionLay Fine 0 r (λ vs z. onInfo z c i (onDatum d (up vs))) (contentIn s c (λ b. infoIn s b i (λ a. datumIn s a d look))) (infoOf r c i (λ x. datumOf x d say))
+  unfolding onInfo infoOf
+  under-datum c i d look say up same law =
+      content-inside s short r f c (λ b. infoIn s b i (λ a. datumIn s a d look)) (λ x. ofElement (x .infos) i missing (λ z. datumOf z d say)) (λ vs. onContent i (onDatum d (up vs)))
+      (info-inside s short i (λ a. datumIn s a d look) (λ z. datumOf z d say) (λ vs. onDatum d (up vs)) (λ vs. quiet-datum (up vs) (same vs) d i) (datum-inside s short d look say up law))
+      h
+
+  field-inside : (p : Place) → Inside sectionLay Fine 0 r (λ vs z. replaced z p vs) (locate s p) (fieldOf r p)
+  unfolding locate fieldOf replaced
+  field-inside FrameCount = frames-inside r f
+  field-inside Looping = looping-inside r f
+  field-inside (Layer c i t) = under-target c i t (λ a b. spot b layerField) (λ letters y. found layerField) _ (λ letters a b y e fy hy. layer-inside letters b y fy)
+  field-inside (Target c i t) =
+      under-target c i t (λ a b. spot (b + 1) (numberField (lettersOf (get 4 s a)))) (λ letters y. found (numberField letters)) (λ vs z. record { layer = z .layer; target = first vs; curve = z .curve; keys = z .keys })
+      (λ letters a b y e fy hy. rw e (number-inside letters b y fy))
+  field-inside (Key c i t k) = under-target c i t (λ a b. keyIn s b k) (λ letters y. pick (ltb k (length (y .keys))) (found (keyField (y .curve))) missing) _ (λ letters a b y e fy hy. key-inside s letters b k y fy hy)
+  field-inside (Value c i d l v) = under-datum c i d (λ b. valueIn s b l v) (λ y. pick (ltb l 3 && ltb v (y .baseCount)) (found valueField) missing) (valued l v) (λ vs y. refl) (λ b. value-inside s b l v)
+
+-- ---- the fields of a written section
+
+-- the record has the field f at the place p, and its bytes stand from `at` on: written there, values that fit make the section of the record with
+-- these values, which stays within the limits
+pub record Edits (r : PaneAnimInfo) (p : Place) (at : ℕ) (f : Field) : Type 0 where
+  pub field : fieldOf r p ≡ found f
+  pub inside : at + total (widths f) ≤ size (sectionLay r)
+  pub writes : (vs : List ℕ) → fit f vs ≡ true → sets (written (sectionLay r)) at (written (row (widths f) vs)) ≡ written (sectionLay (replaced r p vs))
+  pub within : (vs : List ℕ) → fit f vs ≡ true → Within (replaced r p vs)
+
+-- a place is missing in the record and found nowhere in the section, or it is there in both
+pub data Finding (r : PaneAnimInfo) (p : Place) : Type 0 where
+  absent : fieldOf r p ≡ missing → locate (written (sectionLay r)) p ≡ nowhere → Finding r p
+  present : (at : ℕ) (f : Field) → locate (written (sectionLay r)) p ≡ spot at f → Edits r p at f → Finding r p
+
+pub finding : (r : PaneAnimInfo) → Within r → (p : Place) → Finding r p
+finding r w p =
+    let short : length (written (sectionLay r)) ≤ 16777216 = omega (arith, size-written (sectionLay r), w .short) in
+    go (field-inside (written (sectionLay r)) short r (w .fine) (stands-all (sectionLay r)) p)
+  where
+    go : Inside sectionLay Fine 0 r (λ vs z. replaced z p vs) (locate (written (sectionLay r)) p) (fieldOf r p) → Finding r p
+    go (gone e l) = absent e l
+    go (there o f e l c) =
+        present o f (l ∙ ap (λ (n : ℕ). spot n f) (zero-add o))
+        (record {
+          field = e;
+          inside = let n = length-row (widths f) [] in omega (arith, c .replaces [] .inside);
+          writes = λ vs q. c .replaces vs .writes;
+          within = λ vs q. record { fine = c .fine vs q; short = rw (← c .replaces vs .same) (w .short) };
+        })
