@@ -13,3 +13,4 @@ pub mod RoundTrip
 pub mod SectionParts
 pub mod TargetParts
 pub mod Walks
+pub mod WrittenBytes
