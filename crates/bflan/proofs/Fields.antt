@@ -3,26 +3,26 @@
 use Prim.Native.Nat.{ℕ, zero, suc, _+_, _-_, _*_, _^_, _≤_, _<_}
 use mathlib.Core.Path.{_≡_, refl, ap, ap₂, sym, _∙_}
 use mathlib.Core.Bool.{Bool, true, false, _&&_}
-use mathlib.Core.List.{List, [], _∷_, _++_, map}
+use mathlib.Core.List.{List, [], _∷_}
 use native.Mathlib.Nat.{add-zero, zero-add, add-assoc}
 use native.Mathlib.Omega.{arith}
 use borrow.Author.Tests.{ltb-true, ltb-false, leb-true, eq-eqb, ne-eqb}
-use lib.Dec.{eqb, leb, ltb}
+use lib.Dec.{eqb, ltb}
 use lib.ListN.{length, take, replicate, length-replicate}
 use lib.Seq.{sets}
 use Rattle.core.specs.Choice.{pick}
 use Rattle.core.specs.Fill.{paddingOf}
-use Rattle.core.specs.Number.{get, val}
+use Rattle.core.specs.Number.{get}
 use Rattle.bflan.specs.declared.place.Place.{Place}
 use Rattle.bflan.specs.declared.place.Place.the-variants.{FrameCount, Looping, Layer, Target, Key, Value}
 use Rattle.bflan.specs.declared.place.Field.{Field}
 use Rattle.bflan.specs.declared.place.Field.the-variants.{FrameCount as framesField, Looping as loopingField, Layer as layerField, Target as numberField, Key as keyField, Value as valueField}
-use Rattle.bflan.specs.Letters.{fleu, lettersOf, targetFits}
-use Rattle.bflan.specs.Layout.{Layout, nothing, number, bytes, _⨾_, size, written, zeros, row, parts, table, keySkip, keyLay, targetLay, ended, datumLay, infoHead, infoLay, dataOut, infosOut, tableFrom, infosFrom, userLay, contentBody, contentLay, namesEnd, contentTable, sectionSize, sectionLay}
-use Rattle.bflan.specs.Limits.{All, Fits, FineTarget, FineDatum, FineStandard, FineInfo, FineContent, Fine, Within}
+use Rattle.bflan.specs.Letters.{fleu, lettersOf}
+use Rattle.bflan.specs.Layout.{Layout, nothing, number, _⨾_, size, written, row, parts, table, keySkip, keyLay, targetLay, ended, datumLay, infoHead, infoLay, dataOut, infosOut, tableFrom, infosFrom, userLay, contentBody, contentLay, namesEnd, contentTable, sectionSize, sectionLay}
+use Rattle.bflan.specs.Limits.{All, Fits, FineTarget, FineDatum, FineInfo, FineContent, Fine, Within}
 use Rattle.bflan.specs.Places.{widths, total, fitWidths, first, allowed, fit, Spot, nowhere, spot, stride, keyIn, valueIn, after, targetIn, datumIn, infoTableIn, infoIn, contentIn, locate, ofElement, changed, Found, missing, found, targetOf, datumOf, infoOf, fieldOf, onTarget, onDatum, onContent, onInfo, replaced}
 use Rattle.bflan.specs.Reader.{P, Item, many}
-use Rattle.bflan.specs.Reading.{curveOf, countOf, datum, pai1}
+use Rattle.bflan.specs.Reading.{datum}
 use Rattle.bflan.specs.Record.{AnimTarget, ExtendedUserDataAnim, AnimInfo, Standard, ExtendedUserData, AnimContent, PaneAnimInfo, keyWidths, Cell, each, datumCells}
 use Rattle.bflan.proofs.Codes.{fleu-lt, fit-lt, letters-own}
 use Rattle.bflan.proofs.Layouts.{size-written, Stands, stands-left, stands-right, stands-to, stands-all, stands-get, size-table}
@@ -255,8 +255,8 @@ module _ (s : List ℕ) (short : length s ≤ 16777216) where
             λ vs bs o r. rw (length-changed, el .tabled (up vs) (8 + 4 * n) (r .same)) (replaces-to (replaces-right _ (replaces-right _ (el .replaces (up vs) bs o r))) (omega (arith, lt))) in
             rw (to, el .says (say letters))
             (lift infoLay FineInfo (8 + 4 * n + ahead targetLay ts t) b (Standard letters ts) (λ vs. onTarget t (up vs)) re
-              (λ vs q. record { letters = f .letters; standard = f .standard; count = rw length-changed (f .count); targets = el .every (up vs) q (f .targets) })
-              (law letters (b + (8 + 4 * n + ahead targetLay ts t)) (el .part) (ap lettersOf e ∙ letters-own letters (f .letters)) (el .fine (f .targets)) (stands-to (el .stands s (b + (8 + 4 * n)) hp) (omega arith))))
+            (λ vs q. record { letters = f .letters; standard = f .standard; count = rw length-changed (f .count); targets = el .every (up vs) q (f .targets) })
+            (law letters (b + (8 + 4 * n + ahead targetLay ts t)) (el .part) (ap lettersOf e ∙ letters-own letters (f .letters)) (el .fine (f .targets)) (stands-to (el .stands s (b + (8 + 4 * n)) hp) (omega arith))))
 
   module _ (d : ℕ) (look : ℕ → Spot) (say : ExtendedUserDataAnim → Found) (up : List ℕ → ExtendedUserDataAnim → ExtendedUserDataAnim)
       (law : (a : ℕ) (y : ExtendedUserDataAnim) → FineDatum y → Stands s a (datumLay y) → Inside datumLay FineDatum a y up (look a) (say y)) where
@@ -288,8 +288,8 @@ module _ (s : List ℕ) (short : length s ≤ 16777216) where
             λ vs bs o r. rw length-changed (replaces-to (replaces-right (infoHead fleu n) (el .replaces (up vs) bs o r)) (omega arith)) in
             rw (m .reads, el .says say, add-assoc b 8 (ahead datumLay ds d))
             (lift infoLay FineInfo (8 + ahead datumLay ds d) b (ExtendedUserData ds) (λ vs. onDatum d (up vs)) re
-              (λ vs q. (rw length-changed (f .0), el .every (up vs) q (f .1)))
-              (law (b + (8 + ahead datumLay ds d)) (el .part) (el .fine (f .1)) (stands-to (el .stands s (b + 8) hp) (omega arith))))
+            (λ vs q. (rw length-changed (f .0), el .every (up vs) q (f .1)))
+            (law (b + (8 + ahead datumLay ds d)) (el .part) (el .fine (f .1)) (stands-to (el .stands s (b + 8) hp) (omega arith))))
 
   -- ---- under a content
 
@@ -384,7 +384,7 @@ module _ (s : List ℕ) (short : length s ≤ 16777216) where
             λ vs q. unfold onContent in record { short = f .short; name = f .name; type = f .type; count = rw length-changed (f .count); infos = el .every (up vs) q (f .infos) } in
             rw (to, el .says say)
             (lift contentLay FineContent (infosFrom c + ahead infoLay (c .infos) i) b c (λ vs. onContent i (up vs)) re fi
-              (law (b + (infosFrom c + ahead infoLay (c .infos) i)) (el .part) (el .fine (f .infos)) (stands-to (el .stands s (b + infosFrom c) (t .infos)) (omega arith))))
+            (law (b + (infosFrom c + ahead infoLay (c .infos) i)) (el .part) (el .fine (f .infos)) (stands-to (el .stands s (b + infosFrom c) (t .infos)) (omega arith))))
 
 -- ---- in a section
 
@@ -472,8 +472,8 @@ module _ (s : List ℕ) (short : length s ≤ 16777216) (r : PaneAnimInfo) (f : 
             λ vs bs o q. section-replaces r c (up vs) el bs o q in
             rw (to, el .says say)
             (lift sectionLay Fine (from + ahead contentLay (r .contents) c) 0 r withContent re
-              (λ vs q. record { frames = f .frames; looping = f .looping; textureCount = f .textureCount; contentCount = rw length-changed (f .contentCount); textures = f .textures; contents = el .every (up vs) q (f .contents) })
-              (law (0 + (from + ahead contentLay (r .contents) c)) (el .part) (el .fine (f .contents)) (stands-to (el .stands s from (t .contents)) (omega arith))))
+            (λ vs q. record { frames = f .frames; looping = f .looping; textureCount = f .textureCount; contentCount = rw length-changed (f .contentCount); textures = f .textures; contents = el .every (up vs) q (f .contents) })
+            (law (0 + (from + ahead contentLay (r .contents) c)) (el .part) (el .fine (f .contents)) (stands-to (el .stands s from (t .contents)) (omega arith))))
 
 -- a field that is replaced is no key text, so what the total size leaves out stays
 quiet-target : (t i : ℕ) (g : AnimTarget → AnimTarget) (is : List AnimInfo) → infosOut (changed is i (onTarget t g)) ≡ infosOut is
@@ -529,7 +529,7 @@ module _ (s : List ℕ) (short : length s ≤ 16777216) (r : PaneAnimInfo) (f : 
   under-target c i t look say up law =
       content-inside s short r f c (λ b. infoIn s b i (λ a. targetIn s a t (look a))) (λ x. ofElement (x .infos) i missing (λ z. targetOf z t say)) (λ vs. onContent i (onTarget t (up vs)))
       (info-inside s short i (λ a. targetIn s a t (look a)) (λ z. targetOf z t say) (λ vs. onTarget t (up vs)) (λ vs. quiet-target t i (up vs))
-        (λ a x fx hx. target-inside s short t (look a) say up a x fx hx (λ letters b y e fy hy. law letters a b y e fy hy)))
+      (λ a x fx hx. target-inside s short t (look a) say up a x fx hx (λ letters b y e fy hy. law letters a b y e fy hy)))
       h
 
   under-datum : (c i d : ℕ) (look : ℕ → Spot) (say : ExtendedUserDataAnim → Found) (up : List ℕ → ExtendedUserDataAnim → ExtendedUserDataAnim) → ((vs : List ℕ) (y : ExtendedUserDataAnim) → length (up vs y .key) ≡ length (y .key))

@@ -8,8 +8,7 @@ use native.Mathlib.Omega.{arith}
 use lib.ListN.{length, set, length-set}
 use lib.Seq.{sets, sets-eq, drop-length, set-append-left}
 use Rattle.core.specs.Number.{le, get}
-use Rattle.core.proofs.Numbers.{length-le}
-use Rattle.bflan.specs.Layout.{Layout, nothing, number, bytes, _⨾_, size, written, row, parts, table}
+use Rattle.bflan.specs.Layout.{Layout, number, _⨾_, size, written, row, parts, table}
 use Rattle.bflan.specs.Limits.{All}
 use Rattle.bflan.specs.Places.{total, first, Found, missing, ofElement, changed}
 use Rattle.bflan.proofs.Layouts.{size-written, Stands, stands-left, stands-right, stands-to, stands-get}

@@ -5,10 +5,8 @@ use mathlib.Core.Path.{_≡_, refl, sym, subst, _∙_}
 use mathlib.Core.Bool.{Bool, true, false, _&&_}
 use mathlib.Core.List.{List, [], _∷_}
 use native.Mathlib.Omega.{arith}
-use borrow.Author.Tests.{leb-true}
 use lib.Dec.{T, leb, eqb, leb→le}
-use lib.ListN.{length, getD, take, drop, take-append-drop}
-use lib.Ieee.Bits.{is-true}
+use lib.ListN.{length, take, drop, take-append-drop}
 use Rattle.core.specs.Choice.{pick}
 use Rattle.core.specs.Utf8.{Range, Row, rows, within, rowFrom, laterAt, classOf, laterOf, matched, more, good, wellFormed}
 use Rattle.core.proofs.Numbers.{Bytes, bytes-append}
@@ -72,9 +70,10 @@ matched-small (r ∷ rs) (x ∷ xs) h = go (within r x) refl (matched-small rs x
 
 character-small : (x : ℕ) (xs : List ℕ) → good x xs ≡ true → (x < 256) × Bytes (take (more x xs) xs)
 unfolding good more classOf
-character-small x xs e =
-    (first-small 1 rows x rows-small (both-left (leb 1 (rowFrom 1 rows x)) (eqb (matched (laterOf (rowFrom 1 rows x)) xs) (length (laterOf (rowFrom 1 rows x)))) (subst T (sym e) tt)),
-      matched-small (laterOf (rowFrom 1 rows x)) xs (class-small (rowFrom 1 rows x)))
+character-small x xs e = (
+  first-small 1 rows x rows-small (both-left (leb 1 (rowFrom 1 rows x)) (eqb (matched (laterOf (rowFrom 1 rows x)) xs) (length (laterOf (rowFrom 1 rows x)))) (subst T (sym e) tt)),
+  matched-small (laterOf (rowFrom 1 rows x)) xs (class-small (rowFrom 1 rows x)),
+)
 
 bytes-cons : (x : ℕ) (xs : List ℕ) → x < 256 → Bytes xs → Bytes (x ∷ xs)
 bytes-cons x xs h k zero = h
@@ -84,8 +83,8 @@ pub well-bytes : (t : List ℕ) → wellFormed t ≡ true → Bytes t
 well-bytes =
     by-kind (λ t. wellFormed t ≡ true → Bytes t) (λ e i. omega arith)
     (λ x xs g h e.
-      let c = character-small x xs g in
-      bytes-cons x xs (c .0) (subst Bytes (take-append-drop (more x xs) xs) (bytes-append (take (more x xs) xs) (drop (more x xs) xs) (c .1) (h (sym (well-good x xs g) ∙ e)))))
+    let c = character-small x xs g in
+    bytes-cons x xs (c .0) (subst Bytes (take-append-drop (more x xs) xs) (bytes-append (take (more x xs) xs) (drop (more x xs) xs) (c .1) (h (sym (well-good x xs g) ∙ e)))))
     (λ x xs g h e. absurd (no x xs g e))
   where
     no : (x : ℕ) (xs : List ℕ) → good x xs ≡ false → wellFormed (x ∷ xs) ≡ true → ⊥
