@@ -166,7 +166,7 @@ module _ (s : List ℕ) (short : length s ≤ 16777216) where
 
   -- ---- contents
 
-  user-size : (type total : ℕ) → 32 + size (userLay type total) ≡ tableFrom type
+  pub user-size : (type total : ℕ) → 32 + size (userLay type total) ≡ tableFrom type
   unfolding userLay tableFrom size
   user-size type total = go (eqb type 2)
     where
