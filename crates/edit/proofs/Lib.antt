@@ -1,2 +1,3 @@
 pub mod Demand
 pub mod Entries
+pub mod Pai1
