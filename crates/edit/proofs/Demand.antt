@@ -51,6 +51,10 @@ pub record Laws (F : Format) (Good : F .Rec → Type 0) (Reads : List ℕ → F 
   pub finds : (r : F .Rec) → Good r → (p : F .Place) → Finding F Good r p
 
 module _ (F : Format) where
+  -- the state that a journal and a machine make
+  abbrev beside : List ℕ → Machine F → State F
+  beside j m = record { section = F .bytes (m .rec); journal = j; count = length (m .stack) }
+
   -- ---- what a call leaves
 
   same-own : (x : Part F) (s : List ℕ) → SameBut F x s s
@@ -76,6 +80,19 @@ module _ (F : Format) where
   unfolding called
   called-undo z a s e = ap (λ (r : Outcome × List ℕ). (r .0, record { section = r .1; journal = z .journal; count = handedOn F (z .count) (r .0) })) e
 
+-- ---- an undo by the journal
+
+module _ (s j : List ℕ) (short : length s ≤ limit) where
+  nothing-left : undoing s j 0 ≡ (nothingToUndo, s)
+  unfolding undoing
+  nothing-left = rw (le-leb (length s) limit short)
+
+  undone : (n : ℕ) (t : List ℕ) → n < capacity j → sound (length s) (entryAt j n) ≡ true → restored s (entryAt j n) ≡ t → undoing s j (suc n) ≡ (accepted (n ∷ []), t)
+  unfolding undoing
+  undone n t l g e =
+      let one : suc n - 1 ≡ n = omega arith in
+      rw (le-leb (length s) limit short, eqb·suc-zero n, one, le-leb (suc n) (capacity j) l, g, e)
+
 module _ (F : Format) (Good : F .Rec → Type 0) where
   -- ---- the journal beside the machine's stack
 
@@ -99,19 +116,15 @@ module _ (F : Format) (Good : F .Rec → Type 0) where
     room : length (m .stack) ≤ most
     chain : Chain j (m .rec) (m .stack) parts
 
-  -- the state that a journal and a machine make
-  abbrev beside : List ℕ → Machine F → State F
-  beside j m = record { section = F .bytes (m .rec); journal = j; count = length (m .stack) }
-
   -- a call's step: the same answer on both sides, and the link goes on
   record Step (most : ℕ) (c : Call F) (j : List ℕ) (m : Machine F) (parts : List (Part F)) : Type 0 where
     answer : Outcome
     journal : List ℕ
     machine : Machine F
-    calls : called F c (beside j m) ≡ (answer, beside journal machine)
+    calls : called F c (beside F j m) ≡ (answer, beside F journal machine)
     turns : turn F most c m ≡ (answer, machine)
-    kept : SameBut F (changes F c (beside j m) parts answer) (F .bytes (m .rec)) (F .bytes (machine .rec))
-    linked : Linked most journal machine (partsAfter F c (beside j m) parts answer)
+    kept : SameBut F (changes F c (beside F j m) parts answer) (F .bytes (m .rec)) (F .bytes (machine .rec))
+    linked : Linked most journal machine (partsAfter F c (beside F j m) parts answer)
 
   -- an entry at n leaves those below it
   chain-below : (j e : List ℕ) (n : ℕ) (r : F .Rec) (st : List (F .Rec)) (xs : List (Part F)) → length st ≤ n → Chain j r st xs
@@ -135,9 +148,9 @@ module _ (F : Format) (Good : F .Rec → Type 0) where
           answer = a;
           journal = j;
           machine = m;
-          calls = called-edit F (beside j m) p vs a (F .bytes (m .rec)) j e ∙ rw n;
+          calls = called-edit F (beside F j m) p vs a (F .bytes (m .rec)) j e ∙ rw n;
           turns = t;
-          kept = same-own F (changes F (edit p vs) (beside j m) parts a) (F .bytes (m .rec));
+          kept = same-own F (changes F (edit p vs) (beside F j m) parts a) (F .bytes (m .rec));
           linked = rw n k;
         }
 
@@ -202,7 +215,7 @@ module _ (F : Format) (Good : F .Rec → Type 0) where
                 answer = accepted ((h + 1) ∷ []);
                 journal = entered;
                 machine = record { rec = F .replaced (m .rec) p vs; stack = m .rec ∷ m .stack };
-                calls = called-edit F (beside j m) p vs (accepted ((h + 1) ∷ [])) (F .bytes (F .replaced (m .rec) p vs)) entered edited ∙ rw (add-one h);
+                calls = called-edit F (beside F j m) p vs (accepted ((h + 1) ∷ [])) (F .bytes (F .replaced (m .rec) p vs)) entered edited ∙ rw (add-one h);
                 turns = rw (e, y, n);
                 kept = kept-edit;
                 linked =
@@ -230,17 +243,6 @@ module _ (F : Format) (Good : F .Rec → Type 0) where
 
   -- ---- an undo
 
-  module _ (s j : List ℕ) (n : ℕ) (short : length s ≤ limit) where
-    nothing-left : undoing s j 0 ≡ (nothingToUndo, s)
-    unfolding undoing
-    nothing-left = rw (le-leb (length s) limit short)
-
-    undone : (t : List ℕ) → n < capacity j → sound (length s) (entryAt j n) ≡ true → restored s (entryAt j n) ≡ t → undoing s j (suc n) ≡ (accepted (n ∷ []), t)
-    unfolding undoing
-    undone t l g e =
-        let one : suc n - 1 ≡ n = omega arith in
-        rw (le-leb (length s) limit short, eqb·suc-zero n, one, le-leb (suc n) (capacity j) l, g, e)
-
   step-undo : (most : ℕ) (j : List ℕ) (r : F .Rec) (st : List (F .Rec)) (parts : List (Part F)) → length (F .bytes r) ≤ limit
       → Linked most j (record { rec = r; stack = st }) parts → Step most undo j (record { rec = r; stack = st }) parts
   unfolding turn pop handedOn changes ownPart partsAfter
@@ -249,7 +251,7 @@ module _ (F : Format) (Good : F .Rec → Type 0) where
         answer = nothingToUndo;
         journal = j;
         machine = record { rec = r; stack = [] };
-        calls = called-undo F (beside j (record { rec = r; stack = [] })) nothingToUndo (F .bytes r) (nothing-left (F .bytes r) j 0 l);
+        calls = called-undo F (beside F j (record { rec = r; stack = [] })) nothingToUndo (F .bytes r) (nothing-left (F .bytes r) j l);
         turns = refl;
         kept = same-own F (none F) (F .bytes r);
         linked = k;
@@ -263,8 +265,8 @@ module _ (F : Format) (Good : F .Rec → Type 0) where
         journal = j;
         machine = record { rec = q; stack = st };
         calls =
-            called-undo F (beside j (record { rec = r; stack = q ∷ st })) (accepted (length st ∷ [])) (F .bytes q)
-            (undone (F .bytes r) j (length st) l (F .bytes q) n (t .sound) (t .back));
+            called-undo F (beside F j (record { rec = r; stack = q ∷ st })) (accepted (length st ∷ [])) (F .bytes q)
+            (undone (F .bytes r) j l (length st) (F .bytes q) n (t .sound) (t .back));
         turns = refl;
         kept = t .kept;
         linked = record { good = t .good; holds = k .holds; room = omega (arith, k .room); chain = k .chain .1 };
@@ -278,7 +280,7 @@ module _ (F : Format) (Good : F .Rec → Type 0) (Reads : List ℕ → F .Rec �
   step most undo j m parts k = step-undo F Good most j (m .rec) (m .stack) parts (laws .short (m .rec) (k .good)) k
 
   once : (most : ℕ) (c : Call F) (j : List ℕ) (m : Machine F) (parts : List (Part F)) → Step F Good most c j m parts
-      → AgreesOnce F Reads most c (beside F Good j m) m parts
+      → AgreesOnce F Reads most c (beside F j m) m parts
   once most c j m parts t =
       record {
         answer = rw (t .calls, t .turns);
@@ -289,11 +291,11 @@ module _ (F : Format) (Good : F .Rec → Type 0) (Reads : List ℕ → F .Rec �
       }
 
   agrees : (most : ℕ) (cs : List (Call F)) (j : List ℕ) (m : Machine F) (parts : List (Part F)) → Linked F Good most j m parts
-      → Agrees F Reads most cs (beside F Good j m) m parts
+      → Agrees F Reads most cs (beside F j m) m parts
   agrees most [] j m parts k = tt
   agrees most (c ∷ cs) j m parts k =
       let t : Step F Good most c j m parts = step most c j m parts k in
-      (once most c j m parts t, rw (t .calls, t .turns) (agrees most cs (t .journal) (t .machine) (partsAfter F c (beside F Good j m) parts (t .answer)) (t .linked)))
+      (once most c j m parts t, rw (t .calls, t .turns) (agrees most cs (t .journal) (t .machine) (partsAfter F c (beside F j m) parts (t .answer)) (t .linked)))
 
 -- every list of edits and undos, from a record's bytes and any journal
 pub demand-3 : (F : Format) (Good : F .Rec → Type 0) (Reads : List ℕ → F .Rec → Type 0) → Laws F Good Reads → (r : F .Rec) → Good r → (j : List ℕ) (cs : List (Call F))
