@@ -1,3 +1,5 @@
+pub mod Answers
+pub mod BoundsStub
 pub mod Codes
 pub mod ContentParts
 pub mod DatumParts

@@ -9,6 +9,7 @@ mod keys;
 pub mod letters;
 mod offset;
 pub mod read;
+mod section;
 pub mod tally;
 mod target;
 mod texture;
