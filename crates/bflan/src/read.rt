@@ -29,12 +29,12 @@ pub(crate) fn measure(s: &[u8], want: usize) -> Walk
     requires { ⌜ length (now s) ≤ 16777216 ⌝ }
     ensures { λ r. ⌜ r ≡ run (now (s .entry)) (noneYet want) [] [] (section (now (s .entry)) 0) .0 ⌝ }
 {
-    let mut words = [0u32; 1];
-    let mut texts = [0u8; 1];
-    section_at(s, &mut words[0..0], &mut texts[0..0], fresh(want))
+    let mut words = [0u32; 0];
+    let mut texts = [0u8; 0];
+    section_at(s, &mut words, &mut texts, fresh(want))
 }
 
-// Measured over no tables, and then filled.
+// Measured over no tables, and then filled. No text is looked for: any number serves.
 pub fn read(section: &[u8], words: &mut [u32], texts: &mut [u8]) -> ReadAnswer
     ensures { λ r. ⌜ (ofReading r, now (words .exit), now (texts .exit)) ≡ reading (now (section .entry)) (now (words .entry)) (now (texts .entry)) ⌝ }
 {

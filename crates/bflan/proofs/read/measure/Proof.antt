@@ -5,23 +5,11 @@ use Rattle.bflan.proofs.read.measure.Statement.{statement}
 use Rattle.bflan.proofs.read.measure.Tie as tie
 use Rattle.bflan.proofs.Answers.{measured}
 
-sub-section-at : tie.Need-sub-section-at
-sub-section-at c = search needs
+slice-aggregate-section-at : tie.Need-slice-aggregate-section-at
+slice-aggregate-section-at c = search needs
 
-part-words-start : tie.Need-part-words-start
-part-words-start c = search needs
-
-part-words-end : tie.Need-part-words-end
-part-words-end c = search needs
-
-sub-section-at-2 : tie.Need-sub-section-at-2
-sub-section-at-2 c = search needs
-
-part-texts-start : tie.Need-part-texts-start
-part-texts-start c = search needs
-
-part-texts-end : tie.Need-part-texts-end
-part-texts-end c = search needs
+slice-aggregate-section-at-2 : tie.Need-slice-aggregate-section-at-2
+slice-aggregate-section-at-2 c = search needs
 
 fresh-requires : tie.Need-fresh-requires
 fresh-requires c κs = search needs
@@ -36,12 +24,8 @@ pub measure-spec : {M : Type 1} → statement M
 measure-spec =
     tie.close
     (tie.spec
-    sub-section-at
-    part-words-start
-    part-words-end
-    sub-section-at-2
-    part-texts-start
-    part-texts-end
+    slice-aggregate-section-at
+    slice-aggregate-section-at-2
     fresh-requires
     section-at-requires
     returns)
