@@ -10,96 +10,42 @@ use bflan::find::FindAnswer;
 use bflan::read::ReadAnswer;
 
 // An answer's number and its values, with zeros behind them.
-pub struct Numbers {
-    pub number: usize,
-    pub first: usize,
-    pub second: usize,
-    pub third: usize,
-}
+pub struct Numbers(pub usize, pub usize, pub usize, pub usize);
 
 fn of_fault(f: Fault) -> Numbers
-    ensures { λ r. ⌜ (r .number ∷ r .first ∷ r .second ∷ r .third ∷ []) ≡ flat 4 (ofFault f) ⌝ }
+    ensures { λ r. ⌜ (r .0 ∷ r .1 ∷ r .2 ∷ r .3 ∷ []) ≡ flat 4 (ofFault f) ⌝ }
 {
     match f {
-        Fault::PastEnd(offset, requested) => Numbers {
-            number: 3,
-            first: offset,
-            second: requested,
-            third: 0,
-        },
-        Fault::NoZero(start) => Numbers {
-            number: 4,
-            first: start,
-            second: 0,
-            third: 0,
-        },
-        Fault::NotPai1(letters) => Numbers {
-            number: 1,
-            first: letters as usize,
-            second: 0,
-            third: 0,
-        },
+        Fault::PastEnd(offset, requested) => Numbers(3, offset, requested, 0),
+        Fault::NoZero(start) => Numbers(4, start, 0, 0),
+        Fault::NotPai1(letters) => Numbers(1, letters as usize, 0, 0),
     }
 }
 
 pub(crate) fn of_reading(a: ReadAnswer) -> Numbers
-    ensures { λ r. ⌜ (r .number ∷ r .first ∷ r .second ∷ r .third ∷ []) ≡ flat 4 (ofReading a) ⌝ }
+    ensures { λ r. ⌜ (r .0 ∷ r .1 ∷ r .2 ∷ r .3 ∷ []) ≡ flat 4 (ofReading a) ⌝ }
 {
     match a {
-        ReadAnswer::Accepted(words, bytes) => Numbers {
-            number: 0,
-            first: words,
-            second: bytes,
-            third: 0,
-        },
+        ReadAnswer::Accepted(words, bytes) => Numbers(0, words, bytes, 0),
         ReadAnswer::Refused(f) => of_fault(f),
-        ReadAnswer::TooLong(size) => Numbers {
-            number: 2,
-            first: size,
-            second: 0,
-            third: 0,
-        },
-        ReadAnswer::TooShort(words, bytes) => Numbers {
-            number: 5,
-            first: words,
-            second: bytes,
-            third: 0,
-        },
+        ReadAnswer::TooLong(size) => Numbers(2, size, 0, 0),
+        ReadAnswer::TooShort(words, bytes) => Numbers(5, words, bytes, 0),
     }
 }
 
 pub(crate) fn of_finding(a: FindAnswer) -> Numbers
-    ensures { λ r. ⌜ (r .number ∷ r .first ∷ r .second ∷ r .third ∷ []) ≡ flat 4 (ofFinding a) ⌝ }
+    ensures { λ r. ⌜ (r .0 ∷ r .1 ∷ r .2 ∷ r .3 ∷ []) ≡ flat 4 (ofFinding a) ⌝ }
 {
     match a {
-        FindAnswer::Found(source, start, len) => Numbers {
-            number: 0,
-            first: source,
-            second: start,
-            third: len,
-        },
+        FindAnswer::Found(source, start, len) => Numbers(0, source, start, len),
         FindAnswer::Refused(f) => of_fault(f),
-        FindAnswer::TooLong(size) => Numbers {
-            number: 2,
-            first: size,
-            second: 0,
-            third: 0,
-        },
-        FindAnswer::NoSuchText => Numbers {
-            number: 10,
-            first: 0,
-            second: 0,
-            third: 0,
-        },
-        FindAnswer::ScratchTooShort(bytes) => Numbers {
-            number: 5,
-            first: 0,
-            second: bytes,
-            third: 0,
-        },
+        FindAnswer::TooLong(size) => Numbers(2, size, 0, 0),
+        FindAnswer::NoSuchText => Numbers(10, 0, 0, 0),
+        FindAnswer::ScratchTooShort(bytes) => Numbers(5, 0, bytes, 0),
     }
 }
 
+// `v` at `at`, if the list has that place.
 fn put(list: &mut [usize], at: usize, v: usize)
     ensures { λ _. ⌜ now (list .exit) ≡ set (now (list .entry)) at v ⌝ }
 {
@@ -108,19 +54,19 @@ fn put(list: &mut [usize], at: usize, v: usize)
     }
 }
 
-// The first three numbers, those for which the list has a place.
+// The first three numbers, as far as the list has places for them.
 pub(crate) fn put3(list: &mut [usize], n: Numbers)
-    ensures { λ _. ⌜ now (list .exit) ≡ sets (now (list .entry)) 0 (n .number ∷ n .first ∷ n .second ∷ []) ⌝ }
+    ensures { λ _. ⌜ now (list .exit) ≡ sets (now (list .entry)) 0 (n .0 ∷ n .1 ∷ n .2 ∷ []) ⌝ }
 {
-    put(list, 0, n.number);
-    put(list, 1, n.first);
-    put(list, 2, n.second);
+    put(list, 0, n.0);
+    put(list, 1, n.1);
+    put(list, 2, n.2);
 }
 
 // All four.
 pub(crate) fn put4(list: &mut [usize], n: Numbers)
-    ensures { λ _. ⌜ now (list .exit) ≡ sets (now (list .entry)) 0 (n .number ∷ n .first ∷ n .second ∷ n .third ∷ []) ⌝ }
+    ensures { λ _. ⌜ now (list .exit) ≡ sets (now (list .entry)) 0 (n .0 ∷ n .1 ∷ n .2 ∷ n .3 ∷ []) ⌝ }
 {
     put3(list, n);
-    put(list, 3, n.third);
+    put(list, 3, n.3);
 }
