@@ -23,8 +23,9 @@ use Rattle.bflan.specs.Reader.{Res, ok, stop, Item}
 use Rattle.bflan.specs.Reading.{section}
 use Rattle.bflan.specs.Walk.{wordsOf, textsOf, noneYet, tallied, run, told}
 use Rattle.bflan.specs.Answer.{ofReading, ofFinding, textsIn, shown, shownIn, filled, reading, found, finding, textPart, textPtr}
+use Rattle.core.proofs.Numbers.{Bytes}
 use Rattle.bflan.proofs.Walks.{on-no, on-tally, no-fault}
-use Rattle.bflan.proofs.BoundsStub.{whole-words, whole-bytes, whole-texts, whole-start, whole-len, whole-inside}
+use Rattle.bflan.proofs.Counts.{Fresh, whole-words, whole-bytes, whole-texts, whole-start, whole-len, whole-inside}
 
 -- ---- a walk's answer, without the tables
 
@@ -72,21 +73,28 @@ whole s k t p e = go (section s 0) refl e
     go (ok is q) er em = record { items = is; last = q; reads = er; counts = went s (noneYet k) t is q p em }
     go (stop f) er em = absurd (went-not s (noneYet k) t f p em)
 
-module _ (s : List ℕ) (h : length s ≤ 16777216) (k : ℕ) (t : Tally) (m : Whole s k t) where
+new : (k : ℕ) → Fresh k (noneYet k)
+new k = (refl, refl, refl, refl)
+
+module _ (s : List ℕ) (b : Bytes s) (h : length s ≤ 16777216) (k : ℕ) (t : Tally) (m : Whole s k t) where
   whole-w : t .words ≡ length (wordsOf s (m .items))
-  whole-w = ap (λ (z : Tally). z .words) (m .counts) ∙ whole-words s (m .items) (m .last) h (m .reads) k
+  whole-w = ap (λ (z : Tally). z .words) (m .counts) ∙ whole-words s b h (m .items) (m .last) (m .reads) (noneYet k) k (new k)
 
   whole-b : t .bytes ≡ length (textsOf s (m .items))
-  whole-b = ap (λ (z : Tally). z .bytes) (m .counts) ∙ whole-bytes s (m .items) (m .last) h (m .reads) k
+  whole-b = ap (λ (z : Tally). z .bytes) (m .counts) ∙ whole-bytes s b h (m .items) (m .last) (m .reads) (noneYet k) k (new k)
 
   whole-t : t .texts ≡ length (textsIn (m .items))
-  whole-t = ap (λ (z : Tally). z .texts) (m .counts) ∙ whole-texts s (m .items) (m .last) h (m .reads) k
+  whole-t = ap (λ (z : Tally). z .texts) (m .counts) ∙ whole-texts s b h (m .items) (m .last) (m .reads) (noneYet k) k (new k)
 
-  whole-s : k < length (textsIn (m .items)) → t .start ≡ getD (textsIn (m .items)) k (0, 0) .0
-  whole-s l = ap (λ (z : Tally). z .start) (m .counts) ∙ whole-start s (m .items) (m .last) h (m .reads) k l
+  module _ (l : k < length (textsIn (m .items))) where
+    whole-s : t .start ≡ getD (textsIn (m .items)) k (0, 0) .0
+    whole-s = ap (λ (z : Tally). z .start) (m .counts) ∙ whole-start s b h (m .items) (m .last) (m .reads) (noneYet k) k (new k) l
 
-  whole-l : k < length (textsIn (m .items)) → t .len ≡ getD (textsIn (m .items)) k (0, 0) .1
-  whole-l l = ap (λ (z : Tally). z .len) (m .counts) ∙ whole-len s (m .items) (m .last) h (m .reads) k l
+    whole-l : t .len ≡ getD (textsIn (m .items)) k (0, 0) .1
+    whole-l = ap (λ (z : Tally). z .len) (m .counts) ∙ whole-len s b h (m .items) (m .last) (m .reads) (noneYet k) k (new k) l
+
+    whole-i : t .start + t .len ≤ length s
+    whole-i = rw (m .counts) (whole-inside s b h (m .items) (m .last) (m .reads) (noneYet k) k (new k) l)
 
 -- ---- reading
 
@@ -117,7 +125,7 @@ module _ (s w x : List ℕ) (h : length s ≤ 16777216) where
   unfolding ofReading filled
   reading-stop t f e = rw (by-section, stopped s t (section s 0) f e)
 
-  module _ (k : ℕ) (t : Tally) (p : ℕ) (e : run s (noneYet k) [] [] (section s 0) .0 ≡ On t p) where
+  module _ (b : Bytes s) (k : ℕ) (t : Tally) (p : ℕ) (e : run s (noneYet k) [] [] (section s 0) .0 ≡ On t p) where
     m : Whole s k t
     m = whole s k t p e
 
@@ -129,13 +137,13 @@ module _ (s w x : List ℕ) (h : length s ≤ 16777216) where
     reading-on r u w′ x′ ha hb eu er =
         let e′ : told r w′ x′ ≡ run s (noneYet k) w x (ok (m .items) (m .last)) = er ∙ ap (λ (z : Tally). run s z w x (section s 0)) eu ∙ ap (run s (noneYet k) w x) (m .reads) in
         let z = tables r s (noneYet k) w x w′ x′ (m .items) (m .last) e′ in
-        rw (by-items, z .0, z .1) (filled-both s w x (m .items) (m .last) _ _ (whole-w s h k t m) (whole-b s h k t m) ha hb)
+        rw (by-items, z .0, z .1) (filled-both s w x (m .items) (m .last) _ _ (whole-w s b h k t m) (whole-b s b h k t m) ha hb)
 
     pub reading-words : length w < t .words → (ofReading (TooShort (t .words) (t .bytes)), w, x) ≡ reading s w x
-    reading-words ha = filled-words s w x (m .items) (m .last) _ _ (whole-w s h k t m) (whole-b s h k t m) ha ∙ sym by-items
+    reading-words ha = filled-words s w x (m .items) (m .last) _ _ (whole-w s b h k t m) (whole-b s b h k t m) ha ∙ sym by-items
 
     pub reading-texts : t .words ≤ length w → length x < t .bytes → (ofReading (TooShort (t .words) (t .bytes)), w, x) ≡ reading s w x
-    reading-texts ha hb = filled-texts s w x (m .items) (m .last) _ _ (whole-w s h k t m) (whole-b s h k t m) ha hb ∙ sym by-items
+    reading-texts ha hb = filled-texts s w x (m .items) (m .last) _ _ (whole-w s b h k t m) (whole-b s b h k t m) ha hb ∙ sym by-items
 
 -- ---- finding a text
 
@@ -163,7 +171,7 @@ module _ (s : List ℕ) (k : ℕ) (h : length s ≤ 16777216) where
   unfolding ofFinding found
   finding-stop x f e = rw (in-section x, stopped s (noneYet k) (section s 0) f e)
 
-  module _ (t : Tally) (p : ℕ) (e : run s (noneYet k) [] [] (section s 0) .0 ≡ On t p) where
+  module _ (b : Bytes s) (t : Tally) (p : ℕ) (e : run s (noneYet k) [] [] (section s 0) .0 ≡ On t p) where
     n : Whole s k t
     n = whole s k t p e
 
@@ -172,17 +180,17 @@ module _ (s : List ℕ) (k : ℕ) (h : length s ≤ 16777216) where
 
     pub finding-none : (x : List ℕ) → t .texts ≤ k → (ofFinding NoSuchText, x) ≡ finding s k x
     finding-none x l =
-        let g : length (textsIn (n .items)) ≤ k = omega (arith, whole-t s h k t n, l) in
+        let g : length (textsIn (n .items)) ≤ k = omega (arith, whole-t s b h k t n, l) in
         found-none s k x (n .items) (n .last) g ∙ sym (in-items x)
 
     met : k < t .texts → k < length (textsIn (n .items))
-    met l = omega (arith, whole-t s h k t n, l)
+    met l = omega (arith, whole-t s b h k t n, l)
 
     pub finding-inside : k < t .texts → t .start + t .len ≤ length s
-    finding-inside l = omega (arith, whole-s s h k t n (met l), whole-l s h k t n (met l), whole-inside s (n .items) (n .last) h (n .reads) k (met l))
+    finding-inside l = whole-i s b h k t n (met l)
 
     pub finding-there : (x : List ℕ) → k < t .texts → finding s k x ≡ shown (t .start) (slice (t .start) (t .start + t .len) s) x
-    finding-there x l = in-items x ∙ found-there s k x (n .items) (n .last) (met l) ∙ shown-place s x _ _ _ (whole-s s h k t n (met l)) (whole-l s h k t n (met l))
+    finding-there x l = in-items x ∙ found-there s k x (n .items) (n .last) (met l) ∙ shown-place s x _ _ _ (whole-s s b h k t n (met l)) (whole-l s b h k t n (met l))
 
 -- a text of these bytes that starts at a
 module _ (a : ℕ) (bytes x : List ℕ) where

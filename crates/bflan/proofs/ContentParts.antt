@@ -2,26 +2,30 @@
 -- Assumes nothing.
 use Prim.Native.Nat.{ℕ, min, _+_, _-_, _<_, _≤_}
 use mathlib.Core.Path.{_≡_, refl, ap, sym, _∙_}
-use mathlib.Core.List.{List, [], _∷_, _++_}
+use mathlib.Core.Bool.{Bool, true, false}
+use mathlib.Core.List.{List, [], _∷_}
 use native.Mathlib.Omega.{arith}
-use borrow.Author.Tests.{eq-eqb, ne-eqb, lt-ltb, le-ltb}
-use lib.Dec.{eqb, ltb}
-use lib.ListN.{length, take, drop, length-take, length-drop}
+use borrow.Author.Tests.{leb-true, leb-false, eqb-true, eqb-false, le-leb, lt-leb, eq-eqb, ne-eqb, lt-ltb, le-ltb}
+use lib.Dec.{leb, eqb}
+use lib.ListN.{length, set, take, drop, length-set, length-take, length-drop}
+use lib.Seq.{sets, length-sets}
 use Rattle.core.specs.Number.{get}
 use Rattle.core.specs.Seek.{seekOf}
 use Rattle.core.specs.Text.{beforeZero, fixedOf}
 use Rattle.core.specs.Run.{numbersAt, numbersOf}
 use Rattle.core.specs.declared.run.Run.the-variants.{Next, Cut}
 use Rattle.core.specs.declared.seek.Sought.the-variants.{At, Past as SoughtPast}
-use Rattle.core.specs.declared.text.TextAt.the-variants.{Text, Past as TextPast}
 use Rattle.core.proofs.Seeks.{seek-there, seek-over}
+use Rattle.core.proofs.Zeros.{before-le}
 use Rattle.bflan.specs.declared.fault.Fault.{Fault}
 use Rattle.bflan.specs.declared.fault.Fault.the-variants.{PastEnd}
-use Rattle.bflan.specs.Reader.{Res, ok, stop, P, andThen, _>>=_, ret, given, here, Item, word, text, num, seekTo, fixedText, numbers, visit}
+use Rattle.bflan.specs.declared.tally.Tally.{Tally}
+use Rattle.bflan.specs.Reader.{Res, ok, stop, andThen, _>>=_, ret, Item, word, text, seekTo, fixedText, numbers, visit}
 use Rattle.bflan.specs.Reading.{info, typeOf, infoTable, content}
-use Rattle.bflan.proofs.Emits.{sought-on, sought-past}
+use Rattle.bflan.specs.Walk.{shownAt, moved, named, run}
+use Rattle.bflan.proofs.Emits.{sought-on, sought-past, run-put2, run-named}
 use Rattle.bflan.proofs.KeyRuns.{num-there, num-short, numbers-run}
-use Rattle.bflan.proofs.Walks.{before, put-before}
+use Rattle.bflan.proofs.Walks.{before, before-before, put-before}
 
 -- ---- the name
 
@@ -39,6 +43,15 @@ name-there s base h = rw (lt-ltb base (length s) h) (ap (λ (n : ℕ). ok (text 
 pub name-none : (s : List ℕ) (base : ℕ) → length s ≤ base → fixedText 28 s base ≡ stop (PastEnd base 28)
 unfolding fixedText fixedOf
 name-none s base h = rw (le-ltb base (length s) h)
+
+pub name-within : (s : List ℕ) (base : ℕ) → base + 28 ≤ length s → base + nameSize s base ≤ length s
+name-within s base h =
+    let b = before-le (take 28 (drop base s)) in
+    let l = field-size s base (omega arith) in
+    omega (arith, b, l, h)
+
+pub name-part : (s : List ℕ) (base r : ℕ) → r ≡ beforeZero (take (base + 28 - base) (drop base s)) → r ≡ nameSize s base
+name-part s base r e = let m : base + 28 - base ≡ 28 = omega arith in rw m at e
 
 module _ (base : ℕ) (s : List ℕ) (i : ℕ) where
   seek-base : base ≤ length s → seekTo base s i ≡ ok base base
@@ -130,6 +143,12 @@ module _ (base : ℕ) (s : List ℕ) (i : ℕ) where
 
 -- ---- where the info table stands
 
+ok-place : (k q : ℕ) → _≡_ {A = Res ℕ} (ok k k) (ok q q) → k ≡ q
+ok-place k q e = cc
+
+ok-stop : (q : ℕ) (f : Fault) → _≡_ {A = Res ℕ} (ok q q) (stop f) → ⊥
+ok-stop q f e = let z : _≡_ {A = ℕ} 0 1 = cc in omega arith
+
 module _ (base type : ℕ) (s : List ℕ) (p : ℕ) where
   pub table-plain : (type ≡ 2 → ⊥) → infoTable base type s p ≡ ok p p
   unfolding infoTable
@@ -146,3 +165,79 @@ module _ (base type : ℕ) (s : List ℕ) (p : ℕ) where
   pub table-short : type ≡ 2 → length s < p + 4 → infoTable base type s p ≡ stop (PastEnd p 4)
   unfolding infoTable
   table-short e h = rw (eq-eqb type 2 e, num-short 4 s p h)
+
+  -- a table that was found stands in the section
+  pub table-within : (q : ℕ) → p ≤ length s → infoTable base type s p ≡ ok q q → q ≤ length s
+  table-within q h e = kind (eqb type 2) refl
+    where
+      same : (k : ℕ) → infoTable base type s p ≡ ok k k → k ≡ q
+      same k d = ok-place k q (sym d ∙ e)
+
+      none : (f : Fault) → infoTable base type s p ≡ stop f → q ≤ length s
+      none f d = absurd (ok-stop q f (sym e ∙ d))
+
+      there : type ≡ 2 → p + 4 ≤ length s → (b : Bool) → leb (base + get 4 s p) (length s) ≡ b → q ≤ length s
+      there k l true d =
+          let to = base + get 4 s p in
+          let m = leb-true to (length s) d in
+          let z = same to (table-user k l to (seek-there s to m)) in
+          omega (arith, m, z)
+      there k l false d =
+          let to = base + get 4 s p in
+          none _ (table-past k l _ _ (seek-over s to (leb-false to (length s) d)))
+
+      user : type ≡ 2 → (b : Bool) → leb (p + 4) (length s) ≡ b → q ≤ length s
+      user k true d = there k (leb-true (p + 4) (length s) d) (leb (base + get 4 s p) (length s)) refl
+      user k false d = none _ (table-short k (leb-false (p + 4) (length s) d))
+
+      kind : (b : Bool) → eqb type 2 ≡ b → q ≤ length s
+      kind true d = user (eqb-true type 2 d) (leb (p + 4) (length s)) refl
+      kind false d =
+          let z = same p (table-plain (eqb-false type 2 d)) in
+          omega (arith, h, z)
+
+-- ---- a content as the code has it: by the count, the type and the place of the table
+
+module _ (base : ℕ) (s : List ℕ) (i : ℕ) (h : base + 32 ≤ length s) {n type : ℕ} (en : n ≡ get 1 s (base + 28)) (et : type ≡ get 1 s (base + 29)) where
+  pub content-no : (f : Fault) → infoTable base type s (base + 32) ≡ stop f → content base s i ≡ stop f
+  content-no f e =
+      let d : infoTable base (get 1 s (base + 29)) s (base + 32) ≡ stop f = rw et at e in
+      content-there base s i h ∙ rest-stop base s i (get 1 s (base + 28)) (get 1 s (base + 29)) f d
+
+  content-on : (q : ℕ) → infoTable base type s (base + 32) ≡ ok q q → content base s i ≡ contentTable base s i n type q
+  content-on q e =
+      let d : infoTable base (get 1 s (base + 29)) s (base + 32) ≡ ok q q = rw et at e in
+      rw (en, et) (content-there base s i h ∙ rest-at base s i (get 1 s (base + 28)) (get 1 s (base + 29)) q d)
+
+  pub content-cut : (q o k : ℕ) → infoTable base type s (base + 32) ≡ ok q q → numbersOf n s q ≡ Cut o k → content base s i ≡ stop (PastEnd o k)
+  content-cut q o k e d = content-on q e ∙ table-cut base s i n type q o k d
+
+  pub content-rest : (q p : ℕ) → infoTable base type s (base + 32) ≡ ok q q → numbersOf n s q ≡ Next p
+      → content base s i ≡ andThen (visit base info (numbersAt n s q) s p) (λ is. ret (text base (nameSize s base) ∷ word (typeOf type) ∷ word n ∷ is)) s
+  content-rest q p e d =
+      content-on q e ∙ table-on base s i n type q p d ∙ sym (put-before (text base (nameSize s base) ∷ word (typeOf type) ∷ word n ∷ []) (visit base info (numbersAt n s q) s p) s)
+
+-- the name and the two words of a content, stored, and what follows them
+pub run-content : (s : List ℕ) (t : Tally) (w x : List ℕ) (base kind n : ℕ) (r : Res (List Item)) {len type : ℕ} {u v : Tally} {w₁ w₂ x₁ : List ℕ} → length w ≤ 18446744073709551615 → length x ≤ 18446744073709551615
+    → len ≡ nameSize s base → type ≡ typeOf kind → u ≡ named t base len (length (shownAt s base len)) → w₁ ≡ set w (t .words) (length (shownAt s base len)) → x₁ ≡ sets x (t .bytes) (shownAt s base len)
+    → v ≡ moved u 2 → w₂ ≡ sets w₁ (u .words) (type ∷ n ∷ [])
+    → run s v w₂ x₁ r ≡ run s t w x (andThen r (λ is. ret (text base (nameSize s base) ∷ word (typeOf kind) ∷ word n ∷ is)) s)
+run-content s t w x base kind n r {len} {type} {u} {v} {w₁} {w₂} {x₁} hw hx el et eu e₁ ex ev e₂ =
+    let h : length w₁ ≤ 18446744073709551615 = rw (e₁, length-set w (t .words) (length (shownAt s base len))) hw in
+    let k : length x₁ ≤ 18446744073709551615 = rw (ex, length-sets x (t .bytes) (shownAt s base len)) hx in
+    let two = run-put2 s u w₁ x₁ type n r v w₂ h k ev e₂ in
+    let one = run-named s t w x base len (before (word type ∷ word n ∷ []) r) u w₁ x₁ hw hx eu e₁ ex in
+    let all = before-before (text base len ∷ []) (word type ∷ word n ∷ []) r in
+    let last : run s t w x (before (text base len ∷ word type ∷ word n ∷ []) r) ≡ run s t w x (andThen r (λ is. ret (text base (nameSize s base) ∷ word (typeOf kind) ∷ word n ∷ is)) s) =
+    rw (el, et) (ap (run s t w x) (sym (put-before (text base (nameSize s base) ∷ word (typeOf kind) ∷ word n ∷ []) r s))) in
+    two ∙ one ∙ ap (run s t w x) all ∙ last
+
+-- ---- the type's word
+
+pub type-low : (type : ℕ) → type ≤ 4 → type ≡ typeOf type
+unfolding typeOf
+type-low type h = rw (le-leb type 4 h)
+
+pub type-high : (type : ℕ) → 4 < type → 0 ≡ typeOf type
+unfolding typeOf
+type-high type h = rw (lt-leb type 4 h)

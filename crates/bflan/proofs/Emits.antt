@@ -1,18 +1,18 @@
 -- What the stores of a walk are in terms of `run`.
 -- Assumes nothing.
-use Prim.Native.Nat.{ℕ, min, _+_, _-_, _*_, _≤_}
-use mathlib.Core.Path.{_≡_, refl, ap, sym, _∙_}
-use mathlib.Core.List.{List, [], _∷_, _++_, append-nil}
+use Prim.Native.Nat.{ℕ, min, _+_, _-_, _≤_}
+use mathlib.Core.Path.{_≡_, ap, sym, _∙_}
+use mathlib.Core.List.{List, [], _∷_, append-nil}
 use native.Mathlib.Numerals.{add-one}
 use native.Mathlib.Omega.{arith}
 use lib.ListN.{length, set, take, drop}
-use lib.Seq.{sets, slice, length-slice, set-out}
+use lib.Seq.{sets, slice, length-slice, length-sets}
 use Rattle.core.specs.Utf8.{decode, decodedSize}
-use Rattle.core.proofs.Stores.{sets-out}
+use Rattle.core.proofs.Stores.{sets-append}
 use Rattle.core.proofs.utf8.Laws.{decode-bound}
 use Rattle.core.proofs.utf8.Turns.{part-is}
 use Rattle.bflan.specs.declared.tally.Tally.{Tally}
-use Rattle.bflan.specs.declared.tally.Walk.the-variants.{On, No}
+use Rattle.bflan.specs.declared.tally.Walk.the-variants.{On}
 use Rattle.core.specs.Number.{readOf}
 use Rattle.core.specs.Seek.{seekOf}
 use Rattle.core.specs.Text.{endedOf}
@@ -23,8 +23,8 @@ use Rattle.bflan.specs.declared.fault.Fault.the-variants.{PastEnd, NoZer
 use Rattle.bflan.specs.Reader.{Res, ok, stop, Item, word, text, num, seekTo, endedText, oneEnded}
 use Rattle.bflan.specs.Reading.{texture}
 use Rattle.bflan.proofs.KeyRuns.{moved-more}
-use Rattle.bflan.proofs.Walks.{before, run-before}
-use Rattle.bflan.specs.Walk.{shownAt, wordsOf, textsOf, moved, named, tallied, run, told}
+use Rattle.bflan.proofs.Walks.{before, run-before, sets-sat}
+use Rattle.bflan.specs.Walk.{shownAt, wordsOf, textsOf, sat, moved, named, tallied, run, told}
 
 -- the decoded length of a part of a section
 pub shown-size : (s : List ℕ) (start len size : ℕ) (part : List ℕ) → start + len ≤ length s → length s ≤ 16777216 → part ≡ slice start (start + len) s → size ≡ decodedSize part
@@ -42,6 +42,17 @@ shown-part s start len = part-is start (start + len) s (omega arith)
 -- two stores, one after the other
 pub two-stores : (w : List ℕ) (at a b : ℕ) (u v : List ℕ) → u ≡ set w at a → v ≡ set u (at + 1) b → v ≡ sets w at (a ∷ b ∷ [])
 two-stores w at a b u v eu ev = rw (ev, eu, add-one)
+
+-- two stores of two words each
+pub four-stores : (w : List ℕ) (t u : Tally) (a b c d : ℕ) {w₁ w₂ : List ℕ} → length w ≤ 18446744073709551615 → u ≡ moved t 2 → w₁ ≡ sets w (t .words) (a ∷ b ∷ []) → w₂ ≡ sets w₁ (u .words) (c ∷ d ∷ [])
+    → w₂ ≡ sets w (t .words) (a ∷ b ∷ c ∷ d ∷ [])
+unfolding moved
+four-stores w t u a b c d h eu e₁ e₂ =
+    let o = t .words in
+    let v = sets w o (a ∷ b ∷ []) in
+    let k : length v ≤ 18446744073709551615 = rw (length-sets w o (a ∷ b ∷ [])) h in
+    let q : sets v (o + 2) (c ∷ d ∷ []) ≡ sets v (sat (o + 2)) (c ∷ d ∷ []) = sets-sat v (o + 2) (sat (o + 2)) (c ∷ d ∷ []) k (omega arith) in
+    rw (e₂, e₁, eu) (sym q ∙ sym (sets-append w o (a ∷ b ∷ []) (c ∷ d ∷ [])))
 
 -- a single text, as `run` has it
 pub run-text : (s : List ℕ) (t : Tally) (w x : List ℕ) (a n q : ℕ) (t′ : Tally) (w′ x′ : List ℕ) → t′ ≡ named t a n (length (shownAt s a n)) → w′ ≡ set w (t .words) (length (shownAt s a n))

@@ -1,7 +1,8 @@
 pub mod Answers
-pub mod BoundsStub
+pub mod Bounds
 pub mod Codes
 pub mod ContentParts
+pub mod Counts
 pub mod DatumParts
 pub mod Emits
 pub mod Exercises

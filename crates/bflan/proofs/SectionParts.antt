@@ -5,8 +5,8 @@ use mathlib.Core.Path.{_≡_, refl, ap, sym, _∙_}
 use mathlib.Core.List.{List, [], _∷_, _++_, append-nil}
 use native.Mathlib.Omega.{arith}
 use borrow.Author.Tests.{eq-eqb, ne-eqb}
-use lib.Dec.{eqb}
 use lib.ListN.{length}
+use lib.Seq.{sets}
 use Rattle.core.specs.Number.{get}
 use Rattle.core.specs.Run.{numbersAt, numbersOf}
 use Rattle.core.specs.Seek.{seekOf}
@@ -14,11 +14,17 @@ use Rattle.core.specs.declared.run.Run.the-variants.{Next, Cut}
 use Rattle.core.specs.declared.seek.Sought.the-variants.{At, Past as SoughtPast}
 use Rattle.bflan.specs.declared.fault.Fault.{Fault}
 use Rattle.bflan.specs.declared.fault.Fault.the-variants.{PastEnd, NotPai1}
-use Rattle.bflan.specs.Reader.{Res, ok, stop, P, andThen, Item, word, num, seekTo, numbers, visit}
+use Rattle.bflan.specs.declared.tally.Tally.{Tally}
+use Rattle.bflan.specs.declared.tally.Walk.{Walk}
+use Rattle.bflan.specs.declared.tally.Walk.the-variants.{On, No}
+use Rattle.bflan.specs.Reader.{Res, ok, stop, andThen, Item, word, seekTo, numbers, visit}
 use Rattle.bflan.specs.Reading.{content, texture, contents, pai1, flagOf, body, section}
-use Rattle.bflan.proofs.Emits.{sought-on, sought-past}
+use Rattle.bflan.specs.SectionParts.{ending, parts}
+use Rattle.bflan.specs.Walk.{moved, run, told}
+use Rattle.bflan.proofs.Emits.{sought-on, sought-past, four-stores}
 use Rattle.bflan.proofs.KeyRuns.{num-there, num-short, numbers-run}
-use Rattle.bflan.proofs.Walks.{before, joined, put-before}
+use Rattle.bflan.proofs.TargetParts.{run-words}
+use Rattle.bflan.proofs.Walks.{before, joined, put-before, turn-on, turn-no, told-stop, told-ok}
 
 -- ---- the last seek, as a reading of nothing
 
@@ -148,3 +154,97 @@ module _ (s : List ℕ) (table n i : ℕ) where
   contents-on q p e t =
       let r : numbers n s q ≡ ok (numbersAt n s q) p = numbers-run n s q ∙ rw t in
       rw (sought-on s table i q e, r)
+
+-- ---- the contents with the last seek, and the textures in front of them
+
+module _ (s : List ℕ) (size table n : ℕ) where
+  pub ending-is : (i : ℕ) → ending size table n s i ≡ joined (contents table n s i) (λ k. endAt (seekTo size s k))
+  unfolding ending
+  ending-is i = go (contents table n s i)
+    where
+      go : (c : Res (List Item)) → andThen c (λ (cs : List Item) (s₁ : List ℕ) (k : ℕ). andThen (seekTo size s₁ k) (λ (e : ℕ) (s₂ : List ℕ) (l : ℕ). ok cs l) s₁) s ≡ joined c (λ k. endAt (seekTo size s k))
+      go (stop f) = refl
+      go (ok cs k) = last (seekTo size s k)
+        where
+          last : (q : Res ℕ) → andThen q (λ (e : ℕ) (s₂ : List ℕ) (l : ℕ). ok cs l) s ≡ before cs (endAt q)
+          last (stop f) = refl
+          last (ok e l) = ap (λ (xs : List Item). ok xs l) (sym (append-nil cs))
+
+  pub parts-is : (os : List ℕ) (i : ℕ) → parts size os table n s i ≡ joined (visit 20 texture os s i) (λ j. ending size table n s j)
+  unfolding parts
+  parts-is os i = go (visit 20 texture os s i)
+    where
+      go : (r : Res (List Item)) → andThen r (λ (ts : List Item) (s₁ : List ℕ) (j : ℕ). andThen (ending size table n s₁ j) (λ (cs : List Item) (s₂ : List ℕ) (k : ℕ). ok (ts ++ cs) k) s₁) s ≡ joined r (λ j. ending size table n s j)
+      go (stop f) = refl
+      go (ok ts j) = put-before ts (ending size table n s j) s
+
+  chained : (r : Res (List Item)) → joined r (λ j. joined (contents table n s j) (λ k. endAt (seekTo size s k))) ≡ joined r (λ j. ending size table n s j)
+  chained (stop f) = refl
+  chained (ok ts j) = ap (before ts) (sym (ending-is j))
+
+-- what is behind the section's first eight bytes, as the code has it
+pub body-parts : (s : List ℕ) → 20 ≤ length s → {size nt table nc q : ℕ} → size ≡ get 4 s 4 → nt ≡ get 2 s 12 → table ≡ get 4 s 16 → nc ≡ get 2 s 14 → numbersOf nt s 20 ≡ Next q
+    → body (get 4 s 4) s 8 ≡ before (headWords s size) (parts size (numbersAt nt s 20) table nc s q)
+body-parts s h {size} {nt} {table} {nc} {q} es et ea ec e =
+    let d : numbersOf (get 2 s 12) s 20 ≡ Next q = rw et at e in
+    let ts = visit 20 texture (numbersAt (get 2 s 12) s 20) s q in
+    rw (es, et, ea, ec)
+    (body-there s (get 4 s 4) h q d
+    ∙ ap (before (headWords s (get 4 s 4))) (chained s (get 4 s 4) (get 4 s 16) (get 2 s 14) ts ∙ sym (parts-is s (get 4 s 4) (get 4 s 16) (get 2 s 14) (numbersAt (get 2 s 12) s 20) q)))
+
+-- the letters as the code has them
+module _ (s : List ℕ) (h : 8 ≤ length s) {letters : ℕ} (el : letters ≡ get 4 s 0) where
+  pub section-other : (letters ≡ pai1 → ⊥) → section s 0 ≡ stop (NotPai1 letters)
+  section-other e = section-letters s h (λ z. e (el ∙ z)) ∙ ap (λ (k : ℕ). stop (NotPai1 k)) (sym el)
+
+  pub section-pai1 : letters ≡ pai1 → section s 0 ≡ body (get 4 s 4) s 8
+  section-pai1 e = section-body s h (sym el ∙ e)
+
+-- ---- walks
+
+-- the four words of the head, stored
+pub head-stores : (s w : List ℕ) (t u : Tally) {a b c d k : ℕ} {w₁ w₂ : List ℕ} → length w ≤ 18446744073709551615 → u ≡ moved t 2 → w₁ ≡ sets w (t .words) (a ∷ b ∷ []) → w₂ ≡ sets w₁ (u .words) (c ∷ d ∷ [])
+    → a ≡ get 2 s 8 → b ≡ flagOf k → k ≡ get 1 s 10 → c ≡ get 2 s 12 → d ≡ get 2 s 14
+    → w₂ ≡ sets w (t .words) (get 2 s 8 ∷ flagOf (get 1 s 10) ∷ get 2 s 12 ∷ get 2 s 14 ∷ [])
+head-stores s w t u {a} {b} {c} {d} {k} h eu e₁ e₂ ea eb ek ec ed =
+    let f = four-stores w t u a b c d h eu e₁ e₂ in
+    let b′ : b ≡ flagOf (get 1 s 10) = eb ∙ ap flagOf ek in
+    let g : sets w (t .words) (a ∷ b ∷ c ∷ d ∷ []) ≡ sets w (t .words) (get 2 s 8 ∷ flagOf (get 1 s 10) ∷ get 2 s 12 ∷ get 2 s 14 ∷ []) = rw (ea, b′, ec, ed) in
+    f ∙ g
+
+-- and what follows them
+pub run-section : (s : List ℕ) (t u : Tally) (w v x : List ℕ) (size : ℕ) (r : Res (List Item)) → length w ≤ 18446744073709551615 → t .words ≤ 18446744073709551615 → u ≡ moved t 4
+    → v ≡ sets w (t .words) (get 2 s 8 ∷ flagOf (get 1 s 10) ∷ get 2 s 12 ∷ get 2 s 14 ∷ []) → run s u v x r ≡ run s t w x (before (headWords s size) r)
+run-section s t u w v x size r hw ht eu ev = rw (eu, ev) (sym (run-words s t w x (get 2 s 8 ∷ flagOf (get 1 s 10) ∷ get 2 s 12 ∷ get 2 s 14 ∷ []) r hw ht))
+
+module _ (s : List ℕ) (t : Tally) (w x : List ℕ) (size table n i : ℕ) (hw : length w ≤ 18446744073709551615) (hx : length x ≤ 18446744073709551615) (r : Walk) (w′ x′ : List ℕ) where
+  module _ (e : told r w′ x′ ≡ run s t w x (contents table n s i)) where
+    pub ending-no : (f : Fault) (u v : List ℕ) → r ≡ No f → told (No f) u v ≡ run s t w x (ending size table n s i)
+    ending-no f u v d = rw (ending-is s size table n i) (turn-no s t w x (contents table n s i) hw hx r f w′ x′ u v (λ k. endAt (seekTo size s k)) e d)
+
+    sought : (u : Tally) (q : ℕ) → r ≡ On u q → run s u w′ x′ (endAt (seekTo size s q)) ≡ run s t w x (ending size table n s i)
+    sought u q d = rw (ending-is s size table n i) (turn-on s t w x (contents table n s i) hw hx r u q w′ x′ (λ k. endAt (seekTo size s k)) e d)
+
+    pub ending-past : (u : Tally) (q o k : ℕ) (v y : List ℕ) → r ≡ On u q → seekOf s size ≡ SoughtPast o k → told (No (PastEnd o k)) v y ≡ run s t w x (ending size table n s i)
+    ending-past u q o k v y d z =
+        told-stop s u w′ x′ v y (PastEnd o k) ∙ ap (λ (a : Res ℕ). run s u w′ x′ (endAt a)) (sym (sought-past s size q o k z)) ∙ sought u q d
+
+    pub ending-on : (u : Tally) (q p : ℕ) → r ≡ On u q → seekOf s size ≡ At p → told (On u p) w′ x′ ≡ run s t w x (ending size table n s i)
+    ending-on u q p d z = told-ok s u w′ x′ p ∙ ap (λ (a : Res ℕ). run s u w′ x′ (endAt a)) (sym (sought-on s size q p z)) ∙ sought u q d
+
+  module _ (os : List ℕ) (e : told r w′ x′ ≡ run s t w x (visit 20 texture os s i)) where
+    pub parts-no : (f : Fault) (u v : List ℕ) → r ≡ No f → told (No f) u v ≡ run s t w x (parts size os table n s i)
+    parts-no f u v d = rw (parts-is s size table n os i) (turn-no s t w x (visit 20 texture os s i) hw hx r f w′ x′ u v (λ j. ending size table n s j) e d)
+
+    pub parts-on : (u : Tally) (q : ℕ) → r ≡ On u q → run s u w′ x′ (ending size table n s q) ≡ run s t w x (parts size os table n s i)
+    parts-on u q d = rw (parts-is s size table n os i) (turn-on s t w x (visit 20 texture os s i) hw hx r u q w′ x′ (λ j. ending size table n s j) e d)
+
+-- ---- the flag's word
+
+pub flag-zero : (b : ℕ) → b ≡ 0 → 0 ≡ flagOf b
+unfolding flagOf
+flag-zero b e = rw (eq-eqb b 0 e)
+
+pub flag-other : (b : ℕ) → (b ≡ 0 → ⊥) → 1 ≡ flagOf b
+unfolding flagOf
+flag-other b e = rw (ne-eqb b 0 e)

@@ -7,13 +7,12 @@ use mathlib.Core.List.{List, [], _∷_, _++_, map, map-append}
 use native.Mathlib.Omega.{arith}
 use borrow.Author.Tests.{leb-true, leb-false, le-leb, lt-leb}
 use lib.Dec.{leb}
-use lib.ListN.{length, getD}
+use lib.ListN.{length}
 use lib.Seq.{sets, length-sets}
 use Rattle.core.specs.Number.{get}
-use Rattle.core.specs.Run.{numbersAt, pairsAt, pairsOf}
+use Rattle.core.specs.Run.{pairsAt, pairsOf}
 use Rattle.core.specs.Seek.{seekOf}
 use Rattle.core.specs.declared.seek.Sought.the-variants.{At, Past as SoughtPast}
-use Rattle.core.proofs.Numbers.{get-zero, get-suc}
 use Rattle.core.proofs.Seeks.{seek-there, seek-over}
 use Rattle.core.proofs.Stores.{sets-append}
 use Rattle.bflan.specs.declared.fault.Fault.{Fault}
@@ -27,7 +26,7 @@ use Rattle.bflan.specs.Reading.{curveOf, countOf, keys, target}
 use Rattle.bflan.specs.Walk.{asItems, wordsOf, sat, moved, run, told}
 use Rattle.bflan.proofs.Emits.{sought-on, sought-past}
 use Rattle.bflan.proofs.KeyRuns.{asNumbers, num-there, num-short, keys-constant, keys-step, keys-hermite, keys-above, texts-words, words-more, texts-more, tallied-more, moved-fits}
-use Rattle.bflan.proofs.Walks.{before, joined, before-before, put-before, visit-cons, visit-nil, visits-turn, visits-end, sets-sat, turn-on, turn-no, told-ok}
+use Rattle.bflan.proofs.Walks.{before, joined, before-before, put-before, visit-cons, visit-nil, sets-sat}
 
 -- ---- where the reading stops of a target whose twelve bytes are not all there
 
@@ -133,9 +132,6 @@ module _ (letters base : ℕ) (s : List ℕ) (i : ℕ) where
   target-fields p h k el er ec en = rw (el, er, ec, en) (sym (target-on p h k))
 
 -- ---- its fields
-
-pub byte-is : (s : List ℕ) (at : ℕ) → getD s at 0 ≡ get 1 s at
-byte-is s at = omega (arith, get-suc 0 s at, get-zero s (at + 1))
 
 module _ (curve n : ℕ) where
   pub curve-low : curve ≤ 2 → curveOf curve ≡ curve
@@ -281,28 +277,6 @@ pub any-text : (s : List ℕ) (t : Tally) (w w′ : List ℕ) (r : Walk) (z : Re
 any-text s t w w′ r z k e x =
     let d : told r w′ [] ≡ run s t w [] (asItems (k .values)) = rw (k .same) at e in
     rw (k .same) (told-over r w′ x ∙ ap (over x) d ∙ sym (run-over s t w x (k .values)))
-
--- ---- a turn of the loop over an offset table, `left` of whose offsets are still to come, from `at` on
-
-module _ (letters base : ℕ) (s : List ℕ) (t : Tally) (w : List ℕ) (at left i : ℕ) (h : length w ≤ 18446744073709551615) (l : 0 < left) where
-  pub targets-on : (r : Walk) (off : ℕ) (t′ : Tally) (q : ℕ) (w′ : List ℕ) → off ≡ get 4 s at → told r w′ [] ≡ run s t w [] (target letters (base + off) s i) → r ≡ On t′ q
-      → run s t′ w′ [] (visit base (target letters) (numbersAt (left - 1) s (at + 4)) s q) ≡ run s t w [] (visit base (target letters) (numbersAt left s at) s i)
-  targets-on r off t′ q w′ eo e er =
-      let d : told r w′ [] ≡ run s t w [] (target letters (base + get 4 s at) s i) = rw eo at e in
-      rw (visits-turn base (target letters) s at left i l)
-      (turn-on s t w [] (target letters (base + get 4 s at) s i) h (omega arith) r t′ q w′ [] (λ j. visit base (target letters) (numbersAt (left - 1) s (at + 4)) s j) d er)
-
-  pub targets-no : (r : Walk) (off : ℕ) (f : Fault) (w′ u : List ℕ) → off ≡ get 4 s at → told r w′ [] ≡ run s t w [] (target letters (base + off) s i) → r ≡ No f
-      → told (No f) u [] ≡ run s t w [] (visit base (target letters) (numbersAt left s at) s i)
-  targets-no r off f w′ u eo e er =
-      let d : told r w′ [] ≡ run s t w [] (target letters (base + get 4 s at) s i) = rw eo at e in
-      rw (visits-turn base (target letters) s at left i l)
-      (turn-no s t w [] (target letters (base + get 4 s at) s i) h (omega arith) r f w′ [] u [] (λ j. visit base (target letters) (numbersAt (left - 1) s (at + 4)) s j) d er)
-
--- its end
-pub targets-end : (letters base : ℕ) (s : List ℕ) (t : Tally) (w : List ℕ) (at left i : ℕ) → left ≤ 0
-    → told (On t i) w [] ≡ run s t w [] (visit base (target letters) (numbersAt left s at) s i)
-targets-end letters base s t w at left i h = rw (visits-end base (target letters) s at left i h) (told-ok s t w [] i)
 
 -- the walk as a whole, with any text bytes
 pub targets-any : (letters base : ℕ) (s : List ℕ) (t : Tally) (w w′ : List ℕ) (r : Walk) (os : List ℕ) (i : ℕ) → told r w′ [] ≡ run s t w [] (visit base (target letters) os s i)

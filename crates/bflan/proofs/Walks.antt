@@ -1,25 +1,23 @@
 -- Walks one after another: what `run` makes of readings that are joined.
 -- Assumes nothing.
-use Prim.Native.Nat.{ℕ, zero, suc, min, _+_, _-_, _<_, _≤_}
+use Prim.Native.Nat.{ℕ, zero, suc, _+_, _-_, _<_, _≤_}
 use mathlib.Core.Path.{_≡_, refl, ap, sym, _∙_}
 use mathlib.Core.Bool.{Bool, true, false}
 use mathlib.Core.List.{List, [], _∷_, _++_, append-assoc}
 use native.Mathlib.Nat.{add-zero}
 use native.Mathlib.Omega.{arith}
 use borrow.Author.Tests.{leb-true, leb-false}
-use lib.Dec.{leb, eqb}
+use lib.Dec.{leb}
 use lib.ListN.{length, length-append}
 use lib.Seq.{sets, length-sets}
-use Rattle.core.specs.Choice.{pick}
 use Rattle.core.specs.Number.{get}
 use Rattle.core.specs.Run.{numbersAt}
-use Rattle.core.specs.Utf8.{decode}
 use Rattle.core.proofs.Stores.{sets-append, sets-at-end}
 use Rattle.bflan.specs.declared.fault.Fault.{Fault}
 use Rattle.bflan.specs.declared.tally.Tally.{Tally}
 use Rattle.bflan.specs.declared.tally.Walk.{Walk}
 use Rattle.bflan.specs.declared.tally.Walk.the-variants.{On, No}
-use Rattle.bflan.specs.Reader.{Res, ok, stop, P, andThen, Item, word, text, many, visit, seekTo}
+use Rattle.bflan.specs.Reader.{Res, ok, stop, P, andThen, Item, word, text, many, visit}
 use Rattle.bflan.specs.Walk.{shownAt, wordsOf, textsOf, sat, moved, named, tallied, run, told}
 
 -- ---- readings one after another
@@ -207,3 +205,23 @@ told-stop s t w x w′ x′ f = refl
 pub told-ok : (s : List ℕ) (t : Tally) (w x : List ℕ) (p : ℕ) → told (On t p) w x ≡ run s t w x (ok [] p)
 unfolding told run tallied wordsOf textsOf
 told-ok s t w x p = refl
+
+-- ---- a loop over an offset table, `left` of whose offsets are still to come, from `at` on: what is left is the whole before a turn, so it
+-- is after it; and at the end
+
+module _ (base : ℕ) (p : ℕ → P (List Item)) (s : List ℕ) (t : Tally) (w x : List ℕ) (at left i : ℕ) (whole : Walk × List ℕ × List ℕ) (e : run s t w x (visit base p (numbersAt left s at) s i) ≡ whole) where
+  turned : 0 < left → (to : ℕ) → to ≡ base + get 4 s at → run s t w x (joined (p to s i) (λ j. visit base p (numbersAt (left - 1) s (at + 4)) s j)) ≡ whole
+  turned l to eo = rw eo (ap (run s t w x) (sym (visits-turn base p s at left i l)) ∙ e)
+
+  pub visited-on : 0 < left → length w ≤ 18446744073709551615 → length x ≤ 18446744073709551615 → (r : Walk) (to : ℕ) (u : Tally) (q : ℕ) (w′ x′ : List ℕ)
+      → to ≡ base + get 4 s at → told r w′ x′ ≡ run s t w x (p to s i) → r ≡ On u q → run s u w′ x′ (visit base p (numbersAt (left - 1) s (at + 4)) s q) ≡ whole
+  visited-on l hw hx r to u q w′ x′ eo er ed =
+      turn-on s t w x (p to s i) hw hx r u q w′ x′ (λ j. visit base p (numbersAt (left - 1) s (at + 4)) s j) er ed ∙ turned l to eo
+
+  pub visited-no : 0 < left → length w ≤ 18446744073709551615 → length x ≤ 18446744073709551615 → (r : Walk) (to : ℕ) (f : Fault) (w′ x′ u v : List ℕ)
+      → to ≡ base + get 4 s at → told r w′ x′ ≡ run s t w x (p to s i) → r ≡ No f → told (No f) u v ≡ whole
+  visited-no l hw hx r to f w′ x′ u v eo er ed =
+      turn-no s t w x (p to s i) hw hx r f w′ x′ u v (λ j. visit base p (numbersAt (left - 1) s (at + 4)) s j) er ed ∙ turned l to eo
+
+  pub visited-end : left ≤ 0 → told (On t i) w x ≡ whole
+  visited-end l = told-ok s t w x i ∙ ap (run s t w x) (sym (visits-end base p s at left i l)) ∙ e

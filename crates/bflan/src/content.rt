@@ -1,15 +1,27 @@
 // Contents: a name, counts, and infos at offsets.
 ghost use mathlib.Core.Path.{_≡_};
-ghost use mathlib.Core.List.{List, [], _∷_};
-ghost use Prim.Native.Nat.{ℕ, _+_, _<_, _≤_};
-ghost use lib.ListN.{length};
-ghost use Rattle.bflan.specs.Reader.{stop};
-ghost use Rattle.bflan.specs.Reading.{infoTable, content};
-ghost use Rattle.bflan.specs.Walk.{asPlace};
+ghost use mathlib.Core.List.{_∷_};
+ghost use Prim.Native.Nat.{ℕ, _+_, _*_, _<_, _≤_};
+ghost use lib.ListN.{length, take, drop};
+ghost use Rattle.core.specs.Number.{get};
+ghost use Rattle.core.specs.Run.{numbersAt};
+ghost use Rattle.core.specs.Text.{beforeZero};
+ghost use Rattle.bflan.specs.Reader.{ok, stop, andThen, ret, word, text, visit};
+ghost use Rattle.bflan.specs.Reading.{info, typeOf, infoTable, content, contents};
+ghost use Rattle.bflan.specs.Walk.{run, told, asPlace};
+use crate::emit::put_text;
+use crate::emit::put2;
 use crate::fault::Fault;
+use crate::info::infos;
+use crate::offset::byte_at;
 use crate::offset::offset_at;
+use crate::tally::Tally;
+use crate::tally::Walk;
+use core::run::Run;
+use core::run::numbers_end;
 use core::seek::Sought;
 use core::seek::seek;
+use core::text::first_zero;
 
 // A place that was looked for.
 pub enum Place {
@@ -53,5 +65,142 @@ fn table_of(s: &[u8], base: usize, kind: u32, p: usize) -> Place
     match seek(s, to) {
         Sought::At(q) => Place::There(q),
         Sought::Past(offset, requested) => Place::Stop(Fault::PastEnd(offset, requested)),
+    }
+}
+
+// The word of a content's type.
+fn type_of(kind: u32) -> u32
+    ensures { λ r. ⌜ r ≡ typeOf kind ⌝ }
+{
+    if kind <= 4 {
+        return kind;
+    }
+    0
+}
+
+// The length of the name at `base`, as it stands in the section.
+fn name_size(s: &[u8], base: usize) -> usize
+    requires { ⌜ base + 28 ≤ length (now s) ⌝ }
+    ensures { λ r. ⌜ r ≡ beforeZero (take 28 (drop base (now (s .entry)))) ⌝ }
+{
+    let end = base + 28;
+    first_zero(&s[base..end])
+}
+
+// The name and two words of a content, and its infos, whose offsets stand at `table`; `p` is the place behind them.
+fn name_and_infos(
+    s: &[u8],
+    base: usize,
+    kind: u32,
+    n: u32,
+    table: usize,
+    p: usize,
+    words: &mut [u32],
+    texts: &mut [u8],
+    t: Tally,
+) -> Walk
+    requires { ⌜ (length (now s) ≤ 16777216) × (base + 28 ≤ length (now s)) × (table + 4 * n ≤ length (now s)) ⌝ }
+    ensures { λ r. ⌜ told r (now (words .exit)) (now (texts .exit)) ≡ run (now (s .entry)) t (now (words .entry)) (now (texts .entry)) (andThen (visit base info (numbersAt n (now (s .entry)) table) (now (s .entry)) p) (λ is. ret (text base (beforeZero (take 28 (drop base (now (s .entry))))) ∷ word (typeOf kind) ∷ word n ∷ is)) (now (s .entry))) ⌝ }
+{
+    let len = name_size(s, base);
+    let u = put_text(s, base, len, words, texts, t);
+    let v = put2(words, u, type_of(kind), n);
+    infos(s, base, table, n as usize, p, words, texts, v)
+}
+
+// A content whose info table stands at `table`.
+fn with_table(
+    s: &[u8],
+    base: usize,
+    kind: u32,
+    n: u32,
+    table: usize,
+    words: &mut [u32],
+    texts: &mut [u8],
+    t: Tally,
+) -> Walk
+    requires { ⌜ (length (now s) ≤ 16777216) × (base + 32 ≤ length (now s)) × (n ≡ get 1 (now s) (base + 28)) × (kind ≡ get 1 (now s) (base + 29)) × (infoTable base kind (now s) (base + 32) ≡ ok table table) ⌝ }
+    ensures { λ r. ⌜ ((i : ℕ) → told r (now (words .exit)) (now (texts .exit)) ≡ run (now (s .entry)) t (now (words .entry)) (now (texts .entry)) (content base (now (s .entry)) i)) ⌝ }
+{
+    match numbers_end(s, table, n as usize) {
+        Run::Cut(offset, requested) => Walk::No(Fault::PastEnd(offset, requested)),
+        Run::Next(p) => name_and_infos(s, base, kind, n, table, p, words, texts, t),
+    }
+}
+
+// The content that starts at `base`.
+pub(crate) fn content_at(
+    s: &[u8],
+    base: usize,
+    words: &mut [u32],
+    texts: &mut [u8],
+    t: Tally,
+) -> Walk
+    requires { ⌜ (length (now s) ≤ 16777216) × (base ≤ 4294967295) ⌝ }
+    ensures { λ r. ⌜ ((i : ℕ) → told r (now (words .exit)) (now (texts .exit)) ≡ run (now (s .entry)) t (now (words .entry)) (now (texts .entry)) (content base (now (s .entry)) i)) ⌝ }
+{
+    if s.len() < base + 32 {
+        return Walk::No(short(s, base));
+    }
+    let n = byte_at(s, base + 28);
+    let kind = byte_at(s, base + 29);
+    match table_of(s, base, kind, base + 32) {
+        Place::Stop(f) => Walk::No(f),
+        Place::There(q) => with_table(s, base, kind, n, q, words, texts, t),
+    }
+}
+
+// The contents at the `n` offsets of the table at `table`, which count from the section's start.
+pub(crate) fn contents(
+    s: &[u8],
+    table: usize,
+    n: usize,
+    pos: usize,
+    words: &mut [u32],
+    texts: &mut [u8],
+    t: Tally,
+) -> Walk
+    requires { ⌜ (length (now s) ≤ 16777216) × (table + 4 * n ≤ length (now s)) ⌝ }
+    ensures { λ r. ⌜ told r (now (words .exit)) (now (texts .exit)) ≡ run (now (s .entry)) t (now (words .entry)) (now (texts .entry)) (visit 0 content (numbersAt n (now (s .entry)) table) (now (s .entry)) pos) ⌝ }
+{
+    let mut left = n;
+    let mut at = table;
+    let mut p = pos;
+    let mut u = t;
+    while 0 < left {
+        let off = offset_at(s, at);
+        match content_at(s, off, words, texts, u) {
+            Walk::No(f) => {
+                return Walk::No(f);
+            }
+            Walk::On(v, q) => {
+                u = v;
+                p = q;
+            }
+        }
+        at += 4;
+        left -= 1;
+    }
+    Walk::On(u, p)
+}
+
+// The `n` contents of a section by the place of their table.
+pub(crate) fn contents_of(
+    s: &[u8],
+    table: usize,
+    n: usize,
+    words: &mut [u32],
+    texts: &mut [u8],
+    t: Tally,
+) -> Walk
+    requires { ⌜ length (now s) ≤ 16777216 ⌝ }
+    ensures { λ r. ⌜ ((i : ℕ) → told r (now (words .exit)) (now (texts .exit)) ≡ run (now (s .entry)) t (now (words .entry)) (now (texts .entry)) (contents table n (now (s .entry)) i)) ⌝ }
+{
+    match seek(s, table) {
+        Sought::Past(offset, excess) => Walk::No(Fault::PastEnd(offset, excess)),
+        Sought::At(q) => match numbers_end(s, q, n) {
+            Run::Cut(offset, requested) => Walk::No(Fault::PastEnd(offset, requested)),
+            Run::Next(p) => contents(s, q, n, p, words, texts, t),
+        },
     }
 }

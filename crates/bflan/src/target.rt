@@ -16,11 +16,11 @@ use crate::emit::put2;
 use crate::fault::Fault;
 use crate::keys::keys;
 use crate::letters::resolve;
+use crate::offset::byte_at;
+use crate::offset::half_at;
 use crate::offset::offset_at;
 use crate::tally::Tally;
 use crate::tally::Walk;
-use core::number::Read;
-use core::number::read_u16;
 use core::seek::Sought;
 use core::seek::seek;
 
@@ -45,24 +45,6 @@ fn short(s: &[u8], base: usize) -> Fault
     Fault::PastEnd(base + 8, 4)
 }
 
-// A byte, and a number of two bytes, that are known to be there.
-fn byte_at(s: &[u8], at: usize) -> u8
-    requires { ⌜ at + 1 ≤ length (now s) ⌝ }
-    ensures { λ r. ⌜ r ≡ get 1 (now (s .entry)) at ⌝ }
-{
-    s[at]
-}
-
-fn count_at(s: &[u8], at: usize) -> usize
-    requires { ⌜ at + 2 ≤ length (now s) ⌝ }
-    ensures { λ r. ⌜ (r ≡ get 2 (now (s .entry)) at) × (r < 65536) ⌝ }
-{
-    match read_u16(s, at) {
-        Read::Value(v, _) => v as usize,
-        Read::Past(_, _) => 0,
-    }
-}
-
 // The words of a curve and of its key count: above curve 2 both are 0.
 fn put_curve(words: &mut [u32], t: Tally, curve: u32, n: usize) -> Tally
     requires { ⌜ n < 65536 ⌝ }
@@ -79,9 +61,9 @@ fn put_target(
     s: &[u8],
     p: usize,
     letters: u32,
-    layer: u8,
+    layer: u32,
     raw: u8,
-    curve: u8,
+    curve: u32,
     n: usize,
     words: &mut [u32],
     t: Tally,
@@ -90,9 +72,9 @@ fn put_target(
     ensures { λ r. ⌜ ((x : List ℕ) → told r (now (words .exit)) x ≡ run (now (s .entry)) t (now (words .entry)) x (andThen (keys curve n (now (s .entry)) p) (λ ks. ret (word layer ∷ word (targetOf letters raw) ∷ word (curveOf curve) ∷ word (countOf curve n) ∷ ks)) (now (s .entry)))) ⌝ }
 {
     let number = resolve(letters, raw);
-    let u = put2(words, t, layer as u32, number as u32);
-    let v = put_curve(words, u, curve as u32, n);
-    keys(s, p, curve as u32, n, words, v)
+    let u = put2(words, t, layer, number as u32);
+    let v = put_curve(words, u, curve, n);
+    keys(s, p, curve, n, words, v)
 }
 
 // The same for the target that starts at `base`, whose twelve bytes are there.
@@ -101,9 +83,9 @@ fn target_from(s: &[u8], letters: u32, base: usize, p: usize, words: &mut [u32],
     ensures { λ r. ⌜ ((i : ℕ) (x : List ℕ) → seekOf (now (s .entry)) (base + get 4 (now (s .entry)) (base + 8)) ≡ At p → told r (now (words .exit)) x ≡ run (now (s .entry)) t (now (words .entry)) x (target letters base (now (s .entry)) i)) ⌝ }
 {
     let layer = byte_at(s, base);
-    let raw = byte_at(s, base + 1);
+    let raw = byte_at(s, base + 1) as u8;
     let curve = byte_at(s, base + 2);
-    let n = count_at(s, base + 4);
+    let n = half_at(s, base + 4) as usize;
     put_target(s, p, letters, layer, raw, curve, n, words, t)
 }
 

@@ -11,8 +11,6 @@ use crate::fault::Fault;
 use crate::offset::offset_at;
 use crate::tally::Tally;
 use crate::tally::Walk;
-use core::number::Read;
-use core::number::read_u32;
 use core::seek::Sought;
 use core::seek::seek;
 use core::text::TextAt;

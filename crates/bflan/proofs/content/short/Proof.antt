@@ -6,8 +6,6 @@ use Rattle.bflan.proofs.ContentParts.{content-short0, content-none, con
 use borrow.Author.Needs.{needs}
 use Rattle.bflan.proofs.content.short.Statement.{statement}
 use Rattle.bflan.proofs.content.short.Tie as tie
-use Rattle.bflan.proofs.content.short.Reads as reads
-use Rattle.bflan.proofs.content.short.Lts as lts
 
 sub-t5 : tie.Need-sub-t5
 sub-t5 c = search needs

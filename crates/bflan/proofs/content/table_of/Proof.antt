@@ -1,7 +1,7 @@
 -- `content::table_of` meets its contract.
 -- Assumes nothing.
 use Prim.Native.Nat.{ℕ, _+_, _≤_, _<_}
-use mathlib.Core.Path.{_≡_, sym, ap, _∙_}
+use mathlib.Core.Path.{sym, ap, _∙_}
 use native.Mathlib.Omega.{arith}
 use denote.Ref.{now}
 use lib.ListN.{length}
@@ -10,10 +10,6 @@ use Rattle.bflan.proofs.ContentParts.{table-plain, table-user, table-pa
 use borrow.Author.Needs.{needs}
 use Rattle.bflan.proofs.content.table_of.Statement.{statement}
 use Rattle.bflan.proofs.content.table_of.Tie as tie
-use Rattle.bflan.proofs.content.table_of.Reads as reads
-use Rattle.bflan.proofs.content.table_of.Lts as lts
-use Rattle.bflan.proofs.offset.offset_at.Reads as offset-at-reads
-use Rattle.core.proofs.seek.seek.Reads as seek-reads
 
 returns : tie.Need-returns
 returns c = sym (table-plain (c .before .before .args .base) (c .before .before .args .kind) (now (c .before .before .args .s)) (c .before .before .args .p) (c .if1 .taken))

@@ -20,10 +20,10 @@ enum-known-t : tie.Need-enum-known-t
 enum-known-t c = search needs
 
 returns-2 : tie.Need-returns-2
-returns-2 c = finding-none _ _ (omega (arith, c .before .before .before .before .before .if1 .left)) _ _ (sym (c .before .before .before .before .measure .ensures) ∙ c .before .before .t .given .1) _ (c .if2 .taken)
+returns-2 c = finding-none _ _ (omega (arith, c .before .before .before .before .before .if1 .left)) (λ i. c .before .before .before .before .before .before .before .shared-slice-known .given i .fits) _ _ (sym (c .before .before .before .before .measure .ensures) ∙ c .before .before .t .given .1) _ (c .if2 .taken)
 
 show-requires : tie.Need-show-requires
-show-requires c κs = (finding-inside _ _ (omega (arith, c .before .before .before .before .before .before .if1 .left)) _ _ (sym (c .before .before .before .before .before .measure .ensures) ∙ c .before .before .before .t .given .1) (omega (arith, c .before .if2 .left)), omega (arith, c .before .before .before .before .before .before .if1 .left))
+show-requires c κs = (finding-inside _ _ (omega (arith, c .before .before .before .before .before .before .if1 .left)) (λ i. c .before .before .before .before .before .before .before .before .shared-slice-known .given i .fits) _ _ (sym (c .before .before .before .before .before .measure .ensures) ∙ c .before .before .before .t .given .1) (omega (arith, c .before .if2 .left)), omega (arith, c .before .before .before .before .before .before .if1 .left))
 
 returns-3 : tie.Need-returns-3
 returns-3 c = finding-stop _ _ (omega (arith, c .before .before .before .before .if1 .left)) _ _ (sym (c .before .before .before .measure .ensures) ∙ c .before .f .given .1)
@@ -32,7 +32,7 @@ same-length : tie.Need-same-length
 same-length c = search needs
 
 returns-4 : tie.Need-returns-4
-returns-4 c = c .before .before .show .ensures ∙ sym (finding-there _ _ (omega (arith, c .before .before .before .before .before .before .before .before .before .if1 .left)) _ _ (sym (c .before .before .before .before .before .before .before .before .measure .ensures) ∙ c .before .before .before .before .before .before .t .given .1) _ (omega (arith, c .before .before .before .before .if2 .left)))
+returns-4 c = c .before .before .show .ensures ∙ sym (finding-there _ _ (omega (arith, c .before .before .before .before .before .before .before .before .before .if1 .left)) (λ i. c .before .before .before .before .before .before .before .before .before .before .before .shared-slice-known .given i .fits) _ _ (sym (c .before .before .before .before .before .before .before .before .measure .ensures) ∙ c .before .before .before .before .before .before .t .given .1) _ (omega (arith, c .before .before .before .before .if2 .left)))
 
 pub find-text-spec : {M : Type 1} → statement M
 find-text-spec =

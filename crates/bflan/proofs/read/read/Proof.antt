@@ -20,10 +20,10 @@ enum-known-t : tie.Need-enum-known-t
 enum-known-t c = search needs
 
 returns-2 : tie.Need-returns-2
-returns-2 c = reading-words _ _ _ (omega (arith, c .before .before .before .before .before .if1 .left)) _ _ _ (sym (c .before .before .before .before .measure .ensures) ∙ c .before .before .t .given .1) (c .if2 .taken)
+returns-2 c = reading-words _ _ _ (omega (arith, c .before .before .before .before .before .if1 .left)) (λ i. c .before .before .before .before .before .before .before .before .shared-slice-known .given i .fits) _ _ _ (sym (c .before .before .before .before .measure .ensures) ∙ c .before .before .t .given .1) (c .if2 .taken)
 
 returns-3 : tie.Need-returns-3
-returns-3 c = reading-texts _ _ _ (omega (arith, c .before .before .before .before .before .before .if1 .left)) _ _ _ (sym (c .before .before .before .before .before .measure .ensures) ∙ c .before .before .before .t .given .1) (omega (arith, c .before .if2 .left)) (c .if3 .taken)
+returns-3 c = reading-texts _ _ _ (omega (arith, c .before .before .before .before .before .before .if1 .left)) (λ i. c .before .before .before .before .before .before .before .before .before .shared-slice-known .given i .fits) _ _ _ (sym (c .before .before .before .before .before .measure .ensures) ∙ c .before .before .before .t .given .1) (omega (arith, c .before .if2 .left)) (c .if3 .taken)
 
 fresh-requires : tie.Need-fresh-requires
 fresh-requires c κs = search needs
@@ -41,7 +41,7 @@ same-length-2 : tie.Need-same-length-2
 same-length-2 c = search needs
 
 returns-5 : tie.Need-returns-5
-returns-5 c = reading-on _ _ _ (omega (arith, c .before .before .before .before .before .before .before .before .before .before .before .before .before .before .if1 .left)) _ _ _ (sym (c .before .before .before .before .before .before .before .before .before .before .before .before .before .measure .ensures) ∙ c .before .before .before .before .before .before .before .before .before .before .before .t .given .1) _ _ _ _ (omega (arith, c .before .before .before .before .before .before .before .before .before .if2 .left)) (omega (arith, c .before .before .before .before .before .before .before .before .if3 .left)) (c .before .before .before .before .before .fresh .ensures) (c .before .before .before .before .section-at .ensures)
+returns-5 c = reading-on _ _ _ (omega (arith, c .before .before .before .before .before .before .before .before .before .before .before .before .before .before .if1 .left)) (λ i. c .before .before .before .before .before .before .before .before .before .before .before .before .before .before .before .before .before .shared-slice-known .given i .fits) _ _ _ (sym (c .before .before .before .before .before .before .before .before .before .before .before .before .before .measure .ensures) ∙ c .before .before .before .before .before .before .before .before .before .before .before .t .given .1) _ _ _ _ (omega (arith, c .before .before .before .before .before .before .before .before .before .if2 .left)) (omega (arith, c .before .before .before .before .before .before .before .before .if3 .left)) (c .before .before .before .before .before .fresh .ensures) (c .before .before .before .before .section-at .ensures)
 
 pub read-spec : {M : Type 1} → statement M
 read-spec =

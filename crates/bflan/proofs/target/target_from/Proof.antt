@@ -1,12 +1,12 @@
 -- `target::target_from` meets its contract: the fields that it reads are the definition's.
 -- Assumes nothing.
+use borrow.Author.Needs.{needs}
+use Rattle.bflan.proofs.target.target_from.Statement.{statement}
+use Rattle.bflan.proofs.target.target_from.Tie as tie
 use mathlib.Core.Path.{ap, _∙_}
 use denote.Ref.{now}
 use Rattle.bflan.specs.Walk.{run}
 use Rattle.bflan.proofs.TargetParts.{target-fields}
-use borrow.Author.Needs.{needs}
-use Rattle.bflan.proofs.target.target_from.Statement.{statement}
-use Rattle.bflan.proofs.target.target_from.Tie as tie
 
 byte-at-requires : tie.Need-byte-at-requires
 byte-at-requires c κs = search needs
@@ -17,17 +17,23 @@ add-byte-at c = search needs
 byte-at-requires-2 : tie.Need-byte-at-requires-2
 byte-at-requires-2 c κs = search needs
 
+cast-raw : tie.Need-cast-raw
+cast-raw c = search needs
+
 add-byte-at-2 : tie.Need-add-byte-at-2
 add-byte-at-2 c = search needs
 
 byte-at-requires-3 : tie.Need-byte-at-requires-3
 byte-at-requires-3 c κs = search needs
 
-add-count-at : tie.Need-add-count-at
-add-count-at c = search needs
+add-half-at : tie.Need-add-half-at
+add-half-at c = search needs
 
-count-at-requires : tie.Need-count-at-requires
-count-at-requires c κs = search needs
+half-at-requires : tie.Need-half-at-requires
+half-at-requires c κs = search needs
+
+cast-n : tie.Need-cast-n
+cast-n c = search needs
 
 put-target-requires : tie.Need-put-target-requires
 put-target-requires c κs = search needs
@@ -36,7 +42,7 @@ same-length : tie.Need-same-length
 same-length c = search needs
 
 returns : tie.Need-returns
-returns c = λ i x k. c .before .before .put-target .ensures x ∙ ap (run (now (c .before .before .before .before .before .before .before .before .before .before .args .s)) (c .before .before .before .before .before .before .before .before .before .before .args .t) (now (c .before .before .before .before .before .before .before .before .before .before .args .words)) x) (target-fields (c .before .before .before .before .before .before .before .before .before .before .args .letters) (c .before .before .before .before .before .before .before .before .before .before .args .base) (now (c .before .before .before .before .before .before .before .before .before .before .args .s)) i (c .before .before .before .before .before .before .before .before .before .before .args .p) (c .before .before .before .before .before .before .before .before .before .before .pre) k (c .before .before .before .before .before .before .before .byte-at .ensures) (c .before .before .before .before .before .before .byte-at2 .ensures) (c .before .before .before .before .before .byte-at3 .ensures) (c .before .before .before .before .count-at .ensures .0))
+returns c = λ i x k. c .before .before .put-target .ensures x ∙ ap (run (now (c .before .before .before .before .before .before .before .before .before .before .args .s)) (c .before .before .before .before .before .before .before .before .before .before .args .t) (now (c .before .before .before .before .before .before .before .before .before .before .args .words)) x) (target-fields (c .before .before .before .before .before .before .before .before .before .before .args .letters) (c .before .before .before .before .before .before .before .before .before .before .args .base) (now (c .before .before .before .before .before .before .before .before .before .before .args .s)) i (c .before .before .before .before .before .before .before .before .before .before .args .p) (c .before .before .before .before .before .before .before .before .before .before .pre) k (c .before .before .before .before .before .before .before .byte-at .ensures .0) (c .before .before .before .before .before .before .byte-at2 .ensures .0) (c .before .before .before .before .before .byte-at3 .ensures .0) (c .before .before .before .before .half-at .ensures .0))
 
 pub target-from-spec : {M : Type 1} → statement M
 target-from-spec =
@@ -45,10 +51,12 @@ target-from-spec =
     byte-at-requires
     add-byte-at
     byte-at-requires-2
+    cast-raw
     add-byte-at-2
     byte-at-requires-3
-    add-count-at
-    count-at-requires
+    add-half-at
+    half-at-requires
+    cast-n
     put-target-requires
     same-length
     returns)

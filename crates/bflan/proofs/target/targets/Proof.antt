@@ -1,8 +1,8 @@
 -- `target::targets` meets its contract. The loop's invariant: what is left, from here, is what all of it is, from the start; with no
 -- text bytes, since targets have none.
 -- Assumes nothing.
-use Prim.Native.Nat.{_+_, _-_, _*_, _≤_}
-use mathlib.Core.Path.{_≡_, refl, _∙_}
+use Prim.Native.Nat.{ℕ, _+_, _-_, _*_, _≤_}
+use mathlib.Core.Path.{_≡_, refl, ap, _∙_}
 use mathlib.Core.List.{[]}
 use native.Mathlib.Omega.{arith}
 use denote.Ref.{now}
@@ -11,7 +11,8 @@ use Rattle.core.specs.Run.{numbersAt}
 use Rattle.bflan.specs.Reader.{visit}
 use Rattle.bflan.specs.Reading.{target}
 use Rattle.bflan.specs.Walk.{run}
-use Rattle.bflan.proofs.TargetParts.{targets-on, targets-no, targets-end, targets-any}
+use Rattle.bflan.proofs.TargetParts.{targets-any}
+use Rattle.bflan.proofs.Walks.{visited-on, visited-no, visited-end}
 use borrow.Author.Needs.{needs}
 use Rattle.bflan.proofs.target.targets.Statement.{statement}
 use Rattle.bflan.proofs.target.targets.Tie as tie
@@ -44,9 +45,9 @@ same-length c = c .before .before .before .before .before .target-at .kept .1 .1
 
 returns : tie.Need-returns Inv-loop μ-loop
 returns c =
-    let h : length (c .before .before .before .before .before .before .before .before .before .loop .words) ≤ 18446744073709551615 = omega (arith, c .before .before .before .before .before .before .before .before .before .loop .inv .1, c .before .before .before .before .before .before .before .before .before .before .before .before .good) in
+    let hw : length (c .before .before .before .before .before .before .before .before .before .loop .words) ≤ 18446744073709551615 = omega (arith, c .before .before .before .before .before .before .before .before .before .loop .inv .1, c .before .before .before .before .before .before .before .before .before .before .before .before .good) in
     targets-any (c .before .before .before .before .before .before .before .before .before .before .before .before .args .letters) (c .before .before .before .before .before .before .before .before .before .before .before .before .args .base) (now (c .before .before .before .before .before .before .before .before .before .before .before .before .args .s)) (c .before .before .before .before .before .before .before .before .before .before .before .before .args .t) (now (c .before .before .before .before .before .before .before .before .before .before .before .before .args .words)) _ _ (numbersAt (c .before .before .before .before .before .before .before .before .before .before .before .before .args .n) (now (c .before .before .before .before .before .before .before .before .before .before .before .before .args .s)) (c .before .before .before .before .before .before .before .before .before .before .before .before .args .table)) (c .before .before .before .before .before .before .before .before .before .before .before .before .args .pos)
-    (targets-no (c .before .before .before .before .before .before .before .before .before .before .before .before .args .letters) (c .before .before .before .before .before .before .before .before .before .before .before .before .args .base) (now (c .before .before .before .before .before .before .before .before .before .before .before .before .args .s)) (c .before .before .before .before .before .before .before .before .before .loop .u) (c .before .before .before .before .before .before .before .before .before .loop .words) (c .before .before .before .before .before .before .before .before .before .loop .at) (c .before .before .before .before .before .before .before .before .before .loop .left) (c .before .before .before .before .before .before .before .before .before .loop .p) h (c .before .before .before .before .before .before .before .before .loop-test .taken) _ _ _ _ _ (c .before .before .before .before .before .before .before .offset-at .ensures .0) (c .before .before .before .before .before .target-at .ensures (c .before .before .before .before .before .before .before .before .before .loop .p) []) (c .before .f .given .1) ∙ c .before .before .before .before .before .before .before .before .before .loop .inv .2)
+    (visited-no (c .before .before .before .before .before .before .before .before .before .before .before .before .args .base) (target (c .before .before .before .before .before .before .before .before .before .before .before .before .args .letters)) (now (c .before .before .before .before .before .before .before .before .before .before .before .before .args .s)) (c .before .before .before .before .before .before .before .before .before .loop .u) (c .before .before .before .before .before .before .before .before .before .loop .words) [] (c .before .before .before .before .before .before .before .before .before .loop .at) (c .before .before .before .before .before .before .before .before .before .loop .left) (c .before .before .before .before .before .before .before .before .before .loop .p) _ (c .before .before .before .before .before .before .before .before .before .loop .inv .2) (c .before .before .before .before .before .before .before .before .loop-test .taken) hw (omega arith) _ _ _ _ _ _ _ (ap (λ (k : ℕ). c .before .before .before .before .before .before .before .before .before .before .before .before .args .base + k) (c .before .before .before .before .before .before .before .offset-at .ensures .0)) (c .before .before .before .before .before .target-at .ensures (c .before .before .before .before .before .before .before .before .before .loop .p) []) (c .before .f .given .1))
 
 enum-known-v : tie.Need-enum-known-v Inv-loop μ-loop
 enum-known-v c = search needs
@@ -62,8 +63,11 @@ loop-less c = omega arith
 
 loop-again : tie.Need-loop-again Inv-loop μ-loop
 loop-again c =
-    let h : length (c .before .before .before .before .before .before .before .before .before .loop .words) ≤ 18446744073709551615 = omega (arith, c .before .before .before .before .before .before .before .before .before .loop .inv .1, c .before .before .before .before .before .before .before .before .before .before .before .before .good) in
-    (omega (arith, c .before .before .before .before .before .before .before .before .before .loop .inv .0), c .before .before .before .before .before .target-at .kept .1 .1 .1 .0 ∙ c .before .before .before .before .before .before .before .before .before .loop .inv .1, targets-on (c .before .before .before .before .before .before .before .before .before .before .before .before .args .letters) (c .before .before .before .before .before .before .before .before .before .before .before .before .args .base) (now (c .before .before .before .before .before .before .before .before .before .before .before .before .args .s)) (c .before .before .before .before .before .before .before .before .before .loop .u) (c .before .before .before .before .before .before .before .before .before .loop .words) (c .before .before .before .before .before .before .before .before .before .loop .at) (c .before .before .before .before .before .before .before .before .before .loop .left) (c .before .before .before .before .before .before .before .before .before .loop .p) h (c .before .before .before .before .before .before .before .before .loop-test .taken) _ _ _ _ _ (c .before .before .before .before .before .before .before .offset-at .ensures .0) (c .before .before .before .before .before .target-at .ensures (c .before .before .before .before .before .before .before .before .before .loop .p) []) (c .before .v .given .1) ∙ c .before .before .before .before .before .before .before .before .before .loop .inv .2)
+    let hw : length (c .before .before .before .before .before .before .before .before .before .loop .words) ≤ 18446744073709551615 = omega (arith, c .before .before .before .before .before .before .before .before .before .loop .inv .1, c .before .before .before .before .before .before .before .before .before .before .before .before .good) in (
+      omega (arith, c .before .before .before .before .before .before .before .before .before .loop .inv .0),
+      c .before .before .before .before .before .target-at .kept .1 .1 .1 .0 ∙ c .before .before .before .before .before .before .before .before .before .loop .inv .1,
+      visited-on (c .before .before .before .before .before .before .before .before .before .before .before .before .args .base) (target (c .before .before .before .before .before .before .before .before .before .before .before .before .args .letters)) (now (c .before .before .before .before .before .before .before .before .before .before .before .before .args .s)) (c .before .before .before .before .before .before .before .before .before .loop .u) (c .before .before .before .before .before .before .before .before .before .loop .words) [] (c .before .before .before .before .before .before .before .before .before .loop .at) (c .before .before .before .before .before .before .before .before .before .loop .left) (c .before .before .before .before .before .before .before .before .before .loop .p) _ (c .before .before .before .before .before .before .before .before .before .loop .inv .2) (c .before .before .before .before .before .before .before .before .loop-test .taken) hw (omega arith) _ _ _ _ _ _ (ap (λ (k : ℕ). c .before .before .before .before .before .before .before .before .before .before .before .before .args .base + k) (c .before .before .before .before .before .before .before .offset-at .ensures .0)) (c .before .before .before .before .before .target-at .ensures (c .before .before .before .before .before .before .before .before .before .loop .p) []) (c .before .v .given .1),
+    )
 
 same-length-2 : tie.Need-same-length-2 Inv-loop μ-loop
 same-length-2 c = c .before .loop .inv .1
@@ -71,7 +75,7 @@ same-length-2 c = c .before .loop .inv .1
 returns-2 : tie.Need-returns-2 Inv-loop μ-loop
 returns-2 c =
     targets-any (c .before .before .before .before .args .letters) (c .before .before .before .before .args .base) (now (c .before .before .before .before .args .s)) (c .before .before .before .before .args .t) (now (c .before .before .before .before .args .words)) _ _ (numbersAt (c .before .before .before .before .args .n) (now (c .before .before .before .before .args .s)) (c .before .before .before .before .args .table)) (c .before .before .before .before .args .pos)
-    (targets-end (c .before .before .before .before .args .letters) (c .before .before .before .before .args .base) (now (c .before .before .before .before .args .s)) (c .before .loop .u) (c .before .loop .words) (c .before .loop .at) (c .before .loop .left) (c .before .loop .p) (c .loop-test .left) ∙ c .before .loop .inv .2)
+    (visited-end (c .before .before .before .before .args .base) (target (c .before .before .before .before .args .letters)) (now (c .before .before .before .before .args .s)) (c .before .loop .u) (c .before .loop .words) [] (c .before .loop .at) (c .before .loop .left) (c .before .loop .p) _ (c .before .loop .inv .2) (c .loop-test .left))
 
 pub targets-spec : {M : Type 1} → statement M
 targets-spec =

@@ -1,23 +1,18 @@
 -- `texture::textures` meets its contract. The loop's invariant: what is left, from here, is what all of it is, from the start.
 -- Assumes nothing.
 use Prim.Native.Nat.{ℕ, _+_, _-_, _*_, _≤_}
-use mathlib.Core.Path.{_≡_, refl, sym, ap, _∙_}
+use mathlib.Core.Path.{_≡_, refl, ap, _∙_}
 use native.Mathlib.Omega.{arith}
 use denote.Ref.{now}
 use lib.ListN.{length}
-use Rattle.core.specs.Number.{get}
 use Rattle.core.specs.Run.{numbersAt}
 use Rattle.bflan.specs.Reader.{visit}
 use Rattle.bflan.specs.Reading.{texture}
 use Rattle.bflan.specs.Walk.{run}
-use Rattle.bflan.proofs.Walks.{turn-on, turn-no, visits-turn, visits-end, told-ok}
+use Rattle.bflan.proofs.Walks.{visited-on, visited-no, visited-end}
 use borrow.Author.Needs.{needs}
 use Rattle.bflan.proofs.texture.textures.Statement.{statement}
 use Rattle.bflan.proofs.texture.textures.Tie as tie
-use Rattle.bflan.proofs.texture.textures.Reads as reads
-use Rattle.bflan.proofs.texture.textures.Lts as lts
-use Rattle.bflan.proofs.offset.offset_at.Reads as offset-at-reads
-use Rattle.bflan.proofs.texture.texture_at.Reads as texture-at-reads
 
 abbrev Inv-loop : tie.InvT-loop
 Inv-loop s base table n pos words₀ texts₀ left₀ at₀ p₀ u₀ words texts left at p u =
@@ -52,12 +47,7 @@ returns : tie.Need-returns Inv-loop μ-loop
 returns c =
     let hw : length (c .before .before .before .before .before .before .before .before .before .before .before .before .loop .words) ≤ 18446744073709551615 = omega (arith, c .before .before .before .before .before .before .before .before .before .before .before .before .loop .inv .1, c .before .before .before .before .before .before .before .before .before .before .before .before .before .before .before .before .good) in
     let hx : length (c .before .before .before .before .before .before .before .before .before .before .before .before .loop .texts) ≤ 18446744073709551615 = omega (arith, c .before .before .before .before .before .before .before .before .before .before .before .before .loop .inv .2, c .before .before .before .before .before .before .before .before .before .before .before .before .before .before .before .before .good) in
-    let e =
-    c .before .before .before .before .before .before .before .texture-at .ensures (c .before .before .before .before .before .before .before .before .before .before .before .before .loop .p)
-    ∙ ap (λ (k : ℕ). run (now (c .before .before .before .before .before .before .before .before .before .before .before .before .before .before .before .before .args .s)) (c .before .before .before .before .before .before .before .before .before .before .before .before .loop .u) (c .before .before .before .before .before .before .before .before .before .before .before .before .loop .words) (c .before .before .before .before .before .before .before .before .before .before .before .before .loop .texts) (texture (c .before .before .before .before .before .before .before .before .before .before .before .before .before .before .before .before .args .base + k) (now (c .before .before .before .before .before .before .before .before .before .before .before .before .before .before .before .before .args .s)) (c .before .before .before .before .before .before .before .before .before .before .before .before .loop .p))) (c .before .before .before .before .before .before .before .before .before .before .offset-at .ensures .0) in
-    let v = visits-turn (c .before .before .before .before .before .before .before .before .before .before .before .before .before .before .before .before .args .base) texture (now (c .before .before .before .before .before .before .before .before .before .before .before .before .before .before .before .before .args .s)) (c .before .before .before .before .before .before .before .before .before .before .before .before .loop .at) (c .before .before .before .before .before .before .before .before .before .before .before .before .loop .left) (c .before .before .before .before .before .before .before .before .before .before .before .before .loop .p) (c .before .before .before .before .before .before .before .before .before .before .before .loop-test .taken) in
-    let back = ap (run (now (c .before .before .before .before .before .before .before .before .before .before .before .before .before .before .before .before .args .s)) (c .before .before .before .before .before .before .before .before .before .before .before .before .loop .u) (c .before .before .before .before .before .before .before .before .before .before .before .before .loop .words) (c .before .before .before .before .before .before .before .before .before .before .before .before .loop .texts)) (sym v) ∙ c .before .before .before .before .before .before .before .before .before .before .before .before .loop .inv .3 in
-    turn-no (now (c .before .before .before .before .before .before .before .before .before .before .before .before .before .before .before .before .args .s)) (c .before .before .before .before .before .before .before .before .before .before .before .before .loop .u) (c .before .before .before .before .before .before .before .before .before .before .before .before .loop .words) (c .before .before .before .before .before .before .before .before .before .before .before .before .loop .texts) _ hw hx _ _ _ _ _ _ (λ j. visit (c .before .before .before .before .before .before .before .before .before .before .before .before .before .before .before .before .args .base) texture (numbersAt (c .before .before .before .before .before .before .before .before .before .before .before .before .loop .left - 1) (now (c .before .before .before .before .before .before .before .before .before .before .before .before .before .before .before .before .args .s)) (c .before .before .before .before .before .before .before .before .before .before .before .before .loop .at + 4)) (now (c .before .before .before .before .before .before .before .before .before .before .before .before .before .before .before .before .args .s)) j) e (c .before .f .given .1) ∙ back
+    visited-no (c .before .before .before .before .before .before .before .before .before .before .before .before .before .before .before .before .args .base) texture (now (c .before .before .before .before .before .before .before .before .before .before .before .before .before .before .before .before .args .s)) (c .before .before .before .before .before .before .before .before .before .before .before .before .loop .u) (c .before .before .before .before .before .before .before .before .before .before .before .before .loop .words) (c .before .before .before .before .before .before .before .before .before .before .before .before .loop .texts) (c .before .before .before .before .before .before .before .before .before .before .before .before .loop .at) (c .before .before .before .before .before .before .before .before .before .before .before .before .loop .left) (c .before .before .before .before .before .before .before .before .before .before .before .before .loop .p) _ (c .before .before .before .before .before .before .before .before .before .before .before .before .loop .inv .3) (c .before .before .before .before .before .before .before .before .before .before .before .loop-test .taken) hw hx _ _ _ _ _ _ _ (ap (λ (k : ℕ). c .before .before .before .before .before .before .before .before .before .before .before .before .before .before .before .before .args .base + k) (c .before .before .before .before .before .before .before .before .before .before .offset-at .ensures .0)) (c .before .before .before .before .before .before .before .texture-at .ensures (c .before .before .before .before .before .before .before .before .before .before .before .before .loop .p)) (c .before .f .given .1)
 
 enum-known-v : tie.Need-enum-known-v Inv-loop μ-loop
 enum-known-v c = search needs
@@ -74,16 +64,11 @@ loop-less c = omega arith
 loop-again : tie.Need-loop-again Inv-loop μ-loop
 loop-again c =
     let hw : length (c .before .before .before .before .before .before .before .before .before .before .before .before .loop .words) ≤ 18446744073709551615 = omega (arith, c .before .before .before .before .before .before .before .before .before .before .before .before .loop .inv .1, c .before .before .before .before .before .before .before .before .before .before .before .before .before .before .before .before .good) in
-    let hx : length (c .before .before .before .before .before .before .before .before .before .before .before .before .loop .texts) ≤ 18446744073709551615 = omega (arith, c .before .before .before .before .before .before .before .before .before .before .before .before .loop .inv .2, c .before .before .before .before .before .before .before .before .before .before .before .before .before .before .before .before .good) in
-    let e =
-    c .before .before .before .before .before .before .before .texture-at .ensures (c .before .before .before .before .before .before .before .before .before .before .before .before .loop .p)
-    ∙ ap (λ (k : ℕ). run (now (c .before .before .before .before .before .before .before .before .before .before .before .before .before .before .before .before .args .s)) (c .before .before .before .before .before .before .before .before .before .before .before .before .loop .u) (c .before .before .before .before .before .before .before .before .before .before .before .before .loop .words) (c .before .before .before .before .before .before .before .before .before .before .before .before .loop .texts) (texture (c .before .before .before .before .before .before .before .before .before .before .before .before .before .before .before .before .args .base + k) (now (c .before .before .before .before .before .before .before .before .before .before .before .before .before .before .before .before .args .s)) (c .before .before .before .before .before .before .before .before .before .before .before .before .loop .p))) (c .before .before .before .before .before .before .before .before .before .before .offset-at .ensures .0) in
-    let v = visits-turn (c .before .before .before .before .before .before .before .before .before .before .before .before .before .before .before .before .args .base) texture (now (c .before .before .before .before .before .before .before .before .before .before .before .before .before .before .before .before .args .s)) (c .before .before .before .before .before .before .before .before .before .before .before .before .loop .at) (c .before .before .before .before .before .before .before .before .before .before .before .before .loop .left) (c .before .before .before .before .before .before .before .before .before .before .before .before .loop .p) (c .before .before .before .before .before .before .before .before .before .before .before .loop-test .taken) in
-    let back = ap (run (now (c .before .before .before .before .before .before .before .before .before .before .before .before .before .before .before .before .args .s)) (c .before .before .before .before .before .before .before .before .before .before .before .before .loop .u) (c .before .before .before .before .before .before .before .before .before .before .before .before .loop .words) (c .before .before .before .before .before .before .before .before .before .before .before .before .loop .texts)) (sym v) ∙ c .before .before .before .before .before .before .before .before .before .before .before .before .loop .inv .3 in (
+    let hx : length (c .before .before .before .before .before .before .before .before .before .before .before .before .loop .texts) ≤ 18446744073709551615 = omega (arith, c .before .before .before .before .before .before .before .before .before .before .before .before .loop .inv .2, c .before .before .before .before .before .before .before .before .before .before .before .before .before .before .before .before .good) in (
       omega (arith, c .before .before .before .before .before .before .before .before .before .before .before .before .loop .inv .0),
       c .before .before .before .before .before .before .before .texture-at .kept .1 .1 .0 ∙ c .before .before .before .before .before .before .before .before .before .before .before .before .loop .inv .1,
       c .before .before .before .before .before .before .before .texture-at .kept .1 .1 .1 .0 ∙ c .before .before .before .before .before .before .before .before .before .before .before .before .loop .inv .2,
-      turn-on (now (c .before .before .before .before .before .before .before .before .before .before .before .before .before .before .before .before .args .s)) (c .before .before .before .before .before .before .before .before .before .before .before .before .loop .u) (c .before .before .before .before .before .before .before .before .before .before .before .before .loop .words) (c .before .before .before .before .before .before .before .before .before .before .before .before .loop .texts) _ hw hx _ _ _ _ _ (λ j. visit (c .before .before .before .before .before .before .before .before .before .before .before .before .before .before .before .before .args .base) texture (numbersAt (c .before .before .before .before .before .before .before .before .before .before .before .before .loop .left - 1) (now (c .before .before .before .before .before .before .before .before .before .before .before .before .before .before .before .before .args .s)) (c .before .before .before .before .before .before .before .before .before .before .before .before .loop .at + 4)) (now (c .before .before .before .before .before .before .before .before .before .before .before .before .before .before .before .before .args .s)) j) e (c .before .v .given .1) ∙ back,
+      visited-on (c .before .before .before .before .before .before .before .before .before .before .before .before .before .before .before .before .args .base) texture (now (c .before .before .before .before .before .before .before .before .before .before .before .before .before .before .before .before .args .s)) (c .before .before .before .before .before .before .before .before .before .before .before .before .loop .u) (c .before .before .before .before .before .before .before .before .before .before .before .before .loop .words) (c .before .before .before .before .before .before .before .before .before .before .before .before .loop .texts) (c .before .before .before .before .before .before .before .before .before .before .before .before .loop .at) (c .before .before .before .before .before .before .before .before .before .before .before .before .loop .left) (c .before .before .before .before .before .before .before .before .before .before .before .before .loop .p) _ (c .before .before .before .before .before .before .before .before .before .before .before .before .loop .inv .3) (c .before .before .before .before .before .before .before .before .before .before .before .loop-test .taken) hw hx _ _ _ _ _ _ (ap (λ (k : ℕ). c .before .before .before .before .before .before .before .before .before .before .before .before .before .before .before .before .args .base + k) (c .before .before .before .before .before .before .before .before .before .before .offset-at .ensures .0)) (c .before .before .before .before .before .before .before .texture-at .ensures (c .before .before .before .before .before .before .before .before .before .before .before .before .loop .p)) (c .before .v .given .1),
     )
 
 same-length-3 : tie.Need-same-length-3 Inv-loop μ-loop
@@ -93,9 +78,7 @@ same-length-4 : tie.Need-same-length-4 Inv-loop μ-loop
 same-length-4 c = c .before .loop .inv .2
 
 returns-2 : tie.Need-returns-2 Inv-loop μ-loop
-returns-2 c =
-    let e = visits-end (c .before .before .before .before .before .args .base) texture (now (c .before .before .before .before .before .args .s)) (c .before .loop .at) (c .before .loop .left) (c .before .loop .p) (c .loop-test .left) in
-    told-ok _ _ _ _ _ ∙ ap (run (now (c .before .before .before .before .before .args .s)) (c .before .loop .u) (c .before .loop .words) (c .before .loop .texts)) (sym e) ∙ c .before .loop .inv .3
+returns-2 c = visited-end (c .before .before .before .before .before .args .base) texture (now (c .before .before .before .before .before .args .s)) (c .before .loop .u) (c .before .loop .words) (c .before .loop .texts) (c .before .loop .at) (c .before .loop .left) (c .before .loop .p) _ (c .before .loop .inv .3) (c .loop-test .left)
 
 pub textures-spec : {M : Type 1} → statement M
 textures-spec =
