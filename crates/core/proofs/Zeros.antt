@@ -7,7 +7,7 @@ use mathlib.Core.List.{List, [], _∷_, _++_}
 use native.Mathlib.Nat.{zero-add, add-zero, suc-add}
 use native.Mathlib.Numerals.{add-one}
 use native.Mathlib.Omega.{arith}
-use borrow.Author.Tests.{eq-eqb, ne-eqb, eqb-true, eqb-false, ltb-true, ltb-false, lt-ltb, le-ltb, leb-true, leb-false}
+use borrow.Author.Tests.{eq-eqb, ne-eqb, eqb-true, eqb-false, ltb-true, ltb-false, lt-ltb, leb-true, leb-false}
 use lib.Dec.{eqb, ltb, leb}
 use lib.ListN.{length, getD, take, drop, length-append, length-take, length-drop, take-append-drop, drop-of-length-le}
 use lib.Seq.{drop-cons, drop-drop, getD-drop}
@@ -177,68 +177,6 @@ count-turn s at k n one m h en eo em = by-byte (getD s (at + k) 0) zeroed other
         let d = length-drop at s in
         let x : k ≡ beforeZero (drop at s) → ⊥ = λ q. e (rw (← getD-drop at s k 0, q) (zero-at (drop at s) (omega (arith, d, h, q)))) in
         rw w (counting-on (beforeZero (drop at s)) k n one x en eo)
-
--- a turn of a loop that looks for the least place of a zero, of n; k places are passed
-abbrev pub leastOf : ℕ → ℕ → ℕ → ℕ
-leastOf z k n = pick (ltb z k) z n
-
-least-step : (z k n m p r : ℕ) → k < n → m ≡ leastOf z k n → r ≡ min m p → (z < k → z ≤ p) → (k ≤ z → r ≡ leastOf z (k + 1) n) → r ≡ leastOf z (k + 1) n
-least-step z k n m p r l em er below other = go (ltb z k) refl
-  where
-    go : (b : Bool) → ltb z k ≡ b → r ≡ leastOf z (k + 1) n
-    go true e =
-        let q = ltb-true z k e in
-        let q1 : z < k + 1 = omega arith in
-        let m1 : m ≡ z = em ∙ rw e in
-        let w = below q in
-        rw (lt-ltb z (k + 1) q1) (omega (arith, m1, er, w))
-    go false e = other (ltb-false z k e)
-
-pub least-turn : (s : List ℕ) (at k n m p r : ℕ) → at + k < length s → k < n → m ≡ leastOf (beforeZero (drop at s)) k n → p ≡ pick (eqb (getD s (at + k) 0) 0) k n → r ≡ min m p
-    → r ≡ leastOf (beforeZero (drop at s)) (k + 1) n
-least-turn s at k n m p r h l em ep er = by-byte (getD s (at + k) 0) zeroed other
-  where
-    off : k ≤ beforeZero (drop at s) → m ≡ n
-    off q = em ∙ rw (le-ltb (beforeZero (drop at s)) k q)
-
-    zeroed : getD s (at + k) 0 ≡ 0 → r ≡ leastOf (beforeZero (drop at s)) (k + 1) n
-    zeroed e =
-        let w : p ≡ k = ep ∙ rw (eq-eqb (getD s (at + k) 0) 0 e) in
-        least-step (beforeZero (drop at s)) k n m p r l em er (λ q. omega arith) (λ q. last w q)
-      where
-        last : p ≡ k → k ≤ beforeZero (drop at s) → r ≡ leastOf (beforeZero (drop at s)) (k + 1) n
-        last w q = go (ltb k (beforeZero (drop at s))) refl
-          where
-            go : (b : Bool) → ltb k (beforeZero (drop at s)) ≡ b → r ≡ leastOf (beforeZero (drop at s)) (k + 1) n
-            go true d = absurd (free-at (drop at s) k (ltb-true k _ d) (rw getD-drop e))
-            go false d =
-                let f = ltb-false k (beforeZero (drop at s)) d in
-                let q1 : beforeZero (drop at s) < k + 1 = omega arith in
-                rw (lt-ltb (beforeZero (drop at s)) (k + 1) q1) (omega (arith, off q, er, w, f, q))
-
-    other : (getD s (at + k) 0 ≡ 0 → ⊥) → r ≡ leastOf (beforeZero (drop at s)) (k + 1) n
-    other e =
-        let w : p ≡ n = ep ∙ rw (ne-eqb (getD s (at + k) 0) 0 e) in
-        let d = length-drop at s in
-        let x : k ≡ beforeZero (drop at s) → ⊥ = λ q. e (rw (← getD-drop at s k 0, q) (zero-at (drop at s) (omega (arith, d, h, q)))) in
-        least-step (beforeZero (drop at s)) k n m p r l em er (λ q. omega arith) (λ q. late w x q)
-      where
-        late : p ≡ n → (k ≡ beforeZero (drop at s) → ⊥) → k ≤ beforeZero (drop at s) → r ≡ leastOf (beforeZero (drop at s)) (k + 1) n
-        late w x q =
-            let q1 : k + 1 ≤ beforeZero (drop at s) = omega (arith, x, q) in
-            rw (le-ltb (beforeZero (drop at s)) (k + 1) q1) (omega (arith, off q, er, w))
-
--- its start: none is passed
-pub least-none : (z n : ℕ) → n ≡ leastOf z 0 n
-least-none z n = let h : 0 ≤ z = omega arith in rw (le-ltb z 0 h)
-
--- its end: all n places are passed
-pub least-all : (z n : ℕ) → leastOf z n n ≡ min n z
-least-all z n = go (ltb z n) refl
-  where
-    go : (b : Bool) → ltb z n ≡ b → leastOf z n n ≡ min n z
-    go true e = let q = ltb-true z n e in rw e (omega arith)
-    go false e = let q = ltb-false z n e in rw e (omega arith)
 
 -- a turn of a loop that tests k bytes, of which it has tested i
 pub clear-turn : (s : List ℕ) (at k i : ℕ) (t all : Bool) → at + k ≤ length s → i < k → t && zeroFree (take (k - i) (drop (at + i) s)) ≡ all

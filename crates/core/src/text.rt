@@ -86,74 +86,21 @@ fn zero_from(text: &[u8], at: usize) -> usize
     i
 }
 
-// The place of a byte that is zero, else 32.
-fn place_of(b: u8, k: u8) -> u8
-    ensures { λ r. ⌜ r ≡ pick (eqb b 0) k 32 ⌝ }
-{
-    if b == 0 { k } else { 32 }
-}
-
-fn lesser(a: u8, b: u8) -> u8
-    ensures { λ r. ⌜ r ≡ min a b ⌝ }
-{
-    if b < a { b } else { a }
-}
-
-// The same of the 32 bytes from `at` on. It is the least place of a zero, so that it is computed on whole vectors.
-fn clear_least(text: &[u8], at: usize) -> usize
-    requires { ⌜ at + 32 ≤ length (now text) ⌝ }
-    ensures { λ r. ⌜ r ≡ min 32 (beforeZero (drop at (now (text .entry)))) ⌝ }
-{
-    let mut least: u8 = 32;
-    let mut k: u8 = 0;
-    while k < 32 {
-        least = lesser(least, place_of(text[at + (k as usize)], k));
-        k += 1;
-    }
-    least as usize
-}
-
-// In a text of fewer than 32 bytes,
-fn first_zero_short(text: &[u8]) -> usize
+// How many bytes stand before the first zero; all, where there is none.
+pub fn first_zero(text: &[u8]) -> usize
     ensures { λ r. ⌜ r ≡ beforeZero (now (text .entry)) ⌝ }
 {
     let n = text.len();
     if n < 8 {
         return zero_from(text, 0);
     }
-    let near = clear_blocks(text, 0, 8);
+    let far = clear_blocks(text, 0, 32);
+    let near = clear_blocks(text, far, 8);
     let last = n - 8;
     if near < last {
         return near + clear_bytes(text, near);
     }
     last + clear_bytes(text, last)
-}
-
-// and in a longer one, behind bytes that have none.
-fn first_zero_from(text: &[u8], from: usize) -> usize
-    requires { ⌜ (32 ≤ length (now text)) × (from ≤ beforeZero (now text)) ⌝ }
-    ensures { λ r. ⌜ r ≡ beforeZero (now (text .entry)) ⌝ }
-{
-    let far = clear_blocks(text, from, 32);
-    let last = text.len() - 32;
-    if far < last {
-        return far + clear_least(text, far);
-    }
-    last + clear_least(text, last)
-}
-
-// How many bytes stand before the first zero; all, where there is none.
-pub fn first_zero(text: &[u8]) -> usize
-    ensures { λ r. ⌜ r ≡ beforeZero (now (text .entry)) ⌝ }
-{
-    if text.len() < 32 {
-        return first_zero_short(text);
-    }
-    let least = clear_least(text, 0);
-    if least < 32 {
-        return least;
-    }
-    first_zero_from(text, 32)
 }
 
 // Where the first zero or the first ill-formed subpart stands, whichever is earlier; the length, where there is neither.
