@@ -9,6 +9,11 @@ use crate::input::Case;
 use crate::input::bytes_of;
 use crate::reading::of_fault;
 use crate::reading::same_answer;
+use crate::record::Met;
+use crate::record::Place;
+use crate::record::first;
+use crate::record::meet;
+use crate::record::plus;
 use crate::report::DECODED;
 use crate::report::IN_SECTION;
 use crate::report::bump;
@@ -27,16 +32,20 @@ const END: usize = 328;
 
 const ALL: usize = 336;
 
-// More texts than a section of the sample has.
+// More steps than a record of the sample takes.
 const MANY: usize = 1000;
 
-// What comes of looking for a text.
-enum Step {
-    // It is right: its length.
-    Text(usize),
-    // There is none of that number.
-    End,
-    Wrong,
+// How far the texts were looked for: the place in the record's words, the number of the next text, and where its bytes begin.
+struct Walk {
+    place: Place,
+    text: usize,
+    at: usize,
+}
+
+enum Turn {
+    On(Walk),
+    // All texts are right, or one is not.
+    Done(bool),
 }
 
 // Looks for a text.
@@ -63,17 +72,20 @@ fn kept(places: &[u8], source: usize, start: usize, len: usize) -> bool {
     bytes_marked(places, 0, BEFORE) && bytes_marked(places, len + BEFORE, ALL)
 }
 
-// Whether the text that was found is the first of the record's remaining bytes.
+// Whether the text that was found is the one that is wanted.
 fn right<'a>(
     section: &'a [u8],
     places: &'a [u8],
     source: usize,
     start: usize,
     len: usize,
-    rest: &[u8],
+    wanted: &[u8],
 ) -> bool {
     let text = text_part(section, part(places, BEFORE, SCRATCH), source, start, len);
-    text.len() == len && same_bytes(rest, 0, text) && kept(places, source, start, len)
+    text.len() == len
+        && len == wanted.len()
+        && same_bytes(text, 0, wanted)
+        && kept(places, source, start, len)
 }
 
 // Counts a text by its source.
@@ -85,67 +97,117 @@ fn count_text(source: usize, counts: &mut [u64]) {
     }
 }
 
-// A text that was found.
+// The same, and a right text is counted.
 fn found<'a>(
     section: &'a [u8],
     places: &'a [u8],
     source: usize,
     start: usize,
     len: usize,
-    rest: &[u8],
+    wanted: &[u8],
     counts: &mut [u64],
-) -> Step {
-    if right(section, places, source, start, len, rest) {
+) -> bool {
+    if right(section, places, source, start, len, wanted) {
         count_text(source, counts);
-        return Step::Text(len);
+        return true;
     }
-    Step::Wrong
+    false
 }
 
-// Looks for text t, of which the record has the first of the bytes `rest`.
-fn find_one(section: &[u8], t: usize, rest: &[u8], counts: &mut [u64]) -> Step {
+// Whether text t is the one that is wanted.
+fn find_one(section: &[u8], t: usize, wanted: &[u8], counts: &mut [u64]) -> bool {
     let mut places = [0u8; ALL];
     mark_bytes(&mut places);
     let answer = find_among(section, t, &mut places);
     match answer {
         FindAnswer::Found(source, start, len) => {
-            found(section, &places, source, start, len, rest, counts)
+            found(section, &places, source, start, len, wanted, counts)
         }
-        FindAnswer::NoSuchText => {
-            if bytes_marked(&places, 0, ALL) {
-                Step::End
-            } else {
-                Step::Wrong
-            }
-        }
-        FindAnswer::Refused(_f) => Step::Wrong,
-        FindAnswer::TooLong(_size) => Step::Wrong,
-        FindAnswer::ScratchTooShort(_bytes) => Step::Wrong,
+        FindAnswer::Refused(_f) => false,
+        FindAnswer::TooLong(_size) => false,
+        FindAnswer::NoSuchText => false,
+        FindAnswer::ScratchTooShort(_bytes) => false,
     }
 }
 
-// Whether the texts of a section are together the record's text bytes.
-fn find_all(section: &[u8], texts: &[u8], counts: &mut [u64]) -> bool {
-    let mut at = 0;
-    let mut t = 0;
-    while t < MANY {
-        let left = texts.len() - at;
-        let step = find_one(section, t, part(texts, at, left), counts);
-        match step {
-            Step::Text(len) => {
-                if len > left {
-                    return false;
-                }
-                at += len;
-                t += 1;
+// Whether there is no text t.
+fn find_none(section: &[u8], t: usize) -> bool {
+    let mut places = [0u8; ALL];
+    mark_bytes(&mut places);
+    let answer = find_among(section, t, &mut places);
+    match answer {
+        FindAnswer::NoSuchText => bytes_marked(&places, 0, ALL),
+        FindAnswer::Found(_source, _start, _len) => false,
+        FindAnswer::Refused(_f) => false,
+        FindAnswer::TooLong(_size) => false,
+        FindAnswer::ScratchTooShort(_bytes) => false,
+    }
+}
+
+// Looks for the next text, which has `len` bytes; the walk goes on at `place`.
+fn next_text(
+    section: &[u8],
+    texts: &[u8],
+    walk: Walk,
+    len: usize,
+    place: Place,
+    counts: &mut [u64],
+) -> Turn {
+    let t = walk.text;
+    let at = walk.at;
+    let wanted = part(texts, at, len);
+    if wanted.len() != len {
+        return Turn::Done(false);
+    }
+    if find_one(section, t, wanted, counts) {
+        return Turn::On(Walk {
+            place,
+            text: plus(t, 1),
+            at: plus(at, len),
+        });
+    }
+    Turn::Done(false)
+}
+
+// Whether the record ends where its words, its texts and the section's texts end.
+fn ended(section: &[u8], words: &[u8], texts: &[u8], walk: Walk) -> bool {
+    let place = walk.place;
+    place.at == words.len() / 4 && walk.at == texts.len() && find_none(section, walk.text)
+}
+
+// A step through the record.
+fn step(section: &[u8], words: &[u8], texts: &[u8], walk: Walk, counts: &mut [u64]) -> Turn {
+    let met = meet(words, walk.place);
+    match met {
+        Met::Length(len, next) => next_text(section, texts, walk, len, next, counts),
+        Met::Other(next) => Turn::On(Walk {
+            place: next,
+            text: walk.text,
+            at: walk.at,
+        }),
+        Met::End => Turn::Done(ended(section, words, texts, walk)),
+    }
+}
+
+// Whether the texts of a section are those of the record.
+fn find_all(section: &[u8], words: &[u8], texts: &[u8], counts: &mut [u64]) -> bool {
+    let mut walk = Walk {
+        place: first(words),
+        text: 0,
+        at: 0,
+    };
+    let mut turns = 0;
+    while turns < MANY {
+        let next = step(section, words, texts, walk, counts);
+        match next {
+            Turn::On(w) => {
+                walk = w;
             }
-            Step::End => {
-                return left == 0;
-            }
-            Step::Wrong => {
-                return false;
+            Turn::Done(right) => {
+                return right;
             }
         }
+        turns += 1;
     }
     false
 }
@@ -169,7 +231,8 @@ pub(crate) fn find_texts(sample: &[u8], c: Case, counts: &mut [u64]) {
     let answer = c.answer;
     let section = bytes_of(sample, c.section);
     if answer.0 == 0 {
-        let right = find_all(section, bytes_of(sample, c.record_texts), counts);
+        let words = bytes_of(sample, c.record_words);
+        let right = find_all(section, words, bytes_of(sample, c.record_texts), counts);
         note(counts, right, b"texts found");
         return;
     }

@@ -5,6 +5,7 @@ mod compare;
 mod finding;
 mod input;
 mod reading;
+mod record;
 mod report;
 
 ghost use mathlib.Core.Path.{_≡_};
