@@ -3,8 +3,8 @@
 use core::number::Read;
 use core::number::read_u32;
 
-// The most words of a record.
-const WORDS: usize = 256;
+// The longest table of words.
+pub(crate) const WORDS: usize = 256;
 
 // The mark of a place: no two places near each other have the same.
 fn word_mark(i: usize) -> u32 {

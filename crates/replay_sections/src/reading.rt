@@ -1,6 +1,7 @@
 // Reading the section of a case into tables that stand among marked places.
 ghost use Prim.Native.Nat.{_+_, _≤_};
 ghost use lib.ListN.{length};
+use crate::compare::WORDS;
 use crate::compare::bytes_marked;
 use crate::compare::mark_bytes;
 use crate::compare::mark_words;
@@ -14,9 +15,7 @@ use crate::report::note;
 use bflan::fault::Fault;
 use bflan::read::ReadAnswer;
 
-// The longest tables.
-const WORDS: usize = 256;
-
+// The longest table of text bytes.
 const TEXTS: usize = 320;
 // The places before a table, and at least as many are behind it.
 const BEFORE: usize = 8;

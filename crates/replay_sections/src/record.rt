@@ -2,7 +2,7 @@
 use core::number::Read;
 use core::number::read_u32;
 
-// More than a record of the sample has of anything: no sum goes beyond it by more than one step.
+// More than a record of the sample has of anything.
 const FAR: usize = 65536;
 
 // The letters of an info with extended data.
@@ -27,7 +27,7 @@ pub(crate) enum Met {
     End,
 }
 
-// A sum that stays where it is too large.
+// A sum; of more than that, only one of the two numbers.
 pub(crate) fn plus(a: usize, b: usize) -> usize {
     if a > FAR {
         return a;
