@@ -1,3 +1,4 @@
+pub mod Answers
 pub mod Bounds
 pub mod Codes
 pub mod ContentParts
