@@ -1,8 +1,7 @@
 -- What is written is bytes, and a field has 1, 2, 4, 6 or 12 of them.
 -- Assumes nothing.
 use Prim.Native.Nat.{ℕ, zero, suc, _-_}
-use mathlib.Core.Path.{_≡_, refl}
-use mathlib.Core.Bool.{Bool, true, false, _||_}
+use mathlib.Core.Bool.{Bool, true, false}
 use mathlib.Core.List.{List, [], _∷_}
 use native.Mathlib.Omega.{arith}
 use lib.Dec.{eqb}
@@ -11,11 +10,8 @@ use Rattle.core.specs.Choice.{pick}
 use Rattle.core.specs.Fill.{paddingOf}
 use Rattle.core.proofs.Numbers.{Bytes, bytes-le, bytes-append}
 use Rattle.core.proofs.utf8.Bounds.{well-bytes}
-use Rattle.bflan.specs.declared.place.Field.{Field}
-use Rattle.bflan.specs.declared.place.Field.the-variants.{FrameCount, Looping, Layer, Target, Key, Value}
 use Rattle.bflan.specs.Layout.{Layout, nothing, number, bytes, _⨾_, size, written, zeros, row, parts, table, keySkip, keyLay, targetLay, ended, datumLay, infoHead, infoLay, userLay, contentBody, contentLay, namesEnd, sectionLay}
 use Rattle.bflan.specs.Limits.{All, FineText, FineDatum, FineInfo, FineContent, Fine, Within}
-use Rattle.bflan.specs.Places.{widths, total}
 use Rattle.bflan.specs.Record.{AnimTarget, ExtendedUserDataAnim, AnimInfo, Standard, ExtendedUserData, AnimContent, PaneAnimInfo, keyWidths}
 
 -- a layout that is written in bytes
@@ -113,19 +109,3 @@ section-laid r f =
 
 pub written-bytes : (r : PaneAnimInfo) → Within r → Bytes (written (sectionLay r))
 written-bytes r w = section-laid r (w .fine) .bytes
-
--- ---- the sizes of fields
-
-abbrev pub fieldSized : ℕ → Bool
-fieldSized n = eqb n 1 || eqb n 2 || eqb n 4 || eqb n 6 || eqb n 12
-
-pub widths-sizes : (f : Field) → fieldSized (total (widths f)) ≡ true
-unfolding total widths keyWidths
-widths-sizes FrameCount = refl
-widths-sizes Looping = refl
-widths-sizes Layer = refl
-widths-sizes (Target letters) = refl
-widths-sizes (Key zero) = refl
-widths-sizes (Key (suc zero)) = refl
-widths-sizes (Key (suc (suc c))) = refl
-widths-sizes Value = refl

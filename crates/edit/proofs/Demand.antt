@@ -17,11 +17,12 @@ use Rattle.bflan.specs.Limits.{limit}
 use Rattle.bflan.specs.Places.{nowhere, spot, missing, found, fit, widths, total}
 use Rattle.bflan.specs.Reader.{ok}
 use Rattle.bflan.specs.declared.place.Field.{Field}
+use Rattle.bflan.proofs.Replacing.{length-row}
 use Rattle.edit.specs.Editing.{unfit, journalFull, nothingToUndo, oldAt, atSpot, onReading, editing, restored, undoing}
 use Rattle.edit.specs.Format.{Format}
 use Rattle.edit.specs.Journal.{entryWords, capacity, entryAt, entryOf, sound}
 use Rattle.edit.specs.Machine.{Call, edit, undo, Machine, started, editField, pop, turn, State, handedOn, called, Part, none, partOf, ownPart, changes, partsAfter, SameBut, AgreesOnce, Agrees}
-use Rattle.edit.proofs.Entries.{part-sets, drop-sets, room, capacity-sets, entry-new, entry-below, length-row, entry-sound, entry-restores}
+use Rattle.edit.proofs.Entries.{part-sets, drop-sets, room, capacity-sets, entry-new, entry-below, entry-sound, entry-restores}
 
 -- ---- what a format must meet; `Good r` says that the record is within the format's limits, `Reads s r` that reading s gives r
 
@@ -292,7 +293,7 @@ module _ (F : Format) (Good : F .Rec → Type 0) (Reads : List ℕ → F .Rec �
 
   agrees : (most : ℕ) (cs : List (Call F)) (j : List ℕ) (m : Machine F) (parts : List (Part F)) → Linked F Good most j m parts
       → Agrees F Reads most cs (beside F j m) m parts
-  agrees most [] j m parts k = tt
+  agrees most [] j m parts k = (refl, laws .gives (m .rec) (k .good))
   agrees most (c ∷ cs) j m parts k =
       let t : Step F Good most c j m parts = step most c j m parts k in
       (once most c j m parts t, rw (t .calls, t .turns) (agrees most cs (t .journal) (t .machine) (partsAfter F c (beside F j m) parts (t .answer)) (t .linked)))

@@ -8,14 +8,12 @@ use native.Mathlib.Omega.{arith}
 use borrow.Author.Tests.{le-leb}
 use lib.ListN.{length, set, take, drop, replicate, length-append, length-drop, length-replicate, take-append-drop}
 use lib.Seq.{sets, length-sets, sets-eq, take-at, drop-at, take-all, drop-drop, length-take-le, take-set-le, drop-set-lt}
-use Rattle.core.proofs.Numbers.{Bytes, bytes-take, bytes-drop, le-get, sets-read}
+use Rattle.core.proofs.Numbers.{Bytes, bytes-take, bytes-drop, bytes-append, le-get, sets-read}
 use Rattle.core.proofs.Stores.{sets-sets}
-use Rattle.bflan.specs.Layout.{written, row, size}
 use Rattle.bflan.specs.Places.{widths, total}
 use Rattle.bflan.specs.Record.{keyWidths}
 use Rattle.bflan.specs.declared.place.Field.{Field}
 use Rattle.bflan.specs.declared.place.Field.the-variants.{FrameCount, Looping, Layer, Target, Key, Value}
-use Rattle.bflan.proofs.Layouts.{size-written}
 use Rattle.edit.specs.Editing.{oldAt, restored}
 use Rattle.edit.specs.Journal.{entryWords, capacity, entryAt, padded, entryOf, offsetIn, countIn, bytesIn, fieldSize, allZero, sound}
 
@@ -71,11 +69,6 @@ module _ (j e : List ℕ) (n : ℕ) where
 
 -- ---- the old bytes in an entry
 
-bytes-append : (a b : List ℕ) → Bytes a → Bytes b → Bytes (a ++ b)
-bytes-append [] b h k i = k i
-bytes-append (x ∷ a) b h k zero = h 0
-bytes-append (x ∷ a) b h k (suc i) = bytes-append a b (λ m. h (suc m)) k i
-
 bytes-zeros : (n : ℕ) → Bytes (replicate n 0)
 bytes-zeros zero i = omega arith
 bytes-zeros (suc n) zero = omega arith
@@ -110,16 +103,6 @@ module _ (at : ℕ) (old : List ℕ) (b : Bytes old) (h : length old ≤ 12) whe
       ∙ (unfold padded in rw (drop-at old (replicate (12 - length old) 0) (length old) refl) (zeros-zero (12 - length old)))
 
 -- ---- fields
-
-size-row : (ws vs : List ℕ) → size (row ws vs) ≡ total ws
-unfolding size row total
-size-row [] vs = refl
-size-row (k ∷ ks) [] = ap (λ (n : ℕ). k + n) (size-row ks [])
-size-row (k ∷ ks) (v ∷ vs) = ap (λ (n : ℕ). k + n) (size-row ks vs)
-
--- a field's new bytes are as many as its old ones
-pub length-row : (ws vs : List ℕ) → length (written (row ws vs)) ≡ total ws
-length-row ws vs = size-written (row ws vs) ∙ size-row ws vs
 
 key-size : (c : ℕ) → fieldSize (total (keyWidths c)) ≡ true
 unfolding fieldSize total keyWidths
