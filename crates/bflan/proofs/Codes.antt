@@ -224,3 +224,33 @@ unfolding kindOf
 unlisted l h =
     let i = none-of Unit rows l (pick (eqb l fleu) ExtendedUserData Invalid) h in
     i .1 ∙ rw (ne-eqb l fleu (i .0 .1))
+
+abbrev Small : List Row → Type 0
+Small [] = Unit {0}
+Small (r ∷ rs) = (r .code < 256 ^ 4) × Small rs
+
+-- a word that the record may have has four bytes
+listed-lt : (rs : List Row) (l : ℕ) → Small rs → listedIn rs l ≡ true → l < 256 ^ 4
+listed-lt [] l s h = let z : _≡_ {A = ℕ} 0 1 = cc in absurd (omega arith)
+listed-lt (r ∷ rs) l s h = go (eqb l (r .code)) refl h (λ k. listed-lt rs l (s .1) k)
+  where
+    go : (b : Bool) → eqb l (r .code) ≡ b → (b || listedIn rs l) ≡ true → (listedIn rs l ≡ true → l < 256 ^ 4) → l < 256 ^ 4
+    go true e k f = let q : l ≡ r .code = eqb-true l (r .code) e in let z = s .0 in omega arith
+    go false e k f = f k
+
+rows-small : Small rows
+unfolding rows val
+rows-small = (omega arith, (omega arith, (omega arith, (omega arith, (omega arith, (omega arith, (omega arith, (omega arith, (omega arith, (omega arith, (omega arith, (omega arith, (omega arith, (omega arith, (omega arith, (omega arith, (omega arith, (omega arith, tt))))))))))))))))))
+
+pub fleu-lt : fleu < 256 ^ 4
+unfolding fleu val
+fleu-lt = omega arith
+
+pub fit-lt : (l : ℕ) → lettersFit l ≡ true → l < 256 ^ 4
+unfolding lettersFit
+fit-lt l h = go (listedIn rows l) refl (eqb l fleu) refl h
+  where
+    go : (a : Bool) → listedIn rows l ≡ a → (b : Bool) → eqb l fleu ≡ b → (a || (b || eqb l 0)) ≡ true → l < 256 ^ 4
+    go true e b d k = listed-lt rows l rows-small e
+    go false e true d k = let q : l ≡ fleu = eqb-true l fleu d in let z = fleu-lt in omega arith
+    go false e false d k = let q : l ≡ 0 = eqb-true l 0 k in omega arith

@@ -6,8 +6,16 @@ pub mod Counts
 pub mod DatumParts
 pub mod Emits
 pub mod Exercises
+pub mod Fields
 pub mod InfoParts
+pub mod Judging
 pub mod KeyRuns
+pub mod Layouts
+pub mod ReadBack
+pub mod Replacing
+pub mod RoundTrip
 pub mod SectionParts
 pub mod TargetParts
+pub mod Verdicts
 pub mod Walks
+pub mod WrittenBytes

@@ -1,0 +1,90 @@
+-- Layouts: their sizes, and what it means that one stands somewhere among bytes.
+-- Assumes nothing.
+use Prim.Native.Nat.{ℕ, _+_, _*_, _^_, _≤_, _<_}
+use mathlib.Core.Path.{_≡_, refl, ap, sym, subst, _∙_}
+use mathlib.Core.List.{List, [], _∷_, _++_}
+use native.Mathlib.Nat.{add-zero}
+use native.Mathlib.Omega.{arith}
+use lib.ListN.{length, take, drop, length-append}
+use lib.Seq.{take-take, take-append-seam, drop-drop, take-add, take-length, drop-at}
+use Rattle.core.specs.Number.{get}
+use Rattle.core.proofs.Numbers.{length-le, val-le}
+use Rattle.bflan.specs.Layout.{Layout, nothing, number, bytes, _⨾_, size, written, parts, table}
+use Rattle.bflan.specs.Reader.{ok, num, numbers}
+use Rattle.bflan.proofs.KeyRuns.{num-there}
+
+pub size-written : (l : Layout) → length (written l) ≡ size l
+unfolding size written
+size-written nothing = refl
+size-written (number k n) = length-le k n
+size-written (bytes bs) = refl
+size-written (a ⨾ b) = rw (length-append, size-written a, size-written b)
+
+-- the layout's bytes stand in s from i on
+pub record Stands (s : List ℕ) (i : ℕ) (l : Layout) : Type 0 where
+  pub fits : i + size l ≤ length s
+  pub same : take (size l) (drop i s) ≡ written l
+
+module _ {s : List ℕ} {i : ℕ} {a b : Layout} where
+  pub stands-left : Stands s i (a ⨾ b) → Stands s i a
+  unfolding size written
+  stands-left h =
+      record {
+        fits = omega (arith, h .fits);
+        same = sym (take-take (size a) (size a + size b) (drop i s) (omega arith)) ∙ ap (take (size a)) (h .same)
+            ∙ rw (← size-written a) (take-append-seam (written a) (written b));
+      }
+
+  pub stands-right : Stands s i (a ⨾ b) → Stands s (i + size a) b
+  unfolding size written
+  stands-right h =
+      let d : List ℕ = drop i s in
+      let x : List ℕ = take (size b) (drop (size a) d) in
+      let e : written a ++ x ≡ written a ++ written b = ap (λ (l : List ℕ). l ++ x) (sym (stands-left h .same)) ∙ sym (take-add (size a) (size b) d) ∙ h .same in
+      record {
+        fits = omega (arith, h .fits);
+        same = rw (← drop-drop (size a) i s)
+            (sym (drop-at (written a) x (size a) (size-written a)) ∙ ap (drop (size a)) e ∙ drop-at (written a) (written b) (size a) (size-written a));
+      }
+
+pub stands-to : {s : List ℕ} {i j : ℕ} {l : Layout} → Stands s i l → i ≡ j → Stands s j l
+stands-to {s} {i} {j} {l} h e = subst (λ (k : ℕ). Stands s k l) e h
+
+pub stands-all : (l : Layout) → Stands (written l) 0 l
+stands-all l =
+    let e = size-written l in
+    record { fits = omega (arith, e); same = rw (← e) (take-length (written l)) }
+
+-- ---- numbers
+
+module _ {s : List ℕ} {i k n : ℕ} (h : Stands s i (number k n)) (l : n < 256 ^ k) where
+  pub stands-get : get k s i ≡ n
+  unfolding get size written
+  stands-get = rw (h .same, val-le k n l)
+
+  pub stands-num : num k s i ≡ ok n (i + k)
+  unfolding size
+  stands-num = num-there k s i (h .fits) ∙ ap (λ (v : ℕ). ok v (i + k)) stands-get
+
+-- ---- parts and their table
+
+module _ {X : Type 0} (lay : X → Layout) where
+  pub size-table : (from : ℕ) (xs : List X) → size (table lay from xs) ≡ 4 * length xs
+  unfolding table size
+  size-table from [] = refl
+  size-table from (x ∷ xs) = rw (size-table (from + size (lay x)) xs) (omega arith)
+
+  -- the offsets in the table
+  abbrev pub offsets : ℕ → List X → List ℕ
+  offsets from [] = []
+  offsets from (x ∷ xs) = from ∷ offsets (from + size (lay x)) xs
+
+  pub table-reads : (s : List ℕ) (i from : ℕ) (xs : List X) → from + size (parts lay xs) < 256 ^ 4 → Stands s i (table lay from xs)
+      → numbers (length xs) s i ≡ ok (offsets from xs) (i + 4 * length xs)
+  unfolding table parts size numbers
+  table-reads s i from [] b h = rw add-zero
+  table-reads s i from (x ∷ xs) b h =
+      let n : from < 256 ^ 4 = omega arith in
+      let r : from + size (lay x) + size (parts lay xs) < 256 ^ 4 = omega arith in
+      rw (stands-num (stands-left h) n, table-reads s (i + 4) (from + size (lay x)) xs r (stands-right h))
+      (ap (ok (from ∷ offsets (from + size (lay x)) xs)) (omega arith))

@@ -1,0 +1,79 @@
+-- The limits of a record (document 01, 'Flat record').
+use Prim.Native.Nat.{ℕ, _*_, _^_, _<_, _≤_}
+use mathlib.Core.Path.{_≡_}
+use mathlib.Core.Bool.{true}
+use mathlib.Core.List.{List, [], _∷_}
+use lib.ListN.{length}
+use Rattle.core.specs.Text.{zeroFree}
+use Rattle.core.specs.Utf8.{wellFormed}
+use Rattle.bflan.specs.Letters.{fleu, lettersFit, targetFits}
+use Rattle.bflan.specs.Layout.{size, sectionLay}
+use Rattle.bflan.specs.Record.{AnimTarget, ExtendedUserDataAnim, AnimInfo, Standard, ExtendedUserData, AnimContent, PaneAnimInfo, keyWidths}
+
+-- the longest section
+abbrev pub limit : ℕ
+limit = 16777216
+
+abbrev pub All : {X : Type 0} → (X → Type 0) → List X → Type 0
+All Q [] = Unit {0}
+All Q (x ∷ xs) = Q x × All Q xs
+
+-- values of the given widths, in bytes
+abbrev pub Fits : List ℕ → List ℕ → Type 0
+Fits [] [] = Unit {0}
+Fits [] (v ∷ vs) = ⊥
+Fits (k ∷ ks) [] = ⊥
+Fits (k ∷ ks) (v ∷ vs) = (v < 256 ^ k) × Fits ks vs
+
+pub record FineText (t : List ℕ) : Type 0 where
+  -- its length is a word of 32 bits
+  pub short : length t < 256 ^ 4
+  pub wellFormed : wellFormed t ≡ true
+  pub zeroFree : zeroFree t ≡ true
+
+pub record FineTarget (letters : ℕ) (t : AnimTarget) : Type 0 where
+  pub layer : t .layer < 256
+  pub target : targetFits letters (t .target) ≡ true
+  pub curve : t .curve < 3
+  pub count : length (t .keys) < 65536
+  pub keys : All (Fits (keyWidths (t .curve))) (t .keys)
+
+pub record FineDatum (d : ExtendedUserDataAnim) : Type 0 where
+  pub headerSize : d .headerSize < 256 ^ 4
+  pub unk1 : d .unk1 < 65536
+  pub unk2 : d .unk2 < 65536
+  pub baseCount : d .baseCount < 256 ^ 4
+  pub unk3 : d .unk3 < 256 ^ 4
+  pub count : length (d .values) ≡ 3 * d .baseCount
+  pub values : All (λ v. v < 256 ^ 4) (d .values)
+  pub key : FineText (d .key)
+
+pub record FineStandard (code : ℕ) (ts : List AnimTarget) : Type 0 where
+  pub letters : lettersFit code ≡ true
+  pub standard : code ≡ fleu → ⊥
+  pub count : length ts < 256
+  pub targets : All (FineTarget code) ts
+
+abbrev pub FineInfo : AnimInfo → Type 0
+FineInfo (Standard letters ts) = FineStandard letters ts
+FineInfo (ExtendedUserData ds) = (length ds < 256) × All FineDatum ds
+
+pub record FineContent (c : AnimContent) : Type 0 where
+  pub short : length (c .name) ≤ 28
+  pub name : FineText (c .name)
+  pub type : c .type < 5
+  pub count : length (c .infos) < 256
+  pub infos : All FineInfo (c .infos)
+
+-- all but the written length
+pub record Fine (r : PaneAnimInfo) : Type 0 where
+  pub frames : r .frames < 65536
+  pub looping : r .looping < 2
+  pub textureCount : length (r .textures) < 65536
+  pub contentCount : length (r .contents) < 65536
+  pub textures : All FineText (r .textures)
+  pub contents : All FineContent (r .contents)
+
+pub record Within (r : PaneAnimInfo) : Type 0 where
+  pub fine : Fine r
+  pub short : size (sectionLay r) ≤ limit

@@ -1,0 +1,40 @@
+-- The public call of writing: for any arguments what it answers, and what the output holds afterwards (document 01, 'Writing' and the
+-- refusals' table, 6 to 9).
+use Prim.Native.Nat.{ℕ}
+use mathlib.Core.List.{List, [], _∷_}
+use lib.Dec.{leb}
+use lib.ListN.{length}
+use lib.Seq.{sets}
+use Rattle.core.specs.Choice.{pick}
+use Rattle.core.specs.Outcome.{Outcome, accepted}
+use Rattle.bflan.specs.declared.write.WriteAnswer.{WriteAnswer}
+use Rattle.bflan.specs.declared.write.WriteAnswer.the-variants.{Written, BadWord, BadText, OverLimit, OutputTooShort}
+use Rattle.bflan.specs.Answer.{refused}
+use Rattle.bflan.specs.Judge.{Judged, fine, badWord, badText, section}
+use Rattle.bflan.specs.Layout.{size, written, sectionLay}
+use Rattle.bflan.specs.Limits.{limit}
+use Rattle.bflan.specs.Record.{PaneAnimInfo}
+
+-- ---- numbers and values
+
+unfoldable pub ofWriting : WriteAnswer → Outcome
+ofWriting (Written len) = accepted (len ∷ [])
+ofWriting (BadWord index) = refused 6 (index ∷ [])
+ofWriting (BadText index) = refused 7 (index ∷ [])
+ofWriting OverLimit = refused 8 (limit ∷ [])
+ofWriting (OutputTooShort len) = refused 9 (len ∷ [])
+
+-- ---- the answer, and the output
+
+unfoldable pub stored : List ℕ → ℕ → List ℕ → Outcome × List ℕ
+stored out len bytes =
+    pick (leb len limit) (pick (leb len (length out)) (accepted (len ∷ []), sets out 0 bytes) (refused 9 (len ∷ []), out))
+    (refused 8 (limit ∷ []), out)
+
+unfoldable pub judged : List ℕ → Judged PaneAnimInfo → Outcome × List ℕ
+judged out (badWord index) = (refused 6 (index ∷ []), out)
+judged out (badText index) = (refused 7 (index ∷ []), out)
+judged out (fine r words texts) = stored out (size (sectionLay r)) (written (sectionLay r))
+
+unfoldable pub writing : List ℕ → List ℕ → List ℕ → Outcome × List ℕ
+writing words texts out = judged out (section words texts 0 0)

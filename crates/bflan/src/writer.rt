@@ -1,0 +1,8 @@
+// Writing a record that was judged: the parts of a section, stored one after another.
+
+// Where the writing stands: the next word, the next text byte, and the next byte of the section.
+pub struct Pen {
+    pub word: usize,
+    pub byte: usize,
+    pub at: usize,
+}

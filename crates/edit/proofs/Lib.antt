@@ -1,0 +1,3 @@
+pub mod Demand
+pub mod Entries
+pub mod Pai1

@@ -1,0 +1,4 @@
+pub mod Editing
+pub mod Format
+pub mod Journal
+pub mod Machine

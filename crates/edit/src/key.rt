@@ -1,0 +1,9 @@
+// A new key, with the floats that it has (document 01, 'Form by location').
+use core::float::Binary32;
+use core::float::Hermite;
+
+pub enum NewKey {
+    Constant(Binary32),
+    Step(Binary32, u16),
+    Hermite(Hermite),
+}

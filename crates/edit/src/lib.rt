@@ -1,0 +1,4 @@
+// Edits of a finished section in place, with a journal, and their undoing.
+pub mod edit;
+pub mod key;
+pub mod undo;
