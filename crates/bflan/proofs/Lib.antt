@@ -8,6 +8,8 @@ pub mod Exercises
 pub mod InfoParts
 pub mod KeyRuns
 pub mod Layouts
+pub mod MeasureParts
+pub mod Measures
 pub mod ReadBack
 pub mod RoundTrip
 pub mod SectionParts
