@@ -25,10 +25,10 @@ use Rattle.bflan.specs.Reader.{P, Item, many}
 use Rattle.bflan.specs.Reading.{datum}
 use Rattle.bflan.specs.Record.{AnimTarget, ExtendedUserDataAnim, AnimInfo, Standard, ExtendedUserData, AnimContent, PaneAnimInfo, keyWidths, Cell, each, datumCells}
 use Rattle.bflan.proofs.Codes.{fleu-lt, fit-lt, letters-own}
-use Rattle.bflan.proofs.Layouts.{size-written, Stands, stands-left, stands-right, stands-to, stands-all, stands-get, size-table}
+use Rattle.bflan.proofs.Layouts.{size-written, Stands, stands-left, stands-right, stands-to, stands-all, stands-get, size-table, user-size}
 use Rattle.bflan.proofs.ReadBack.{Reads, reads-as, reads-none, reads-joined, ReadsPart}
 use Rattle.bflan.proofs.Replacing.{Replaces, replaces-to, replaces-left, replaces-right, replaces-whole, replaces-number, size-row, length-row, length-changed, no-element, ahead, ahead-even, table-entry, Element, element}
-use Rattle.bflan.proofs.RoundTrip.{datum-reads, user-size}
+use Rattle.bflan.proofs.RoundTrip.{datum-reads}
 use Rattle.bflan.proofs.TargetParts.{curve-low, count-low}
 use Rattle.bflan.proofs.Walks.{many-suc}
 
@@ -305,7 +305,7 @@ module _ (s : List ℕ) (short : length s ≤ 16777216) where
           let from : ℕ = tableFrom (c .type) + 4 * n in
           let total : ℕ = from + size (parts infoLay (c .infos)) - infosOut (c .infos) in
           let z : length (replicate {A = ℕ} (28 - length (c .name)) 0) ≡ 28 - length (c .name) = length-replicate (28 - length (c .name)) 0 in
-          let u : 32 + size (userLay (c .type) total) ≡ tableFrom (c .type) = user-size s short (c .type) total in
+          let u : 32 + size (userLay (c .type) total) ≡ tableFrom (c .type) = user-size (c .type) total in
           let lt : size (table infoLay from (c .infos)) ≡ 4 * n = size-table infoLay from (c .infos) in
           rw (length-changed, quiet, ← p .same, el .tabled g from (r .same))
           (replaces-to (replaces-right _ (replaces-right _ (replaces-right _ (replaces-right _ (replaces-right _ (replaces-right _ (replaces-right _ p))))))) (omega (arith, z, sh, u, lt)))
@@ -341,7 +341,7 @@ module _ (s : List ℕ) (short : length s ≤ 16777216) where
       let total : ℕ = from + size (parts infoLay (c .infos)) - infosOut (c .infos) in
       let z : length (replicate {A = ℕ} (28 - length (c .name)) 0) ≡ 28 - length (c .name) = length-replicate (28 - length (c .name)) 0 in
       let sh : length (c .name) ≤ 28 = f .short in
-      let u : 32 + size (userLay (c .type) total) ≡ tableFrom (c .type) = user-size s short (c .type) total in
+      let u : 32 + size (userLay (c .type) total) ≡ tableFrom (c .type) = user-size (c .type) total in
       let lt : size (table infoLay from (c .infos)) ≡ 4 * n = size-table infoLay from (c .infos) in
       let g2 : Stands s (b + 28) (number 1 n) = stands-to (stands-left h2) (omega (arith, z, sh)) in
       let g3 : Stands s (b + 29) (number 1 (c .type)) = stands-to (stands-left h3) (omega (arith, z, sh)) in

@@ -11,6 +11,8 @@ pub mod InfoParts
 pub mod Judging
 pub mod KeyRuns
 pub mod Layouts
+pub mod MeasureParts
+pub mod Measures
 pub mod ReadBack
 pub mod Replacing
 pub mod RoundTrip

@@ -21,7 +21,7 @@ pub enum Walk {
     No(Fault),
 }
 
-fn add(a: usize, b: usize) -> usize
+pub(crate) fn add(a: usize, b: usize) -> usize
     ensures { λ r. ⌜ r ≡ sat (a + b) ⌝ }
 {
     if b <= 18446744073709551615 - a {
