@@ -12,7 +12,10 @@ use Rattle.core.proofs.Stores.{sets-append}
 use Rattle.core.proofs.utf8.Laws.{decode-bound}
 use Rattle.core.proofs.utf8.Turns.{part-is}
 use Rattle.bflan.specs.declared.tally.Tally.{Tally}
-use Rattle.bflan.specs.declared.tally.Walk.the-variants.{On}
+use Rattle.bflan.specs.declared.tally.Walk.the-variants.{On, No}
+use Rattle.bflan.specs.declared.texture.Name.{Name}
+use Rattle.bflan.specs.declared.texture.Name.the-variants.{Found, Missing}
+use Rattle.bflan.specs.declared.fault.Fault.{Fault}
 use Rattle.core.specs.Number.{readOf}
 use Rattle.core.specs.Seek.{seekOf}
 use Rattle.core.specs.Text.{endedOf}
@@ -23,8 +26,8 @@ use Rattle.bflan.specs.declared.fault.Fault.the-variants.{PastEnd, NoZer
 use Rattle.bflan.specs.Reader.{Res, ok, stop, Item, word, text, num, seekTo, endedText, oneEnded}
 use Rattle.bflan.specs.Reading.{texture}
 use Rattle.bflan.proofs.KeyRuns.{moved-more}
-use Rattle.bflan.proofs.Walks.{before, run-before, sets-sat}
-use Rattle.bflan.specs.Walk.{shownAt, wordsOf, textsOf, sat, moved, named, tallied, run, told}
+use Rattle.bflan.proofs.Walks.{before, run-before, sets-sat, told-stop}
+use Rattle.bflan.specs.Walk.{shownAt, wordsOf, textsOf, sat, moved, named, tallied, run, told, asName, nameEnd}
 
 -- the decoded length of a part of a section
 pub shown-size : (s : List ℕ) (start len size : ℕ) (part : List ℕ) → start + len ≤ length s → length s ≤ 16777216 → part ≡ slice start (start + len) s → size ≡ decodedSize part
@@ -107,6 +110,18 @@ module _ (s : List ℕ) (base i : ℕ) where
   pub texture-past : (offset requested : ℕ) → seekOf s base ≡ SoughtPast offset requested → texture base s i ≡ stop (PastEnd offset requested)
   unfolding texture
   texture-past offset requested e = rw (sought-past s base i offset requested e)
+
+-- ---- a name that was looked for
+
+pub stored-name : (s : List ℕ) (t : Tally) (w x : List ℕ) (r : Name) (g : Res (List Item)) (a n q : ℕ) (t′ : Tally) (w′ x′ : List ℕ) → asName r ≡ g → r ≡ Found a n q
+    → t′ ≡ named t a n (length (shownAt s a n)) → w′ ≡ set w (t .words) (length (shownAt s a n)) → x′ ≡ sets x (t .bytes) (shownAt s a n) → told (On t′ q) w′ x′ ≡ run s t w x g
+stored-name s t w x r g a n q t′ w′ x′ eg er et ew ex = run-text s t w x a n q t′ w′ x′ et ew ex ∙ ap (run s t w x) (sym (ap asName er) ∙ eg)
+
+pub no-name : (s : List ℕ) (t : Tally) (w x : List ℕ) (r : Name) (g : Res (List Item)) (f : Fault) (w′ x′ : List ℕ) → asName r ≡ g → r ≡ Missing f → told (No f) w′ x′ ≡ run s t w x g
+no-name s t w x r g f w′ x′ eg er = told-stop s t w x w′ x′ f ∙ ap (run s t w x) (sym (ap asName er) ∙ eg)
+
+pub name-fits : (r : Name) (a n q m : ℕ) → nameEnd r ≤ m → r ≡ Found a n q → a + n ≤ m
+name-fits r a n q m h e = let k : nameEnd r ≡ a + n = ap nameEnd e in omega (arith, h, k)
 
 -- ---- two words in front of what follows
 

@@ -9,6 +9,8 @@ use Rattle.core.specs.Utf8.{decode}
 use Rattle.core.specs.declared.run.Run.{Run}
 use Rattle.core.specs.declared.run.Run.the-variants.{Next, Cut}
 use Rattle.bflan.specs.declared.fault.Fault.the-variants.{PastEnd}
+use Rattle.bflan.specs.declared.texture.Name.{Name}
+use Rattle.bflan.specs.declared.texture.Name.the-variants.{Found, Missing}
 use Rattle.bflan.specs.declared.content.Place.{Place}
 use Rattle.bflan.specs.declared.content.Place.the-variants.{There, Stop}
 use Rattle.bflan.specs.declared.tally.Tally.{Tally}
@@ -87,3 +89,12 @@ told (No f) w x = (No f, [], [])
 abbrev pub asPlace : Place → Res ℕ
 asPlace (There p) = ok p p
 asPlace (Stop f) = stop f
+
+-- a name that was looked for, and where it ends
+abbrev pub asName : Name → Res (List Item)
+asName (Found a n q) = ok (text a n ∷ []) q
+asName (Missing f) = stop f
+
+abbrev pub nameEnd : Name → ℕ
+nameEnd (Found a n q) = a + n
+nameEnd (Missing f) = 0

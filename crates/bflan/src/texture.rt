@@ -5,7 +5,7 @@ ghost use lib.ListN.{length};
 ghost use Rattle.core.specs.Run.{numbersAt};
 ghost use Rattle.bflan.specs.Reader.{oneEnded, visit};
 ghost use Rattle.bflan.specs.Reading.{texture};
-ghost use Rattle.bflan.specs.Walk.{run, told};
+ghost use Rattle.bflan.specs.Walk.{asName, nameEnd, run, told};
 use crate::emit::put_text;
 use crate::fault::Fault;
 use crate::offset::offset_at;
@@ -16,19 +16,35 @@ use core::seek::seek;
 use core::text::TextAt;
 use core::text::ended_text;
 
-// A text that ends at a zero.
-pub(crate) fn ended_here(s: &[u8], p: usize, words: &mut [u32], texts: &mut [u8], t: Tally) -> Walk
-    requires { ⌜ length (now s) ≤ 16777216 ⌝ }
-    ensures { λ r. ⌜ told r (now (words .exit)) (now (texts .exit)) ≡ run (now (s .entry)) t (now (words .entry)) (now (texts .entry)) (oneEnded (now (s .entry)) p) ⌝ }
+// A name that was looked for.
+pub enum Name {
+    // Where it starts, its length, and the position behind its zero.
+    Found(usize, usize, usize),
+    Missing(Fault),
+}
+
+// The text at `p` that ends at a zero.
+fn ended_name(s: &[u8], p: usize) -> Name
+    ensures { λ r. ⌜ (asName r ≡ oneEnded (now (s .entry)) p) × (nameEnd r ≤ length (now (s .entry))) ⌝ }
 {
     match ended_text(s, p) {
-        TextAt::Text(len, next) => Walk::On(put_text(s, p, len, words, texts, t), next),
-        TextAt::Past(offset, requested) => Walk::No(Fault::PastEnd(offset, requested)),
-        TextAt::Unended(start) => Walk::No(Fault::NoZero(start)),
+        TextAt::Text(len, next) => Name::Found(p, len, next),
+        TextAt::Past(offset, requested) => Name::Missing(Fault::PastEnd(offset, requested)),
+        TextAt::Unended(from) => Name::Missing(Fault::NoZero(from)),
     }
 }
 
-// The texture name that starts at `base`.
+// The texture name that starts at `base`, where it stands,
+fn name_at(s: &[u8], base: usize) -> Name
+    ensures { λ r. ⌜ ((i : ℕ) → asName r ≡ texture base (now (s .entry)) i) × (nameEnd r ≤ length (now (s .entry))) ⌝ }
+{
+    match seek(s, base) {
+        Sought::At(p) => ended_name(s, p),
+        Sought::Past(offset, requested) => Name::Missing(Fault::PastEnd(offset, requested)),
+    }
+}
+
+// and stored.
 pub(crate) fn texture_at(
     s: &[u8],
     base: usize,
@@ -39,13 +55,14 @@ pub(crate) fn texture_at(
     requires { ⌜ length (now s) ≤ 16777216 ⌝ }
     ensures { λ r. ⌜ ((i : ℕ) → told r (now (words .exit)) (now (texts .exit)) ≡ run (now (s .entry)) t (now (words .entry)) (now (texts .entry)) (texture base (now (s .entry)) i)) ⌝ }
 {
-    match seek(s, base) {
-        Sought::At(p) => ended_here(s, p, words, texts, t),
-        Sought::Past(offset, requested) => Walk::No(Fault::PastEnd(offset, requested)),
+    match name_at(s, base) {
+        Name::Missing(f) => Walk::No(f),
+        Name::Found(from, len, next) => Walk::On(put_text(s, from, len, words, texts, t), next),
     }
 }
 
-// The texture names at the `n` offsets of the table at `table`, which count from `base`.
+// The texture names at the `n` offsets of the table at `table`, which count from `base`. Each is found and then stored, with no tally handed back
+// by a call: its words would be stored one by one and read in pairs, which a processor has to wait for.
 pub(crate) fn textures(
     s: &[u8],
     base: usize,
@@ -65,13 +82,13 @@ pub(crate) fn textures(
     let mut u = t;
     while 0 < left {
         let off = offset_at(s, at);
-        match texture_at(s, base + off, words, texts, u) {
-            Walk::No(f) => {
+        match name_at(s, base + off) {
+            Name::Missing(f) => {
                 return Walk::No(f);
             }
-            Walk::On(v, q) => {
-                u = v;
-                p = q;
+            Name::Found(from, len, next) => {
+                u = put_text(s, from, len, words, texts, u);
+                p = next;
             }
         }
         at += 4;

@@ -44,27 +44,38 @@ fill-room l o n v e =
     ∙ sym (sets-append l o (take n v) (drop n v))
     ∙ ap (sets l o) (take-append-drop n v)
 
--- n bytes as the first k and the last k of them
-pub fill-ends : (l : List ℕ) (o n k : ℕ) (v : List ℕ) → k ≤ n → n ≤ k + k → n ≤ length v
-    → sets (sets l o (take k (drop 0 v))) (o + (n - k)) (take k (drop (n - k) v)) ≡ sets l o (take n v)
-fill-ends l o n k v h g f =
-    let d = n - k in
-    let a = take (n - k) v in
-    let e : length (take (n - k) v) ≡ n - k = length-take-le (n - k) v (omega arith) in
-    let p : (n - k) + k ≡ n = omega arith in
-    let q : (n - k) + (k - (n - k)) ≡ k = omega arith in
-    let m = length-drop (n - k) v in
-    let b : length (take k (drop (n - k) v)) ≡ k = length-take-le k (drop (n - k) v) (omega arith) in
-    let c : length (take (k - (n - k)) (drop (n - k) v)) ≡ k - (n - k) = length-take-le (k - (n - k)) (drop (n - k) v) (omega arith) in
-    let all : sets l o (take n v) ≡ sets (sets l o (take (n - k) v)) (o + (n - k)) (take k (drop (n - k) v)) =
-    ap (sets l o) (ap (λ (i : ℕ). take i v) (sym p) ∙ take-add (n - k) k v) ∙ sets-append l o (take (n - k) v) (take k (drop (n - k) v))
-    ∙ ap (λ (i : ℕ). sets (sets l o (take (n - k) v)) (o + i) (take k (drop (n - k) v))) e in
-    let first : sets l o (take k v) ≡ sets (sets l o (take (n - k) v)) (o + (n - k)) (take (k - (n - k)) (drop (n - k) v)) =
-    ap (sets l o) (ap (λ (i : ℕ). take i v) (sym q) ∙ take-add (n - k) (k - (n - k)) v) ∙ sets-append l o (take (n - k) v) (take (k - (n - k)) (drop (n - k) v))
-    ∙ ap (λ (i : ℕ). sets (sets l o (take (n - k) v)) (o + i) (take (k - (n - k)) (drop (n - k) v))) e in
-    ap (λ (x : List ℕ). sets x (o + (n - k)) (take k (drop (n - k) v))) first
-    ∙ sets-over (sets l o (take (n - k) v)) (o + (n - k)) (take (k - (n - k)) (drop (n - k) v)) (take k (drop (n - k) v)) (omega (arith, b, c))
+-- the first m bytes are there: k bytes from p on, which may be among them, carry them on
+fill-next : (l : List ℕ) (o m p k : ℕ) (v : List ℕ) → p ≤ m → m ≤ p + k → p + k ≤ length v
+    → sets (sets l o (take m v)) (o + p) (take k (drop p v)) ≡ sets l o (take (p + k) v)
+fill-next l o m p k v h g f =
+    let e : length (take p v) ≡ p = length-take-le p v (omega arith) in
+    let q : p + (m - p) ≡ m = omega arith in
+    let d = length-drop p v in
+    let b : length (take k (drop p v)) ≡ k = length-take-le k (drop p v) (omega arith) in
+    let c : length (take (m - p) (drop p v)) ≡ m - p = length-take-le (m - p) (drop p v) (omega arith) in
+    let all : sets l o (take (p + k) v) ≡ sets (sets l o (take p v)) (o + p) (take k (drop p v)) =
+    ap (sets l o) (take-add p k v) ∙ sets-append l o (take p v) (take k (drop p v))
+    ∙ ap (λ (i : ℕ). sets (sets l o (take p v)) (o + i) (take k (drop p v))) e in
+    let first : sets l o (take m v) ≡ sets (sets l o (take p v)) (o + p) (take (m - p) (drop p v)) =
+    ap (sets l o) (ap (λ (i : ℕ). take i v) (sym q) ∙ take-add p (m - p) v) ∙ sets-append l o (take p v) (take (m - p) (drop p v))
+    ∙ ap (λ (i : ℕ). sets (sets l o (take p v)) (o + i) (take (m - p) (drop p v))) e in
+    ap (λ (x : List ℕ). sets x (o + p) (take k (drop p v))) first
+    ∙ sets-over (sets l o (take p v)) (o + p) (take (m - p) (drop p v)) (take k (drop p v)) (omega (arith, b, c))
     ∙ sym all
+
+-- n bytes as four blocks of 8
+pub fill-four : (l : List ℕ) (o n b c : ℕ) (v : List ℕ) (l₁ l₂ l₃ l₄ : List ℕ) → 8 ≤ n → n ≤ 32 → n ≤ length v → b ≡ min 8 (n - 8) → c ≡ min 16 (n - 8)
+    → l₁ ≡ sets l o (take 8 (drop 0 v)) → l₂ ≡ sets l₁ (o + b) (take 8 (drop b v)) → l₃ ≡ sets l₂ (o + c) (take 8 (drop c v))
+    → l₄ ≡ sets l₃ (o + (n - 8)) (take 8 (drop (n - 8) v)) → l₄ ≡ sets l o (take n v)
+fill-four l o n b c v l₁ l₂ l₃ l₄ h g f eb ec e₁ e₂ e₃ e₄ =
+    let s₂ : l₂ ≡ sets l o (take (b + 8) v) =
+    e₂ ∙ ap (λ (x : List ℕ). sets x (o + b) (take 8 (drop b v))) e₁ ∙ fill-next l o 8 b 8 v (omega arith) (omega arith) (omega arith) in
+    let s₃ : l₃ ≡ sets l o (take (c + 8) v) =
+    e₃ ∙ ap (λ (x : List ℕ). sets x (o + c) (take 8 (drop c v))) s₂ ∙ fill-next l o (b + 8) c 8 v (omega arith) (omega arith) (omega arith) in
+    let m : n - 8 + 8 ≡ n = omega arith in
+    e₄ ∙ ap (λ (x : List ℕ). sets x (o + (n - 8)) (take 8 (drop (n - 8) v))) s₃
+    ∙ fill-next l o (c + 8) (n - 8) 8 v (omega arith) (omega arith) (omega arith)
+    ∙ ap (λ (i : ℕ). sets l o (take i v)) m
 
 -- a turn of a loop that takes the bytes of v from i on into a list b
 pub load-turn : (v b : List ℕ) (i k : ℕ) → i + k < length v → k < length b → take k b ≡ take k (drop i v)

@@ -146,6 +146,40 @@ block-zero s at n h e = go (leb (at + n) (beforeZero s)) refl
         absurd (true≢false z)
     go false q = leb-false (at + n) (beforeZero s) q
 
+-- four blocks of 8, by what is known of the first three
+pub zero-in-four : (s : List ℕ) (at : ℕ) (x y z : Bool) (i j k : ℕ) → at + 32 ≤ length s → at ≤ beforeZero s → beforeZero s < at + 32
+    → x ≡ zeroFree (take 8 (drop at s)) → y ≡ zeroFree (take 8 (drop (at + 8) s)) → z ≡ zeroFree (take 8 (drop (at + 16) s))
+    → i ≡ pick x 8 0 → j ≡ pick (x && y) 8 0 → k ≡ pick ((x && y) && z) 8 0 → (at + i + j + k ≤ beforeZero s) × (beforeZero s < at + i + j + k + 8)
+zero-in-four s at false y z i j k h l m ex ey ez ei ej ek =
+    let a : i ≡ 0 = ei in
+    let b : j ≡ 0 = ej in
+    let c : k ≡ 0 = ek in
+    let f = block-zero s at 8 l (sym ex) in
+    (omega (arith, a, b, c, f), omega (arith, a, b, c, f))
+zero-in-four s at true false z i j k h l m ex ey ez ei ej ek =
+    let a : i ≡ 8 = ei in
+    let b : j ≡ 0 = ej in
+    let c : k ≡ 0 = ek in
+    let p : at + 8 ≤ beforeZero s = block-free s at 8 l (omega arith) (sym ex) in
+    let f = block-zero s (at + 8) 8 p (sym ey) in
+    (omega (arith, a, b, c, p, f), omega (arith, a, b, c, p, f))
+zero-in-four s at true true false i j k h l m ex ey ez ei ej ek =
+    let a : i ≡ 8 = ei in
+    let b : j ≡ 8 = ej in
+    let c : k ≡ 0 = ek in
+    let p : at + 8 ≤ beforeZero s = block-free s at 8 l (omega arith) (sym ex) in
+    let q : at + 8 + 8 ≤ beforeZero s = block-free s (at + 8) 8 p (omega arith) (sym ey) in
+    let f = block-zero s (at + 16) 8 (omega (arith, q)) (sym ez) in
+    (omega (arith, a, b, c, q, f), omega (arith, a, b, c, q, f))
+zero-in-four s at true true true i j k h l m ex ey ez ei ej ek =
+    let a : i ≡ 8 = ei in
+    let b : j ≡ 8 = ej in
+    let c : k ≡ 8 = ek in
+    let p : at + 8 ≤ beforeZero s = block-free s at 8 l (omega arith) (sym ex) in
+    let q : at + 8 + 8 ≤ beforeZero s = block-free s (at + 8) 8 p (omega arith) (sym ey) in
+    let f : at + 16 + 8 ≤ beforeZero s = block-free s (at + 16) 8 (omega (arith, q)) (omega arith) (sym ez) in
+    (omega (arith, a, b, c, f), omega (arith, a, b, c, m))
+
 -- a turn of a loop that counts the bytes before a zero: `one` is what a byte more counts, 0 behind a zero
 counting-off : (z k n one : ℕ) → z ≤ k → n ≡ min k z → (n + 0 ≡ min (k + 1) z) × (0 ≡ min 1 (suc z - (k + 1)))
 counting-off z k n one h e = (omega arith, omega arith)

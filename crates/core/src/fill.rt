@@ -61,14 +61,24 @@ fn copy_block(src: &[u8], from: usize, out: &mut [u8], at: usize, n: usize)
     copy_first(&block, out, at, n);
 }
 
-// `n` bytes that are no more than two blocks: the first block and the last, which may overlap.
-fn copy_ends(src: &[u8], out: &mut [u8], at: usize, n: usize, size: usize)
-    requires { ⌜ (size ≤ 16) × (size ≤ n) × (n ≤ size + size) × (n ≤ length (now src)) × (n ≤ length (now out) - at) ⌝ }
+pub(crate) fn least(a: usize, b: usize) -> usize
+    ensures { λ r. ⌜ r ≡ min a b ⌝ }
+{
+    if a < b { a } else { b }
+}
+
+// 8 to 32 bytes as four blocks, which may overlap: one way for all these lengths, which a processor could not foresee.
+fn copy_four(src: &[u8], out: &mut [u8], at: usize, n: usize)
+    requires { ⌜ (8 ≤ n) × (n ≤ 32) × (n ≤ length (now src)) × (n ≤ length (now out) - at) ⌝ }
     ensures { λ _. ⌜ now (out .exit) ≡ sets (now (out .entry)) at (take n (now (src .entry))) ⌝ }
 {
-    copy_block(src, 0, out, at, size);
-    let last = n - size;
-    copy_block(src, last, out, at + last, size);
+    let last = n - 8;
+    let b = least(8, last);
+    let c = least(16, last);
+    copy_block(src, 0, out, at, 8);
+    copy_block(src, b, out, at + b, 8);
+    copy_block(src, c, out, at + c, 8);
+    copy_block(src, last, out, at + last, 8);
 }
 
 // The bytes of `src`, from `at` on, and the place behind those that were stored. Short ones go by blocks: a loop, or a call that moves memory,
@@ -81,12 +91,8 @@ pub(crate) fn copy_on(src: &[u8], out: &mut [u8], at: usize) -> usize
         copy_first(src, out, at, n);
         return at + n;
     }
-    if n < 16 {
-        copy_ends(src, out, at, n, 8);
-        return at + n;
-    }
     if n < 33 {
-        copy_ends(src, out, at, n, 16);
+        copy_four(src, out, at, n);
         return at + n;
     }
     copy_first(src, out, at, n);

@@ -71,6 +71,24 @@ fn clear_bytes(text: &[u8], at: usize) -> usize
     n
 }
 
+fn eight_if(test: bool) -> usize
+    ensures { λ r. ⌜ (r ≡ pick test 8 0) × (r ≤ 8) ⌝ }
+{
+    if test { 8 } else { 0 }
+}
+
+// Where the 8 of the 32 bytes from `at` on start that have the first zero. The blocks are tested side by side and those before it added up,
+// again with no test on the way.
+fn zero_block(text: &[u8], at: usize) -> usize
+    requires { ⌜ (at + 32 ≤ length (now text)) × (at ≤ beforeZero (now text)) × (beforeZero (now text) < at + 32) ⌝ }
+    ensures { λ r. ⌜ (r ≤ beforeZero (now (text .entry))) × (beforeZero (now (text .entry)) < r + 8) × (r + 8 ≤ length (now (text .entry))) ⌝ }
+{
+    let a = clear_in(text, at, 8);
+    let b = clear_in(text, at + 8, 8);
+    let c = clear_in(text, at + 16, 8);
+    at + eight_if(a) + eight_if(a & b) + eight_if(a & b & c)
+}
+
 // The first zero at or after `at`, or the text's length.
 fn zero_from(text: &[u8], at: usize) -> usize
     requires { ⌜ at ≤ length (now text) ⌝ }
@@ -95,6 +113,10 @@ pub fn first_zero(text: &[u8]) -> usize
         return zero_from(text, 0);
     }
     let far = clear_blocks(text, 0, 32);
+    if 32 <= n - far {
+        let block = zero_block(text, far);
+        return block + clear_bytes(text, block);
+    }
     let near = clear_blocks(text, far, 8);
     let last = n - 8;
     if near < last {

@@ -131,9 +131,12 @@ pub ascii-last : (s : List ℕ) (i m : ℕ) → m ≤ length s → length s ≤ 
     → ((k : ℕ) → k < m → getD s (length s - m + k) 0 < 128) → (k : ℕ) → k < length s → getD s k 0 < 128
 ascii-last s i m l e f g k h = ascii-on s (length s - m) m (λ j q. f j (omega arith)) g k (omega arith)
 
-pub ascii-two : (s : List ℕ) (m : ℕ) → m ≤ length s → length s ≤ m + m → ((k : ℕ) → k < m → getD s (0 + k) 0 < 128)
-    → ((k : ℕ) → k < m → getD s (length s - m + k) 0 < 128) → (k : ℕ) → k < length s → getD s k 0 < 128
-ascii-two s m l e f g = ascii-last s m m l e (λ k h. rw zero-add at (f k h)) g
+pub ascii-four : (s : List ℕ) (b c : ℕ) → 8 ≤ length s → length s ≤ 32 → b ≡ min 8 (length s - 8) → c ≡ min 16 (length s - 8)
+    → ((k : ℕ) → k < 8 → getD s (0 + k) 0 < 128) → ((k : ℕ) → k < 8 → getD s (b + k) 0 < 128) → ((k : ℕ) → k < 8 → getD s (c + k) 0 < 128)
+    → ((k : ℕ) → k < 8 → getD s (length s - 8 + k) 0 < 128) → (k : ℕ) → k < length s → getD s k 0 < 128
+ascii-four s b c l e eb ec f g h i =
+    ascii-last s (c + 8) 8 l (omega arith)
+    (λ k x. ascii-on s c 8 (λ j y. ascii-on s b 8 (λ n z. rw zero-add at (f n (omega arith))) g j (omega arith)) h k x) i
 
 -- a text that is all ASCII is its own decoding
 pub ascii-sound : (s : List ℕ) → ((j : ℕ) → j < length s → getD s j 0 < 128) → sound s ≡ length s

@@ -5,6 +5,7 @@ ghost use Prim.Native.Nat.{ℕ, _+_, _≤_, _<_, max};
 ghost use lib.ListN.{length, getD, drop};
 ghost use Rattle.core.specs.Utf8.{Classes, sound, illSize};
 ghost use Rattle.core.specs.Flow.{stateOf, Rows, Flow};
+use crate::fill::least;
 use crate::utf8::flow::flow_over;
 use crate::utf8::flow::next_state;
 
@@ -28,7 +29,23 @@ fn ascii_in(s: &[u8], at: usize, n: usize) -> bool
     all
 }
 
-// The same of a whole text, by blocks of which the last may overlap the one before it: from 32 bytes on,
+// The same, and that none of them is zero: both tests are one comparison of vectors, which gives a mask at once. A text that was found by its
+// zero has no other.
+fn plain_in(s: &[u8], at: usize, n: usize) -> bool
+    requires { ⌜ at + n ≤ length (now s) ⌝ }
+    ensures { λ r. ⌜ (r ≡ true → (k : ℕ) → k < n → getD (now (s .entry)) (at + k) 0 < 128) ⌝ }
+{
+    let mut all = true;
+    let mut k = 0;
+    while k < n {
+        let b = s[at + k];
+        all = all & (b != 0) & (b < 128);
+        k += 1;
+    }
+    all
+}
+
+// Whether a whole text is ASCII, by blocks of which the last may overlap the one before it: from 32 bytes on,
 fn ascii_long(s: &[u8]) -> bool
     requires { ⌜ 32 ≤ length (now s) ⌝ }
     ensures { λ r. ⌜ (r ≡ true → (k : ℕ) → k < length (now (s .entry)) → getD (now (s .entry)) k 0 < 128) ⌝ }
@@ -45,17 +62,20 @@ fn ascii_long(s: &[u8]) -> bool
     ascii_in(s, n - 32, 32)
 }
 
-// the first and the last bytes of one that has no more than twice as many,
-fn ascii_ends(s: &[u8], size: usize) -> bool
-    requires { ⌜ (size ≤ length (now s)) × (length (now s) ≤ size + size) ⌝ }
+// of one that has 8 to 32: whatever its length, four blocks, so that the processor has no length to foresee,
+fn plain_four(s: &[u8]) -> bool
+    requires { ⌜ (8 ≤ length (now s)) × (length (now s) ≤ 32) ⌝ }
     ensures { λ r. ⌜ (r ≡ true → (k : ℕ) → k < length (now (s .entry)) → getD (now (s .entry)) k 0 < 128) ⌝ }
 {
-    let first = ascii_in(s, 0, size);
-    let last = ascii_in(s, s.len() - size, size);
-    first & last
+    let last = s.len() - 8;
+    let a = plain_in(s, 0, 8);
+    let b = plain_in(s, least(8, last), 8);
+    let c = plain_in(s, least(16, last), 8);
+    let d = plain_in(s, last, 8);
+    a & b & c & d
 }
 
-// and of any.
+// and any. A short text with a zero in it may be passed over.
 pub(crate) fn is_ascii(s: &[u8]) -> bool
     ensures { λ r. ⌜ (r ≡ true → (k : ℕ) → k < length (now (s .entry)) → getD (now (s .entry)) k 0 < 128) ⌝ }
 {
@@ -63,11 +83,8 @@ pub(crate) fn is_ascii(s: &[u8]) -> bool
     if n < 8 {
         return ascii_in(s, 0, n);
     }
-    if n < 16 {
-        return ascii_ends(s, 8);
-    }
-    if n < 32 {
-        return ascii_ends(s, 16);
+    if n < 33 {
+        return plain_four(s);
     }
     ascii_long(s)
 }

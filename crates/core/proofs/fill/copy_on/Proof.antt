@@ -21,8 +21,8 @@ same-length c = search needs
 returns : tie.Need-returns
 returns c = (c .before .before .copy-first .ensures ∙ fill-room _ _ _ _ (c .before .before .before .before .before .room .ensures), search needs)
 
-copy-ends-requires : tie.Need-copy-ends-requires
-copy-ends-requires c κs = search needs
+copy-four-requires : tie.Need-copy-four-requires
+copy-four-requires c κs = search needs
 
 add-result-2 : tie.Need-add-result-2
 add-result-2 c = search needs
@@ -31,10 +31,10 @@ same-length-2 : tie.Need-same-length-2
 same-length-2 c = search needs
 
 returns-2 : tie.Need-returns-2
-returns-2 c = (c .before .before .copy-ends .ensures ∙ fill-room _ _ _ _ (c .before .before .before .before .before .before .room .ensures), search needs)
+returns-2 c = (c .before .before .copy-four .ensures ∙ fill-room _ _ _ _ (c .before .before .before .before .before .before .room .ensures), search needs)
 
-copy-ends-requires-2 : tie.Need-copy-ends-requires-2
-copy-ends-requires-2 c κs = search needs
+copy-first-requires-2 : tie.Need-copy-first-requires-2
+copy-first-requires-2 c κs = search needs
 
 add-result-3 : tie.Need-add-result-3
 add-result-3 c = search needs
@@ -43,19 +43,7 @@ same-length-3 : tie.Need-same-length-3
 same-length-3 c = search needs
 
 returns-3 : tie.Need-returns-3
-returns-3 c = (c .before .before .copy-ends2 .ensures ∙ fill-room _ _ _ _ (c .before .before .before .before .before .before .before .room .ensures), search needs)
-
-copy-first-requires-2 : tie.Need-copy-first-requires-2
-copy-first-requires-2 c κs = search needs
-
-add-result-4 : tie.Need-add-result-4
-add-result-4 c = search needs
-
-same-length-4 : tie.Need-same-length-4
-same-length-4 c = search needs
-
-returns-4 : tie.Need-returns-4
-returns-4 c = (c .before .before .copy-first2 .ensures ∙ fill-room _ _ _ _ (c .before .before .before .before .before .before .before .room .ensures), search needs)
+returns-3 c = (c .before .before .copy-first2 .ensures ∙ fill-room _ _ _ _ (c .before .before .before .before .before .before .room .ensures), search needs)
 
 pub copy-on-spec : {M : Type 1} → statement M
 copy-on-spec =
@@ -66,15 +54,11 @@ copy-on-spec =
     add-result
     same-length
     returns
-    copy-ends-requires
+    copy-four-requires
     add-result-2
     same-length-2
     returns-2
-    copy-ends-requires-2
+    copy-first-requires-2
     add-result-3
     same-length-3
-    returns-3
-    copy-first-requires-2
-    add-result-4
-    same-length-4
-    returns-4)
+    returns-3)

@@ -11,23 +11,17 @@ ascii-in-requires c κs = search needs
 returns : tie.Need-returns
 returns c = λ e k h. rw zero-add at (c .ascii-in .ensures e k h)
 
-ascii-ends-requires : tie.Need-ascii-ends-requires
-ascii-ends-requires c κs = search needs
+plain-four-requires : tie.Need-plain-four-requires
+plain-four-requires c κs = search needs
 
 returns-2 : tie.Need-returns-2
 returns-2 c = search needs
 
-ascii-ends-requires-2 : tie.Need-ascii-ends-requires-2
-ascii-ends-requires-2 c κs = search needs
-
-returns-3 : tie.Need-returns-3
-returns-3 c = search needs
-
 ascii-long-requires : tie.Need-ascii-long-requires
 ascii-long-requires c κs = search needs
 
-returns-4 : tie.Need-returns-4
-returns-4 c = search needs
+returns-3 : tie.Need-returns-3
+returns-3 c = search needs
 
 pub is-ascii-spec : {M : Type 1} → statement M
 is-ascii-spec =
@@ -35,9 +29,7 @@ is-ascii-spec =
     (tie.spec
     ascii-in-requires
     returns
-    ascii-ends-requires
+    plain-four-requires
     returns-2
-    ascii-ends-requires-2
-    returns-3
     ascii-long-requires
-    returns-4)
+    returns-3)

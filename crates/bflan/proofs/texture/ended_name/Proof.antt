@@ -1,0 +1,47 @@
+-- `texture::ended_name` meets its contract.
+-- Assumes nothing.
+use Prim.Native.Nat.{_≤_}
+use mathlib.Core.Path.{sym, _∙_}
+use native.Mathlib.Omega.{arith}
+use denote.Ref.{now}
+use lib.ListN.{length}
+use Rattle.core.proofs.Zeros.{ended-text}
+use Rattle.bflan.proofs.Emits.{ended-on, ended-past, ended-none}
+use borrow.Author.Needs.{needs}
+use Rattle.bflan.proofs.texture.ended_name.Statement.{statement}
+use Rattle.bflan.proofs.texture.ended_name.Tie as tie
+
+ended-text-requires : tie.Need-ended-text-requires
+ended-text-requires c κs = search needs
+
+enum-known-len : tie.Need-enum-known-len
+enum-known-len c = search needs
+
+enum-known-offset : tie.Need-enum-known-offset
+enum-known-offset c = search needs
+
+enum-known-from : tie.Need-enum-known-from
+enum-known-from c = search needs
+
+returns : tie.Need-returns
+returns c =
+    let t = ended-text _ _ _ _ (sym (c .before .before .before .ended-text .ensures) ∙ c .before .len .given .1) in
+    (sym (ended-on _ _ _ _ (sym (c .before .before .before .ended-text .ensures) ∙ c .before .len .given .1)), omega (arith, t .fits, t .after))
+
+returns-2 : tie.Need-returns-2
+returns-2 c = let h : 0 ≤ length (now (c .before .before .before .before .before .args .s)) = omega arith in (sym (ended-past _ _ _ _ (sym (c .before .before .before .ended-text .ensures) ∙ c .before .offset .given .1)), h)
+
+returns-3 : tie.Need-returns-3
+returns-3 c = let h : 0 ≤ length (now (c .before .before .before .before .before .args .s)) = omega arith in (sym (ended-none _ _ _ (sym (c .before .before .before .ended-text .ensures) ∙ c .before .from .given .1)), h)
+
+pub ended-name-spec : {M : Type 1} → statement M
+ended-name-spec =
+    tie.close
+    (tie.spec
+    ended-text-requires
+    enum-known-len
+    enum-known-offset
+    enum-known-from
+    returns
+    returns-2
+    returns-3)

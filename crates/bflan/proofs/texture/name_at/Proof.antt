@@ -1,0 +1,34 @@
+-- `texture::name_at` meets its contract.
+-- Assumes nothing.
+use Prim.Native.Nat.{_≤_}
+use mathlib.Core.Path.{sym, _∙_}
+use native.Mathlib.Omega.{arith}
+use denote.Ref.{now}
+use lib.ListN.{length}
+use Rattle.bflan.proofs.Emits.{texture-on, texture-past}
+use borrow.Author.Needs.{needs}
+use Rattle.bflan.proofs.texture.name_at.Statement.{statement}
+use Rattle.bflan.proofs.texture.name_at.Tie as tie
+
+seek-requires : tie.Need-seek-requires
+seek-requires c κs = search needs
+
+enum-known-p : tie.Need-enum-known-p
+enum-known-p c = search needs
+
+ended-name-requires : tie.Need-ended-name-requires
+ended-name-requires c κs = search needs
+
+enum-known-offset : tie.Need-enum-known-offset
+enum-known-offset c = search needs
+
+returns : tie.Need-returns
+returns c = (λ i. c .ended-name .ensures .0 ∙ sym (texture-on _ _ i _ (sym (c .before .before .before .before .seek .ensures) ∙ c .before .before .p .given .1)), c .ended-name .ensures .1)
+
+returns-2 : tie.Need-returns-2
+returns-2 c = let h : 0 ≤ length (now (c .before .before .before .before .before .args .s)) = omega arith in (λ i. sym (texture-past _ _ i _ _ (sym (c .before .before .before .seek .ensures) ∙ c .before .offset .given .1)), h)
+
+pub name-at-spec : {M : Type 1} → statement M
+name-at-spec =
+    tie.close
+    (tie.spec seek-requires enum-known-p ended-name-requires enum-known-offset returns returns-2)

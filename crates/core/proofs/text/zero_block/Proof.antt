@@ -1,0 +1,63 @@
+-- `text::zero_block` meets its contract.
+-- Assumes nothing.
+use native.Mathlib.Omega.{arith}
+use denote.Ref.{now}
+use Rattle.core.proofs.Zeros.{zero-in-four}
+use borrow.Author.Needs.{needs}
+use Rattle.core.proofs.text.zero_block.Statement.{statement}
+use Rattle.core.proofs.text.zero_block.Tie as tie
+
+clear-in-requires : tie.Need-clear-in-requires
+clear-in-requires c κs = search needs
+
+add-clear-in : tie.Need-add-clear-in
+add-clear-in c = search needs
+
+clear-in-requires-2 : tie.Need-clear-in-requires-2
+clear-in-requires-2 c κs = search needs
+
+add-clear-in-2 : tie.Need-add-clear-in-2
+add-clear-in-2 c = search needs
+
+clear-in-requires-3 : tie.Need-clear-in-requires-3
+clear-in-requires-3 c κs = search needs
+
+eight-if-requires : tie.Need-eight-if-requires
+eight-if-requires c κs = search needs
+
+add-result : tie.Need-add-result
+add-result c = omega (arith, c .eight-if .ensures .1)
+
+eight-if-requires-2 : tie.Need-eight-if-requires-2
+eight-if-requires-2 c κs = search needs
+
+add-result-2 : tie.Need-add-result-2
+add-result-2 c = omega (arith, c .eight-if2 .ensures .1, c .before .eight-if .ensures .1)
+
+eight-if-requires-3 : tie.Need-eight-if-requires-3
+eight-if-requires-3 c κs = search needs
+
+add-result-3 : tie.Need-add-result-3
+add-result-3 c = omega (arith, c .eight-if3 .ensures .1, c .before .eight-if2 .ensures .1, c .before .before .eight-if .ensures .1)
+
+returns : tie.Need-returns
+returns c =
+    let z = zero-in-four (now (c .before .before .before .before .before .before .before .args .text)) (c .before .before .before .before .before .before .before .args .at) _ _ _ _ _ _ (c .before .before .before .before .before .before .before .pre .0) (c .before .before .before .before .before .before .before .pre .1) (c .before .before .before .before .before .before .before .pre .2) (c .before .before .before .before .before .clear-in .ensures) (c .before .before .before .before .clear-in2 .ensures) (c .before .before .before .clear-in3 .ensures) (c .before .before .eight-if .ensures .0) (c .before .eight-if2 .ensures .0) (c .eight-if3 .ensures .0) in
+    (z .0, z .1, omega (arith, c .eight-if3 .ensures .1, c .before .eight-if2 .ensures .1, c .before .before .eight-if .ensures .1, c .before .before .before .before .before .before .before .pre .0))
+
+pub zero-block-spec : {M : Type 1} → statement M
+zero-block-spec =
+    tie.close
+    (tie.spec
+    clear-in-requires
+    add-clear-in
+    clear-in-requires-2
+    add-clear-in-2
+    clear-in-requires-3
+    eight-if-requires
+    add-result
+    eight-if-requires-2
+    add-result-2
+    eight-if-requires-3
+    add-result-3
+    returns)
