@@ -6,12 +6,14 @@ pub mod DatumParts
 pub mod Emits
 pub mod Exercises
 pub mod InfoParts
+pub mod Inversion
 pub mod Judging
 pub mod KeyRuns
 pub mod Layouts
 pub mod ReadBack
 pub mod RoundTrip
 pub mod SectionParts
+pub mod Storing
 pub mod TargetParts
 pub mod Verdicts
 pub mod Walks
