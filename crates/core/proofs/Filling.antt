@@ -18,12 +18,12 @@ pub fill-turn : (l : List ℕ) (o i : ℕ) (v : List ℕ) → i < length v
 fill-turn l o i v h = rw (drop-cons v i 0 h, add-one i, add-suc)
 
 -- a run with no byte, or at a place with no room, stores nothing
-none : (l : List ℕ) (o : ℕ) (v : List ℕ) → min (length v) (length l - o) ≡ 0 → sets l o v ≡ l
-none l o [] e = refl
-none l o (x ∷ v) e = sets-out l o (x ∷ v) (omega arith)
+pub fill-none : (l : List ℕ) (o : ℕ) (v : List ℕ) → min (length v) (length l - o) ≡ 0 → sets l o v ≡ l
+fill-none l o [] e = refl
+fill-none l o (x ∷ v) e = sets-out l o (x ∷ v) (omega arith)
 
 pub fill-end : (l : List ℕ) (o i : ℕ) (v : List ℕ) → min (length v) (length l - o) ≤ i → sets l (o + i) (drop i v) ≡ l
-fill-end l o i v h = let e = length-drop i v in none l (o + i) (drop i v) (omega arith)
+fill-end l o i v h = let e = length-drop i v in fill-none l (o + i) (drop i v) (omega arith)
 
 -- a turn that stores of a run v the first n
 pub fill-first : (l : List ℕ) (o i n : ℕ) (v : List ℕ) → n ≤ length v → i < n

@@ -67,7 +67,7 @@ unfolding val
 val-lt [] h = omega arith
 val-lt (b ∷ bs) h = above (length bs) b (val bs) (h 0) (val-lt bs (λ i. h (suc i)))
 
-low : (b n : ℕ) → b < 256 → (b + 256 * n) % 256 ≡ b
+pub low : (b n : ℕ) → b < 256 → (b + 256 * n) % 256 ≡ b
 low b n h = omega arith
 
 high : (b n : ℕ) → b < 256 → (b + 256 * n) / 256 ≡ n

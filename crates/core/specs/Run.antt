@@ -1,11 +1,11 @@
 -- Runs of numbers, one after another (document 01, 'The section': keys, lists and offset tables).
 use Prim.Native.Nat.{ℕ, zero, suc, _+_, _-_, _*_, _/_}
-use mathlib.Core.List.{List, [], _∷_}
+use mathlib.Core.List.{List, [], _∷_, _++_}
 use lib.Dec.{leb}
 use lib.ListN.{length}
 use lib.Seq.{sets}
 use Rattle.core.specs.Choice.{pick}
-use Rattle.core.specs.Number.{get}
+use Rattle.core.specs.Number.{le, get}
 use Rattle.core.specs.declared.run.Run.{Run}
 use Rattle.core.specs.declared.run.Run.the-variants.{Next, Cut}
 
@@ -34,3 +34,14 @@ pairsOf n s at = pick (leb n ((length s - at + 2) / 8)) (Next (at + 8 * n)) (cut
 unfoldable pub storedRun : Run → List ℕ → ℕ → List ℕ → List ℕ
 storedRun (Next next) out o v = sets out o v
 storedRun (Cut at k) out o v = out
+
+-- numbers of four bytes, one after another
+unfoldable pub numbersLe : List ℕ → List ℕ
+numbersLe [] = []
+numbersLe (v ∷ vs) = le 4 v ++ numbersLe vs
+
+-- pairs of a number of four bytes and one of two, two zeros behind each; a number without a second is dropped
+unfoldable pub pairsLe : List ℕ → List ℕ
+pairsLe [] = []
+pairsLe (a ∷ []) = []
+pairsLe (a ∷ b ∷ vs) = le 4 a ++ (le 2 b ++ (0 ∷ 0 ∷ pairsLe vs))

@@ -101,13 +101,11 @@ pub fn write_u16(out: &mut [u8], at: usize, v: u16)
     out[b1] = (v1 % 256) as u8;
 }
 
-pub fn write_u32(out: &mut [u8], at: usize, v: u32)
+// Four bytes at a place that has room for them.
+pub(crate) fn store_four(out: &mut [u8], at: usize, v: u32)
+    requires { ⌜ at + 4 ≤ length (now out) ⌝ }
     ensures { λ _. ⌜ now (out .exit) ≡ put 4 (now (out .entry)) at v ⌝ }
 {
-    if ahead(at, out.len()) < 4 {
-        write_clipped(out, at, 4, v);
-        return;
-    }
     let b1 = at + 1;
     let b2 = b1 + 1;
     let b3 = b2 + 1;
@@ -118,4 +116,14 @@ pub fn write_u32(out: &mut [u8], at: usize, v: u32)
     out[b1] = (v1 % 256) as u8;
     out[b2] = (v2 % 256) as u8;
     out[b3] = (v3 % 256) as u8;
+}
+
+pub fn write_u32(out: &mut [u8], at: usize, v: u32)
+    ensures { λ _. ⌜ now (out .exit) ≡ put 4 (now (out .entry)) at v ⌝ }
+{
+    if ahead(at, out.len()) < 4 {
+        write_clipped(out, at, 4, v);
+        return;
+    }
+    store_four(out, at, v);
 }

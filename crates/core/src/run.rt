@@ -1,12 +1,17 @@
-// Runs of numbers: tested once, then read in a plain loop into a slice of words. What would stand past the end of that slice is dropped.
+// Runs of numbers: tested once, then read in a plain loop into a slice of words, or written from one. What would stand past the end of the slice
+// that is stored into is dropped.
 ghost use mathlib.Core.Path.{_≡_};
-ghost use Prim.Native.Nat.{_-_, _/_};
-ghost use lib.ListN.{length, set};
-ghost use Rattle.core.specs.Run.{numbersAt, numbersOf, pairsAt, pairsOf, cutPair, storedRun};
+ghost use mathlib.Core.List.{[], _∷_};
+ghost use Prim.Native.Nat.{_+_, _-_, _*_, _/_, _≤_};
+ghost use lib.ListN.{length, set, take, drop};
+ghost use lib.Seq.{sets};
+ghost use Rattle.core.specs.Run.{numbersAt, numbersOf, pairsAt, pairsOf, cutPair, storedRun, numbersLe, pairsLe};
 use crate::fill::ahead;
 use crate::fill::room;
 use crate::number::four;
+use crate::number::store_four;
 use crate::number::two;
+use crate::number::write_u32;
 
 // What a run gives.
 pub enum Run {
@@ -92,4 +97,67 @@ fn cut_pair(s: &[u8], at: usize) -> Run
         return Run::Cut(at, 4);
     }
     Run::Cut(at + 4, 2)
+}
+
+// The `n` words from `from` on as numbers of four bytes, stored from `at` on. Those that have room go by a loop that tests nothing, so that it
+// becomes wide moves; of the next one the first bytes may have room.
+pub fn write_numbers(words: &[u32], from: usize, n: usize, out: &mut [u8], at: usize)
+    ensures { λ _. ⌜ now (out .exit) ≡ sets (now (out .entry)) at (numbersLe (take n (drop from (now (words .entry))))) ⌝ }
+{
+    let m = room(n, from, words.len());
+    let full = room(m, 0, ahead(at, out.len()) / 4);
+    let mut k = 0;
+    while k < full {
+        store_four(out, at + 4 * k, words[from + k]);
+        k += 1;
+    }
+    if full < m {
+        write_u32(out, at + 4 * full, words[from + full]);
+    }
+}
+
+// A pair at a place that has room for it. Its second number and the two zeros go as one number of four bytes: a loop over two equal
+// stores becomes wide moves, one over three unequal ones does not.
+fn store_pair(out: &mut [u8], at: usize, a: u32, b: u32)
+    requires { ⌜ at + 8 ≤ length (now out) ⌝ }
+    ensures { λ _. ⌜ now (out .exit) ≡ sets (now (out .entry)) at (pairsLe (a ∷ b ∷ [])) ⌝ }
+{
+    store_four(out, at, a);
+    store_four(out, at + 4, b % 65536);
+}
+
+// A pair, as much of it as has room.
+fn clip_pair(out: &mut [u8], at: usize, a: u32, b: u32)
+    ensures { λ _. ⌜ now (out .exit) ≡ sets (now (out .entry)) at (pairsLe (a ∷ b ∷ [])) ⌝ }
+{
+    if at < out.len() {
+        write_u32(out, at, a);
+        write_u32(out, at + 4, b % 65536);
+    }
+}
+
+// The `n` pairs of words from `from` on, each a number of four bytes and one of two in eight bytes, stored from `at` on as the numbers are.
+pub fn write_pairs(words: &[u32], from: usize, n: usize, out: &mut [u8], at: usize)
+    ensures { λ _. ⌜ now (out .exit) ≡ sets (now (out .entry)) at (pairsLe (take (2 * n) (drop from (now (words .entry))))) ⌝ }
+{
+    let m = room(n, 0, ahead(from, words.len()) / 2);
+    let full = room(m, 0, ahead(at, out.len()) / 8);
+    let mut k = 0;
+    while k < full {
+        store_pair(
+            out,
+            at + 8 * k,
+            words[from + 2 * k],
+            words[from + 2 * k + 1],
+        );
+        k += 1;
+    }
+    if full < m {
+        clip_pair(
+            out,
+            at + 8 * full,
+            words[from + 2 * full],
+            words[from + 2 * full + 1],
+        );
+    }
 }

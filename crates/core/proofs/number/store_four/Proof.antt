@@ -1,23 +1,11 @@
--- `number::write_u32` meets its contract: byte by byte, as the definition of the number's bytes goes. Assumes nothing.
+-- `number::store_four` meets its contract: byte by byte, as the definition of the number's bytes goes. Assumes nothing.
+use borrow.Author.Needs.{needs}
+use Rattle.core.proofs.number.store_four.Statement.{statement}
+use Rattle.core.proofs.number.store_four.Tie as tie
 use native.Mathlib.Numerals.{add-one}
 use native.Mathlib.Omega.{arith}
 use lib.ListN.{length-set}
 use Rattle.core.specs.Number.{le, put}
-use borrow.Author.Needs.{needs}
-use Rattle.core.proofs.number.write_u32.Statement.{statement}
-use Rattle.core.proofs.number.write_u32.Tie as tie
-
-ahead-requires : tie.Need-ahead-requires
-ahead-requires c κs = search needs
-
-write-clipped-requires : tie.Need-write-clipped-requires
-write-clipped-requires c κs = search needs
-
-same-length : tie.Need-same-length
-same-length c = search needs
-
-returns : tie.Need-returns
-returns c = search needs
 
 add-b1 : tie.Need-add-b1
 add-b1 c = search needs
@@ -52,21 +40,17 @@ cast-out-4 c = search needs
 slice-write-out-4 : tie.Need-slice-write-out-4
 slice-write-out-4 c = simp length-set (omega arith)
 
-same-length-2 : tie.Need-same-length-2
-same-length-2 c = search needs
+same-length : tie.Need-same-length
+same-length c = search needs
 
-returns-2 : tie.Need-returns-2
+returns : tie.Need-returns
 unfolding put le
-returns-2 c = simp add-one
+returns c = simp add-one
 
-pub write-u32-spec : {M : Type 1} → statement M
-write-u32-spec =
+pub store-four-spec : {M : Type 1} → statement M
+store-four-spec =
     tie.close
     (tie.spec
-    ahead-requires
-    write-clipped-requires
-    same-length
-    returns
     add-b1
     add-b2
     add-b3
@@ -78,5 +62,5 @@ write-u32-spec =
     slice-write-out-3
     cast-out-4
     slice-write-out-4
-    same-length-2
-    returns-2)
+    same-length
+    returns)
