@@ -93,30 +93,43 @@ module _ {X : Type 0} (p : J X) (w x : List ℕ) where
   times-length zero i j e = ap length (times-none i j e .0)
   times-length (suc n) i j e = times-more n i j e λ y zs m o a b q. ap length q ∙ ap suc (times-length n m o b)
 
--- words of four bytes
-pub record ValuesAt (n : ℕ) (w : List ℕ) (i j : ℕ) (vs : List ℕ) (k l : ℕ) : Type 0 where
+-- n words as they are
+pub record WordsAt (n : ℕ) (w : List ℕ) (i j : ℕ) (vs : List ℕ) (k l : ℕ) : Type 0 where
   pub same : vs ≡ take n (drop i w)
+  pub count : length vs ≡ n
   pub word : k ≡ i + n
   pub byte : l ≡ j
   pub there : (most : ℕ) → i ≤ most → length w ≤ most → k ≤ most
 
-pub values-at : (n : ℕ) (w x : List ℕ) (i j : ℕ) {vs : List ℕ} {k l : ℕ} → times n (word (wide 4)) w x i j ≡ fine vs k l → ValuesAt n w i j vs k l
-unfolding times
-values-at zero w x i j e =
-    let h = times-none (word (wide 4)) w x i j e in
-    record { same = h .0; word = omega (arith, h .1); byte = h .2; there = λ most a b. omega (arith, h .1, a) }
-values-at (suc n) w x i j e =
-    opened-word w x i j (wide 4) _ e λ h g e.
-    opened w x (i + 1) j (times n (word (wide 4))) _ e λ us m o a e.
-    let r = values-at n w x (i + 1) j a in
+no-words : {w : List ℕ} {i j : ℕ} → WordsAt 0 w i j [] i j
+no-words = record { same = refl; count = refl; word = omega arith; byte = refl; there = λ most a b. a }
+
+more-words : {n : ℕ} {w : List ℕ} {i j : ℕ} {vs : List ℕ} {k l : ℕ} → i < length w → WordsAt n w (i + 1) j vs k l → WordsAt (suc n) w i j (getD w i 0 ∷ vs) k l
+more-words {n} {w} {i} h r =
     let d : drop (i + 1) w ≡ drop (suc i) w = ap (λ (q : ℕ). drop q w) (add-one i) in
-    fine-to (λ (vs : List ℕ) (k l : ℕ). ValuesAt (suc n) w i j vs k l) e
-    (record {
+    record {
       same = rw (drop-cons w i 0 h, ← d) (ap (λ (z : List ℕ). getD w i 0 ∷ z) (r .same));
+      count = ap suc (r .count);
       word = omega (arith, r .word);
       byte = r .byte;
       there = λ most a b. r .there most (omega (arith, h, b)) b;
-    })
+    }
+
+pub row-at : (ks : List ℕ) (w x : List ℕ) (i j : ℕ) {vs : List ℕ} {k l : ℕ} → row ks w x i j ≡ fine vs k l → WordsAt (length ks) w i j vs k l
+unfolding row
+row-at [] w x i j e = fine-to (λ (vs : List ℕ) (k l : ℕ). WordsAt 0 w i j vs k l) e no-words
+row-at (c ∷ ks) w x i j e =
+    opened-word w x i j (wide c) _ e λ h g e.
+    opened w x (i + 1) j (row ks) _ e λ us m o a e.
+    fine-to (λ (vs : List ℕ) (k l : ℕ). WordsAt (suc (length ks)) w i j vs k l) e (more-words h (row-at ks w x (i + 1) j a))
+
+pub values-at : (n : ℕ) (w x : List ℕ) (i j : ℕ) {vs : List ℕ} {k l : ℕ} → times n (word (wide 4)) w x i j ≡ fine vs k l → WordsAt n w i j vs k l
+unfolding times
+values-at zero w x i j e = fine-to (λ (vs : List ℕ) (k l : ℕ). WordsAt 0 w i j vs k l) e no-words
+values-at (suc n) w x i j e =
+    opened-word w x i j (wide 4) _ e λ h g e.
+    opened w x (i + 1) j (times n (word (wide 4))) _ e λ us m o a e.
+    fine-to (λ (vs : List ℕ) (k l : ℕ). WordsAt (suc n) w i j vs k l) e (more-words h (values-at n w x (i + 1) j a))
 
 -- ---- the parts
 
@@ -149,6 +162,7 @@ pub record DatumAt (w x : List ℕ) (i j : ℕ) (d : ExtendedUserDataAnim) (k l 
   pub baseCount : d .baseCount ≡ getD w (i + 3) 0
   pub unk3 : d .unk3 ≡ getD w (i + 4) 0
   pub values : d .values ≡ take (3 * getD w (i + 3) 0) (drop (i + 5) w)
+  pub count : length (d .values) ≡ 3 * getD w (i + 3) 0
   pub key : text (wide 4) w x (i + 5 + 3 * getD w (i + 3) 0) j ≡ fine (d .key) k l
 
 pub datum-at : (w x : List ℕ) (i j : ℕ) {d : ExtendedUserDataAnim} {k l : ℕ} → datum w x i j ≡ fine d k l → DatumAt w x i j d k l
@@ -167,7 +181,7 @@ datum-at w x i j e =
     let v = values-at (3 * getD w (i + 3) 0) w x (i + 5) j a in
     opened w x (i + 5 + 3 * getD w (i + 3) 0) j (text (wide 4)) _ (rw (v .word, v .byte) at e) λ key m n b e.
     fine-to (λ (d : ExtendedUserDataAnim) (k l : ℕ). DatumAt w x i j d k l) e
-    (record { headerSize = refl; unk1 = refl; unk2 = refl; baseCount = refl; unk3 = refl; values = v .same; key = b })
+    (record { headerSize = refl; unk1 = refl; unk2 = refl; baseCount = refl; unk3 = refl; values = v .same; count = v .count; key = b })
 
 -- an info of either kind
 pub record InfoAt (w x : List ℕ) (i j : ℕ) (a : AnimInfo) (k l : ℕ) : Type 0 where

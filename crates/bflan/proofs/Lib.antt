@@ -13,6 +13,7 @@ pub mod Layouts
 pub mod ReadBack
 pub mod RoundTrip
 pub mod SectionParts
+pub mod StoredParts
 pub mod Storing
 pub mod TargetParts
 pub mod Verdicts

@@ -10,7 +10,7 @@ use lib.ListN.{length, getD, length-append}
 use lib.Seq.{sets, length-sets}
 use Rattle.core.specs.Number.{le, put}
 use Rattle.core.proofs.Apart.{sets-past}
-use Rattle.core.proofs.Numbers.{length-le}
+use Rattle.core.proofs.Numbers.{length-le, patch-late}
 use Rattle.core.proofs.Stores.{sets-append}
 use Rattle.bflan.specs.declared.writer.Pen.{Pen}
 use Rattle.bflan.specs.Judge.{Judged, fine, badWord, badText, J, times, row, target}
@@ -42,6 +42,19 @@ module _ {l m : List ℕ} {at : ℕ} where
   wrote-then {a} {b} {p} {r} h k e =
       record { same = rw (sets-append l at (written a) (written b), size-written a, ← h .same, ← e) (k .same) }
 
+  pub wrote-like : {a b : Layout} → Wrote l at a m → written a ≡ written b → Wrote l at b m
+  wrote-like {a} {b} h e = record { same = h .same ∙ ap (sets l at) e }
+
+-- a number with something behind it, patched late
+pub wrote-patched : {l o : List ℕ} {at k m : ℕ} {a b : Layout} → Wrote l at (a ⨾ number k m ⨾ b) o → (p n : ℕ) {r : List ℕ} → p ≡ at + size a → r ≡ put k o p n
+    → Wrote l at (a ⨾ number k n ⨾ b) r
+unfolding put written
+wrote-patched {l} {o} {at} {k} {m} {a} {b} h p n {r} e f =
+    record { same = f ∙ ap (λ (z : List ℕ). put k z p n) (h .same ∙ apart m) ∙ patch-late k (sets l at (written a)) p m n (p + k) (written b) (inl (omega arith)) ∙ sym (apart n) }
+  where
+    apart : (v : ℕ) → sets l at (written a ++ (le k v ++ written b)) ≡ sets (put k (sets l at (written a)) p v) (p + k) (written b)
+    apart v = rw (sets-append l at (written a) (le k v ++ written b), size-written a, ← e, sets-append (sets l at (written a)) p (le k v) (written b), length-le)
+
 -- ---- what was judged fine
 
 module _ {A : Type 0} (lay : A → Layout) {r : Judged A} {a : A} {i j : ℕ} (e : r ≡ fine a i j) where
@@ -61,17 +74,17 @@ module _ {A : Type 0} (lay : A → Layout) {r : Judged A} {a : A} {i j : ℕ} (e
 -- ---- a part of two: the first and the rest
 
 pub record Splits {A B C : Type 0} (lay : A → Layout) (r : Judged A) (one : B → Layout) (s : Judged B) (two : C → Layout) (t : Judged C) : Type 0 where
-  whole : A
-  first : B
-  rest : C
-  word : ℕ
-  byte : ℕ
-  next-word : ℕ
-  next-byte : ℕ
-  all : r ≡ fine whole word byte
-  starts : s ≡ fine first next-word next-byte
-  goes-on : t ≡ fine rest word byte
-  same : written (lay whole) ≡ written (one first) ++ written (two rest)
+  pub whole : A
+  pub first : B
+  pub rest : C
+  pub word : ℕ
+  pub byte : ℕ
+  pub next-word : ℕ
+  pub next-byte : ℕ
+  pub all : r ≡ fine whole word byte
+  pub starts : s ≡ fine first next-word next-byte
+  pub goes-on : t ≡ fine rest word byte
+  pub same : written (lay whole) ≡ written (one first) ++ written (two rest)
 
 module _ {A B C : Type 0} {lay : A → Layout} {r : Judged A} {one : B → Layout} {s : Judged B} {two : C → Layout} {t : Judged C}
     (h : Splits lay r one s two t) where
@@ -109,6 +122,50 @@ module _ {A B C : Type 0} {lay : A → Layout} {r : Judged A} {one : B → Layou
         let p : q .at ≡ at + size (one (h .first)) = ap (λ (z : Pen). z .at) (e ∙ behind-fine one (h .starts) at) in
         rw (laid-fine two (h .goes-on) (q .at) (laid one s at out), laid-fine one (h .starts) at out, laid-fine lay (h .all) at out, h .same,
           sets-append out at (written (one (h .first))) (written (two (h .rest))), size-written (one (h .first)), p)
+
+-- the same, the first being plain fields
+module _ {A C : Type 0} {lay : A → Layout} {r : Judged A} {head : Layout} {i j : ℕ} {two : C → Layout} {t : Judged C}
+    (h : Splits lay r (λ (l : Layout). l) (fine head i j) two t) (at n : ℕ) (e : n ≡ size head) where
+  here : record { word = i; byte = j; at = at + n } ≡ behind (λ (l : Layout). l) (fine head i j) at
+  unfolding behind
+  here = rw e
+
+  pub head-ready : {most : ℕ} → Ready lay r at most → Ready two t (at + n) most
+  head-ready k = rest-ready h at k (record { word = i; byte = j; at = at + n }) here
+
+  pub head-done : (out : List ℕ) {m o : List ℕ} {u : Pen} → m ≡ sets out at (written head) → u ≡ behind two t (at + n) → o ≡ laid two t (at + n) m
+      → (u ≡ behind lay r at) × (o ≡ laid lay r at out)
+  unfolding laid
+  head-done out f g d = (g ∙ split-behind h at (record { word = i; byte = j; at = at + n }) here, d ∙ rw f (split-laid h at (record { word = i; byte = j; at = at + n }) here out))
+
+-- a part that was stored in pieces
+module _ {A : Type 0} (lay : A → Layout) {r : Judged A} {at most : ℕ} (h : Ready lay r at most) where
+  pub whole-laid : {l : Layout} {out m : List ℕ} → Wrote out at l m → written l ≡ written (lay (h .value)) → m ≡ laid lay r at out
+  whole-laid {l} {out} k e = k .same ∙ ap (sets out at) e ∙ sym (laid-fine lay (h .judged) at out)
+
+  pub whole-behind : {u : Pen} → u .word ≡ h .word → u .byte ≡ h .byte → u .at ≡ at + size (lay (h .value)) → u ≡ behind lay r at
+  whole-behind a b c = pen-is a b c ∙ sym (behind-fine lay (h .judged) at)
+    where
+      pen-is : {u : Pen} {i j k : ℕ} → u .word ≡ i → u .byte ≡ j → u .at ≡ k → u ≡ record { word = i; byte = j; at = k }
+      pen-is a b c = rw (← a, ← b, ← c)
+
+-- a part by another layout with the same bytes
+module _ {A : Type 0} (lay like : A → Layout) {r : Judged A} {at most : ℕ} (h : Ready lay r at most) (e : written (lay (h .value)) ≡ written (like (h .value))) where
+  like-size : size (lay (h .value)) ≡ size (like (h .value))
+  like-size = sym (size-written (lay (h .value))) ∙ ap length e ∙ size-written (like (h .value))
+
+  pub like-ready : Ready like r at most
+  like-ready =
+      record { value = h .value; word = h .word; byte = h .byte; judged = h .judged; room = rw (← like-size) (h .room); short = rw (← like-size) (h .short) }
+
+  pub like-behind : behind like r at ≡ behind lay r at
+  like-behind = behind-fine like (h .judged) at ∙ ap (λ (n : ℕ). record { word = h .word; byte = h .byte; at = at + n }) (sym like-size) ∙ sym (behind-fine lay (h .judged) at)
+
+  pub like-laid : (out : List ℕ) → laid like r at out ≡ laid lay r at out
+  like-laid out = laid-fine like (h .judged) at out ∙ ap (sets out at) (sym e) ∙ sym (laid-fine lay (h .judged) at out)
+
+pub ready-in : {A : Type 0} {lay : A → Layout} {r : Judged A} {at m n : ℕ} → n ≡ m → Ready lay r at m → Ready lay r at n
+ready-in e h = rw e h
 
 -- ---- the first of a run, and the rest of it
 
@@ -297,3 +354,7 @@ module _ {X : Type 0} (p : J X) (lay : X → Layout) (w x : List ℕ) (base : �
             ∙ listed-stored lay (q .at + 4 * n - base) (h .value) out (q .at) (q .at + 4 * n) (rw c refl)
             ∙ sym (laid-fine (listed lay (q .at + 4 * n - base)) (h .judged) (q .at) out);
       }
+
+  -- where its parts start
+  pub listed-fits : (from n i j at : ℕ) {most : ℕ} → Ready (listed lay from) (times n p w x i j) at most → at + 4 * n ≤ limit
+  listed-fits from n i j at h = omega (arith, listed-size lay from (h .value), times-length p w x n i j (h .judged), h .short)

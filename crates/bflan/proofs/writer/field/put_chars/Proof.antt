@@ -1,0 +1,38 @@
+-- `writer::field::put_chars` meets its contract.
+-- Assumes nothing.
+use borrow.Author.Needs.{needs}
+use Rattle.bflan.proofs.writer.field.put_chars.Statement.{statement}
+use Rattle.bflan.proofs.writer.field.put_chars.Tie as tie
+use Rattle.bflan.proofs.writer.field.put_chars.Reads as reads
+use Rattle.bflan.proofs.writer.field.put_chars.Lts as lts
+use Rattle.core.proofs.fill.copy.Reads as copy-reads
+use mathlib.Core.Path.{ap, sym, _∙_}
+use denote.Ref.{now}
+use lib.Seq.{sets}
+use Rattle.core.proofs.Parts.{take-drop}
+
+add-end : tie.Need-add-end
+add-end c = search needs
+
+sub-copy : tie.Need-sub-copy
+sub-copy c = search needs
+
+part-copy-start : tie.Need-part-copy-start
+part-copy-start c = search needs
+
+part-copy-end : tie.Need-part-copy-end
+part-copy-end c = search needs
+
+copy-requires : tie.Need-copy-requires
+copy-requires c κs = search needs
+
+same-length : tie.Need-same-length
+same-length c = search needs
+
+returns : tie.Need-returns
+returns c = c .before .before .copy .ensures ∙ ap (sets (now (c .before .before .before .before .before .before .before .args .out)) (c .before .before .before .before .before .before .before .args .at)) (sym (take-drop (c .before .before .before .before .before .before .before .args .n) (c .before .before .before .before .before .before .before .args .from) (now (c .before .before .before .before .before .before .before .args .texts))))
+
+pub put-chars-spec : {M : Type 1} → statement M
+put-chars-spec =
+    tie.close
+    (tie.spec add-end sub-copy part-copy-start part-copy-end copy-requires same-length returns)
