@@ -5,7 +5,7 @@ use mathlib.Core.Bool.{Bool, true, false}
 use mathlib.Core.List.{List, [], _∷_, _++_, append-assoc, append-nil}
 use native.Mathlib.Nat.{add-zero, add-comm, mul-zero, mul-suc, mul-assoc, pow-succ'}
 use native.Mathlib.Omega.{arith}
-use borrow.Author.Tests.{leb-true, eqb-true, eqb-false, ne-eqb}
+use borrow.Author.Tests.{leb-true, eqb-true, eqb-false, eq-eqb, ne-eqb}
 use lib.Dec.{eqb, leb, ltb}
 use lib.ListN.{length, getD, take, drop, replicate, length-drop, length-replicate}
 use lib.Seq.{sets, take-add, drop-drop, length-take-le}
@@ -188,7 +188,7 @@ unfolding numbersLe
 numbers-append [] b = refl
 numbers-append (v ∷ a) b = rw (numbers-append a b, append-assoc)
 
-pub coded-constant : Coded 0 1 4 numbersLe
+coded-constant : Coded 0 1 4 numbersLe
 unfolding keyWidths keyLay keySkip rowLay size written numbersLe
 coded-constant = record { words = refl; sizes = one-size; none = refl; more = λ vs us e. numbers-append vs us; key = one-key }
   where
@@ -201,7 +201,7 @@ coded-constant = record { words = refl; sizes = one-size; none = refl; more = λ
     one-key (a ∷ []) e = rw append-nil
     one-key (a ∷ b ∷ vs) e = absurd (omega arith)
 
-pub coded-step : Coded 1 2 8 pairsLe
+coded-step : Coded 1 2 8 pairsLe
 unfolding keyWidths keyLay keySkip rowLay size written pairsLe
 coded-step = record { words = refl; sizes = two-size; none = refl; more = two-more; key = two-key }
   where
@@ -222,7 +222,7 @@ coded-step = record { words = refl; sizes = two-size; none = refl; more = two-mo
     two-key (a ∷ b ∷ []) e = rw (append-nil, append-assoc)
     two-key (a ∷ b ∷ c ∷ vs) e = absurd (omega arith)
 
-pub coded-hermite : Coded 2 3 12 numbersLe
+coded-hermite : Coded 2 3 12 numbersLe
 unfolding keyWidths keyLay keySkip rowLay size written numbersLe
 coded-hermite = record { words = refl; sizes = three-size; none = refl; more = λ vs us e. numbers-append vs us; key = three-key }
   where
@@ -238,6 +238,16 @@ coded-hermite = record { words = refl; sizes = three-size; none = refl; more = �
     three-key (a ∷ b ∷ []) e = absurd (omega arith)
     three-key (a ∷ b ∷ c ∷ []) e = append-nil _
     three-key (a ∷ b ∷ c ∷ d ∷ vs) e = absurd (omega arith)
+
+module _ {curve : ℕ} where
+  pub constant-coded : curve ≡ 0 → Coded curve 1 4 numbersLe
+  constant-coded e = rw e coded-constant
+
+  pub step-coded : curve ≡ 1 → Coded curve 2 8 pairsLe
+  step-coded e = rw e coded-step
+
+  pub hermite-coded : curve < 3 → (curve ≡ 0 → ⊥) → (curve ≡ 1 → ⊥) → Coded curve 3 12 numbersLe
+  hermite-coded l a b = let e : curve ≡ 2 = omega arith in rw e coded-hermite
 
 -- parts of one size
 sized : {X : Type 0} (lay : X → Layout) (m : ℕ) → ((y : X) → size (lay y) ≡ m) → (xs : List X) → size (parts lay xs) ≡ m * length xs
@@ -300,28 +310,56 @@ module _ {curve c m : ℕ} {enc : List ℕ → List ℕ} (code : Coded curve c m
           whole-laid (parts (keyLay curve)) h (wrote-bytes e) (sym (g .same)),
         )
 
-pub target-splits : (letters : ℕ) (w x : List ℕ) (i j at : ℕ) {most : ℕ} → Ready targetLay (target letters w x i j) at most → (a b c n : ℕ)
-    → a ≡ getD w i 0 → b ≡ getD w (i + 1) 0 → c ≡ getD w (i + 2) 0 → n ≡ getD w (i + 3) 0
-    → Splits targetLay (target letters w x i j) (λ (l : Layout). l) (fine (targetHead a b c n) (i + 4) j)
-    (parts (keyLay c)) (times n (row (keyWidths c)) w x (i + 4) j)
-unfolding targetLay targetHead written
-target-splits letters w x i j at h a b c n ea eb ec en =
-    let t = target-at letters w x i j (h .judged) in
-    let k : times n (row (keyWidths c)) w x (i + 4) j ≡ fine (h .value .keys) (h .word) (h .byte) = rw (ec, en) (t .keys) in
-    let z : length (h .value .keys) ≡ n = times-length (row (keyWidths c)) w x n (i + 4) j k in
-    record {
-      whole = h .value;
-      first = targetHead a b c n;
-      rest = h .value .keys;
-      word = h .word;
-      byte = h .byte;
-      next-word = i + 4;
-      next-byte = j;
-      all = h .judged;
-      starts = refl;
-      goes-on = k;
-      same = rw (z, t .layer ∙ sym ea, t .number ∙ sym eb, t .curve ∙ sym ec) (simp append-assoc);
-    }
+-- a key of one word
+module _ {curve : ℕ} (z : curve ≡ 0) (n : ℕ) (w x : List ℕ) (i j at : ℕ) {most : ℕ} (h : Ready (parts (keyLay curve)) (times n (row (keyWidths curve)) w x i j) at most) where
+  pub constant-done : (out : List ℕ) {o : List ℕ} {u : Pen} → o ≡ sets out at (numbersLe (take n (drop i w))) → u ≡ record { word = i + n; byte = j; at = at + 4 * n }
+      → (u ≡ behind (parts (keyLay curve)) (times n (row (keyWidths curve)) w x i j) at) × (o ≡ laid (parts (keyLay curve)) (times n (row (keyWidths curve)) w x i j) at out)
+  constant-done out {o} {u} e f =
+      let k : 1 * n ≡ n = omega arith in
+      let e1 : o ≡ sets out at (numbersLe (take (1 * n) (drop i w))) = rw k e in
+      let f1 : u ≡ record { word = i + 1 * n; byte = j; at = at + 4 * n } = rw k f in
+      keys-done (constant-coded z) n w x i j at h out e1 f1
+
+module _ (letters : ℕ) (w x : List ℕ) (i j at : ℕ) {most : ℕ} (h : Ready targetLay (target letters w x i j) at most) where
+  t-at : TargetAt w x i j (h .value) (h .word) (h .byte)
+  t-at = target-at letters w x i j (h .judged)
+
+  pub target-there : (i + 4 ≤ length w) × (at + 12 ≤ limit)
+  unfolding targetLay size
+  target-there = (t-at .there, omega (arith, h .short))
+
+  module _ (a b c n : ℕ) (ea : a ≡ getD w i 0) (eb : b ≡ getD w (i + 1) 0) (ec : c ≡ getD w (i + 2) 0) (en : n ≡ getD w (i + 3) 0) where
+    target-splits : Splits targetLay (target letters w x i j) (λ (l : Layout). l) (fine (targetHead a b c n) (i + 4) j)
+        (parts (keyLay c)) (times n (row (keyWidths c)) w x (i + 4) j)
+    unfolding targetLay targetHead written
+    target-splits =
+        let k : times n (row (keyWidths c)) w x (i + 4) j ≡ fine (h .value .keys) (h .word) (h .byte) = rw (ec, en) (t-at .keys) in
+        let z : length (h .value .keys) ≡ n = times-length (row (keyWidths c)) w x n (i + 4) j k in
+        record {
+          whole = h .value;
+          first = targetHead a b c n;
+          rest = h .value .keys;
+          word = h .word;
+          byte = h .byte;
+          next-word = i + 4;
+          next-byte = j;
+          all = h .judged;
+          starts = refl;
+          goes-on = k;
+          same = rw (z, t-at .layer ∙ sym ea, t-at .number ∙ sym eb, t-at .curve ∙ sym ec) (simp append-assoc);
+        }
+
+    twelve : 12 ≡ size (targetHead a b c n)
+    unfolding targetHead size
+    twelve = refl
+
+    pub keys-ready : (c < 3) × (i + 4 ≤ length w) × Ready (parts (keyLay c)) (times n (row (keyWidths c)) w x (i + 4) j) (at + 12) most
+    keys-ready = (rw ec (t-at .low), t-at .there, head-ready target-splits at 12 twelve h)
+
+    pub target-done : (out : List ℕ) {m o : List ℕ} {u : Pen} → m ≡ sets out at (written (targetHead a b c n))
+        → u ≡ behind (parts (keyLay c)) (times n (row (keyWidths c)) w x (i + 4) j) (at + 12) → o ≡ laid (parts (keyLay c)) (times n (row (keyWidths c)) w x (i + 4) j) (at + 12) m
+        → (u ≡ behind targetLay (target letters w x i j) at) × (o ≡ laid targetLay (target letters w x i j) at out)
+    target-done out = head-done target-splits at 12 twelve out
 
 -- ---- an extended datum
 
@@ -339,6 +377,10 @@ pub fields-stored : (at a b c d e : ℕ) {l0 l1 l2 l3 l4 l5 : List ℕ} → l1 �
 unfolding size datumHead
 fields-stored at a b c d e e1 e2 e3 e4 e5 =
     wrote-then (wrote-number e1) (wrote-then (wrote-number e2) (wrote-then (wrote-number e3) (wrote-then (wrote-number e4) (wrote-number e5) (omega arith)) (omega arith)) (omega arith)) refl
+
+pub fields-by : {a b c d e p q r s t : ℕ} (out : List ℕ) (at : ℕ) {m : List ℕ} → a ≡ p → b ≡ q → c ≡ r → d ≡ s → e ≡ t
+    → m ≡ sets out at (written (datumHead a b c d e)) → m ≡ sets out at (written (datumHead p q r s t))
+fields-by out at ea eb ec ed ee h = rw (← ea, ← eb, ← ec, ← ed, ← ee) h
 
 pub front-stored : (w : List ℕ) (i at n : ℕ) {l0 l1 l2 l3 : List ℕ} → n ≡ 3 * getD w (i + 3) 0 → i + 5 + n ≤ length w
     → l1 ≡ sets l0 at (written (datumHead (getD w i 0) (getD w (i + 1) 0) (getD w (i + 2) 0) (getD w (i + 3) 0) (getD w (i + 4) 0)))
@@ -364,7 +406,7 @@ module _ (w x : List ℕ) (i j at : ℕ) {most : ℕ} (h : Ready datumLay (datum
   d : DatumAt w x i j (h .value) (h .word) (h .byte)
   d = datum-at w x i j (h .judged)
 
-  pub datum-splits : Splits datumLay (datum w x i j) (λ (l : Layout). l) (fine (datumFront w i) (i + 5 + 3 * getD w (i + 3) 0) j)
+  datum-splits : Splits datumLay (datum w x i j) (λ (l : Layout). l) (fine (datumFront w i) (i + 5 + 3 * getD w (i + 3) 0) j)
       ended (text (wide 4) w x (i + 5 + 3 * getD w (i + 3) 0) j)
   unfolding datumLay datumFront datumHead written
   datum-splits =
@@ -389,6 +431,19 @@ module _ (w x : List ℕ) (i j at : ℕ) {most : ℕ} (h : Ready datumLay (datum
       let f = front-size w i (omega (arith, t .there)) in
       (t .there, omega (arith, f, head-ready datum-splits at (size (datumFront w i)) refl h .short))
 
+  front : 20 + 4 * (3 * getD w (i + 3) 0) ≡ size (datumFront w i)
+  front = sym (front-size w i (omega (arith, datum-fits .0)))
+
+  -- behind what is before the key
+  module _ (q : Pen) (a : q .word ≡ i + 5 + 3 * getD w (i + 3) 0) (b : q .byte ≡ j) (c : q .at ≡ at + (20 + 4 * (3 * getD w (i + 3) 0))) where
+    pub key-ready : Ready ended (text (wide 4) w x (q .word) (q .byte)) (q .at) most
+    key-ready = rw (a, b, c) (head-ready datum-splits at (20 + 4 * (3 * getD w (i + 3) 0)) front h)
+
+    pub datum-done : (out : List ℕ) {m o : List ℕ} {u : Pen} → m ≡ sets out at (written (datumFront w i))
+        → u ≡ behind ended (text (wide 4) w x (q .word) (q .byte)) (q .at) → o ≡ laid ended (text (wide 4) w x (q .word) (q .byte)) (q .at) m
+        → (u ≡ behind datumLay (datum w x i j) at) × (o ≡ laid datumLay (datum w x i j) at out)
+    datum-done out e f g = head-done datum-splits at (20 + 4 * (3 * getD w (i + 3) 0)) front out e (rw (a, b, c) at f) (rw (a, b, c) at g)
+
 -- ---- an info
 
 pub info-head-stored : (at l n : ℕ) {l0 l1 l2 : List ℕ} → l1 ≡ put 4 l0 at l → l2 ≡ sets l1 (at + 4) (written (number 1 n ⨾ number 1 0 ⨾ number 2 0))
@@ -409,7 +464,7 @@ module _ (w x : List ℕ) (i j at : ℕ) {most : ℕ} (h : Ready infoLay (info w
       go (ExtendedUserData ds) k = omega (arith, k)
 
   module _ (l n : ℕ) (el : l ≡ getD w i 0) (en : n ≡ getD w (i + 1) 0) where
-    pub extended-splits : l ≡ fleu → Splits infoLay (info w x i j) (λ (z : Layout). z) (fine (infoHead l n) (i + 2) j) (parts datumLay) (times n datum w x (i + 2) j)
+    extended-splits : l ≡ fleu → Splits infoLay (info w x i j) (λ (z : Layout). z) (fine (infoHead l n) (i + 2) j) (parts datumLay) (times n datum w x (i + 2) j)
     unfolding infoLay written
     extended-splits f =
         info-extended w x i j (h .judged) (sym el ∙ f) λ ds q r.
@@ -429,7 +484,7 @@ module _ (w x : List ℕ) (i j at : ℕ) {most : ℕ} (h : Ready infoLay (info w
           same = ap (λ (a : AnimInfo). written (infoLay a)) q ∙ rw (z, f);
         }
 
-    pub standard-splits : (l ≡ fleu → ⊥) → Splits infoLay (info w x i j) (λ (z : Layout). z) (fine (infoHead l n) (i + 2) j)
+    standard-splits : (l ≡ fleu → ⊥) → Splits infoLay (info w x i j) (λ (z : Layout). z) (fine (infoHead l n) (i + 2) j)
         (listed targetLay (at + 8 + 4 * n - at)) (times n (target l) w [] (i + 2) j)
     unfolding infoLay listed written
     standard-splits f =
@@ -450,6 +505,28 @@ module _ (w x : List ℕ) (i j at : ℕ) {most : ℕ} (h : Ready infoLay (info w
           goes-on = k;
           same = ap (λ (a : AnimInfo). written (infoLay a)) q ∙ rw (z, m, el);
         }
+
+    eight : 8 ≡ size (infoHead l n)
+    unfolding infoHead size
+    eight = refl
+
+    module _ (f : l ≡ fleu) where
+      pub data-ready : Ready (parts datumLay) (times n datum w x (i + 2) j) (at + 8) most
+      data-ready = head-ready (extended-splits f) at 8 eight h
+
+      pub data-done : (out : List ℕ) {m o : List ℕ} {u : Pen} → m ≡ sets out at (written (infoHead l n)) → u ≡ behind (parts datumLay) (times n datum w x (i + 2) j) (at + 8)
+          → o ≡ laid (parts datumLay) (times n datum w x (i + 2) j) (at + 8) m → (u ≡ behind infoLay (info w x i j) at) × (o ≡ laid infoLay (info w x i j) at out)
+      data-done out = head-done (extended-splits f) at 8 eight out
+
+    module _ (f : l ≡ fleu → ⊥) where
+      pub targets-ready : Ready (listed targetLay (at + 8 + 4 * n - at)) (times n (target l) w [] (i + 2) j) (at + 8) most
+      targets-ready = head-ready (standard-splits f) at 8 eight h
+
+      pub targets-done : (out : List ℕ) {m o : List ℕ} {u : Pen} → m ≡ sets out at (written (infoHead l n))
+          → u ≡ behind (listed targetLay (at + 8 + 4 * n - at)) (times n (target l) w [] (i + 2) j) (at + 8)
+          → o ≡ laid (listed targetLay (at + 8 + 4 * n - at)) (times n (target l) w [] (i + 2) j) (at + 8) m
+          → (u ≡ behind infoLay (info w x i j) at) × (o ≡ laid infoLay (info w x i j) at out)
+      targets-done out = head-done (standard-splits f) at 8 eight out
 
 -- ---- what a total size leaves out
 
@@ -503,6 +580,15 @@ out-fine : {r : Judged (List AnimInfo)} {is : List AnimInfo} {i j : ℕ} → r �
 unfolding outOf
 out-fine e = rw e
 
+module _ (w : List ℕ) (i j l : ℕ) where
+  pub out-other : (getD w i 0 ≡ fleu → ⊥) → outBy w i j l ≡ 0
+  unfolding outBy
+  out-other f = rw (ne-eqb (getD w i 0) fleu f)
+
+  pub out-extended : getD w i 0 ≡ fleu → outBy w i j l ≡ 5 * getD w (i + 1) 0 + (l - j)
+  unfolding outBy
+  out-extended e = rw (eq-eqb (getD w i 0) fleu e)
+
 -- the same of the first of a run
 module _ (w x : List ℕ) where
   pub out-turn : (n i j at : ℕ) {most : ℕ} → 0 < n → Ready (parts infoLay) (times n info w x i j) at most → (u : Pen) → u ≡ behind infoLay (info w x i j) at
@@ -525,12 +611,8 @@ module _ (w x : List ℕ) where
   out-none zero i j l = refl
   out-none (suc n) i j l = absurd (omega arith)
 
-  pub out-most : (from n i j at : ℕ) {most : ℕ} (h : Ready (listed infoLay from) (times n info w x i j) at most)
-      → at + 4 * n + outOf (times n info w x i j) ≤ behind (listed infoLay from) (times n info w x i j) at .at
-  unfolding outOf
-  out-most from n i j at h =
-      rw (behind-fine (listed infoLay from) (h .judged) at, h .judged)
-      (omega (arith, listed-size infoLay from (h .value), times-length info w x n i j (h .judged), infos-most (h .value)))
+  pub out-fits : (from n i j at : ℕ) {most : ℕ} (h : Ready (listed infoLay from) (times n info w x i j) at most) → outOf (times n info w x i j) ≤ limit
+  out-fits from n i j at h = rw (out-fine (h .judged)) (omega (arith, listed-size infoLay from (h .value), infos-most (h .value), h .short))
 
 -- ---- what is behind a content's name and counts
 
@@ -538,6 +620,16 @@ module _ (kind n : ℕ) (w x : List ℕ) (q : Pen) (start : ℕ) {most : ℕ} (h
     (s : q .at ≡ start + 32) where
   count : length (h .value) ≡ n
   count = times-length info w x n (q .word) (q .byte) (h .judged)
+
+  -- of a User content
+  module _ (k : kind ≡ 2) where
+    pub two-ready : Ready (bodyLay 2) (times n info w x (q .word) (q .byte)) (q .at) most
+    two-ready = rw (← k) h
+
+    pub two-done : (out : List ℕ) {o : List ℕ} {u : Pen} → u ≡ behind (bodyLay 2) (times n info w x (q .word) (q .byte)) (q .at)
+        → o ≡ laid (bodyLay 2) (times n info w x (q .word) (q .byte)) (q .at) out
+        → (u ≡ behind (bodyLay kind) (times n info w x (q .word) (q .byte)) (q .at)) × (o ≡ laid (bodyLay kind) (times n info w x (q .word) (q .byte)) (q .at) out)
+    two-done out e f = (rw k e, rw k f)
 
   -- not of a User content: the infos
   module _ (k : kind ≡ 2 → ⊥) where
@@ -583,6 +675,15 @@ module _ (n : ℕ) (w x : List ℕ) (q : Pen) (start : ℕ) {most : ℕ} (h : Re
 
   pub user-ready : Ready (listed infoLay (q .at + 8 + 4 * n - start)) (times n info w x (q .word) (q .byte)) (q .at + 8) most
   user-ready = head-ready user-splits (q .at) 8 (unfold size in refl) h
+
+  -- what is left out is among the infos
+  pub user-left : {u : Pen} {gone : ℕ} → u ≡ behind (listed infoLay (q .at + 8 + 4 * n - start)) (times n info w x (q .word) (q .byte)) (q .at + 8)
+      → gone ≡ outOf (times n info w x (q .word) (q .byte)) → start + gone ≤ u .at
+  user-left {u} {gone} e f =
+      let b : u .at ≡ q .at + 8 + size (listed infoLay (q .at + 8 + 4 * n - start) (h .value)) =
+      ap (λ (z : Pen). z .at) (e ∙ behind-fine (listed infoLay (q .at + 8 + 4 * n - start)) (h .judged) (q .at + 8)) in
+      let g : gone ≡ infosOut (h .value) = f ∙ out-fine (h .judged) in
+      omega (arith, b, g, s, listed-size infoLay (q .at + 8 + 4 * n - start) (h .value), infos-most (h .value))
 
   -- the total size is patched when the infos are there
   pub user-done : (l0 : List ℕ) {l1 l2 l3 l4 : List ℕ} {u : Pen} {p gone : ℕ} → l1 ≡ put 4 l0 (q .at) (q .at + 8 - start) → p ≡ q .at + 4 → l2 ≡ put 4 l1 (q .at + 4) 0
@@ -677,10 +778,10 @@ module _ (w x : List ℕ) (i j at : ℕ) {most : ℕ} (h : Ready contentLay (con
           → l2 ≡ sets l1 (at + 28) (written (number 1 n ⨾ number 1 kind ⨾ number 2 0))
           → e ≡ behind (bodyLay kind) (times n info w x (q .word + 2) (q .byte)) (at + 32)
           → l3 ≡ laid (bodyLay kind) (times n info w x (q .word + 2) (q .byte)) (at + 32) l2
-          → u ≡ record { word = e .word; byte = e .byte; at = e .at + paddingOf (e .at - at) } → l4 ≡ sets l3 (e .at) (replicate (paddingOf (e .at - at)) 0)
+          → u .word ≡ e .word → u .byte ≡ e .byte → u .at ≡ e .at + paddingOf (e .at - at) → l4 ≡ sets l3 (e .at) (replicate (paddingOf (e .at - at)) 0)
           → (u ≡ behind contentLay (content w x i j) at) × (l4 ≡ laid contentLay (content w x i j) at l0)
       unfolding contentLay size written
-      content-done l0 {l1} {l2} {l3} {l4} {e} {u} e1 e2 ee e3 eu e4 =
+      content-done l0 {l1} {l2} {l3} {l4} {e} {u} e1 e2 ee e3 uw ub ua e4 =
           let is : List AnimInfo = h .value .infos in
           let count : n ≡ length (h .value .infos) = sym (times-length info w x n (q .word + 2) (q .byte) infos-judged) in
           let pe : e ≡ record { word = h .word; byte = h .byte; at = at + 32 + size (bodyLay kind (h .value .infos)) } = ee ∙ behind-fine (bodyLay kind) infos-judged (at + 32) in
@@ -696,8 +797,8 @@ module _ (w x : List ℕ) (i j at : ℕ) {most : ℕ} (h : Ready contentLay (con
           let all : Wrote l0 at ((nameLay (h .value .name) ⨾ (number 1 n ⨾ number 1 kind ⨾ number 2 0) ⨾ bodyLay kind (h .value .infos)) ⨾ zeros (paddingOf (size (contentBody (h .value))))) l4 =
           wrote-then (wrote-then w1 (wrote-then w2 w3 (omega arith)) (omega (arith, name-size))) w4 (omega (arith, name-size, pa)) in
           (
-            whole-behind contentLay h (ap (λ (z : Pen). z .word) eu ∙ ap (λ (z : Pen). z .word) pe) (ap (λ (z : Pen). z .byte) eu ∙ ap (λ (z : Pen). z .byte) pe)
-                (ap (λ (z : Pen). z .at) eu ∙ rw sz (omega (arith, whole-size, pa, bs))),
+            whole-behind contentLay h (uw ∙ ap (λ (z : Pen). z .word) pe) (ub ∙ ap (λ (z : Pen). z .byte) pe)
+                (ua ∙ rw sz (omega (arith, whole-size, pa, bs))),
             whole-laid contentLay h all (ap (λ (b : List ℕ). b ++ replicate (paddingOf (size (contentBody (h .value)))) 0) same),
           )
 
@@ -708,6 +809,12 @@ pub frame-stored : (a b c d : ℕ) {l0 l1 l2 l3 l4 l5 : List ℕ} → l1 ≡ put
 unfolding size frameLay
 frame-stored a b c d e1 e2 e3 e4 e5 =
     wrote-then (wrote-number e1) (wrote-then (wrote-number e2) (wrote-then (wrote-number e3) (wrote-then (wrote-number e4) (wrote-number e5) refl) refl) refl) refl
+
+pub start-stored : (l0 : List ℕ) (a b c d p q r s : ℕ) {l1 l2 l3 : List ℕ} → a ≡ p → b ≡ q → c ≡ r → d ≡ s → l1 ≡ put 4 l0 0 pai1 → l2 ≡ put 4 l1 4 0
+    → l3 ≡ sets l2 8 (written (frameLay a b c d)) → l3 ≡ sets l0 0 (written (number 4 pai1 ⨾ number 4 0 ⨾ frameLay p q r s))
+unfolding size
+start-stored l0 a b c d p q r s ea eb ec ed e1 e2 e3 =
+    rw (← ea, ← eb, ← ec, ← ed) (wrote-then (wrote-number e1) (wrote-then {b = frameLay a b c d} (wrote-number e2) (record { same = e3 }) refl) refl .same)
 
 -- the texture names
 module _ (n : ℕ) (w x : List ℕ) {most : ℕ} (h : Ready namesLay (times n (text (wide 4)) w x 4 0) 20 most) where
@@ -735,10 +842,10 @@ module _ (n : ℕ) (w x : List ℕ) {most : ℕ} (h : Ready namesLay (times n (t
 
   pub names-done : (l0 : List ℕ) {l1 l2 : List ℕ} {q u : Pen} → q ≡ behind (listed ended (20 + 4 * n - 20)) (times n (text (wide 4)) w x 4 0) 20
       → l1 ≡ laid (listed ended (20 + 4 * n - 20)) (times n (text (wide 4)) w x 4 0) 20 l0
-      → u ≡ record { word = q .word; byte = q .byte; at = q .at + paddingOf (q .at) } → l2 ≡ sets l1 (q .at) (replicate (paddingOf (q .at)) 0)
+      → u .word ≡ q .word → u .byte ≡ q .byte → u .at ≡ q .at + paddingOf (q .at) → l2 ≡ sets l1 (q .at) (replicate (paddingOf (q .at)) 0)
       → (u ≡ behind namesLay (times n (text (wide 4)) w x 4 0) 20) × (l2 ≡ laid namesLay (times n (text (wide 4)) w x 4 0) 20 l0)
   unfolding namesLay written size end
-  names-done l0 {l1} {l2} {q} {u} e1 e2 eu e3 =
+  names-done l0 {l1} {l2} {q} {u} e1 e2 uw ub ua e3 =
       let m : 20 + 4 * n - 20 ≡ 4 * length (h .value) = omega (arith, names-count) in
       let pq : q ≡ record { word = h .word; byte = h .byte; at = 20 + size (listed ended (20 + 4 * n - 20) (h .value)) } = e1 ∙ behind-fine (listed ended (20 + 4 * n - 20)) (h .judged) 20 in
       let pa : q .at ≡ 20 + size (listed ended (20 + 4 * n - 20) (h .value)) = ap (λ (z : Pen). z .at) pq in
@@ -747,8 +854,8 @@ module _ (n : ℕ) (w x : List ℕ) {most : ℕ} (h : Ready namesLay (times n (t
       let w1 : Wrote l0 20 (listed ended (4 * length (h .value)) (h .value)) l1 = record { same = e2 ∙ laid-fine (listed ended (20 + 4 * n - 20)) (h .judged) 20 l0 ∙ rw m refl } in
       let w2 : Wrote l1 (q .at) (zeros (paddingOf (20 + (4 * length (h .value) + size (parts ended (h .value)))))) l2 = wrote-bytes (e3 ∙ rw en refl) in
       (
-        whole-behind namesLay h (ap (λ (z : Pen). z .word) (eu) ∙ ap (λ (z : Pen). z .word) pq) (ap (λ (z : Pen). z .byte) eu ∙ ap (λ (z : Pen). z .byte) pq)
-            (ap (λ (z : Pen). z .at) eu ∙ rw en (omega (arith, names-size, names-count))),
+        whole-behind namesLay h (uw ∙ ap (λ (z : Pen). z .word) pq) (ub ∙ ap (λ (z : Pen). z .byte) pq)
+            (ua ∙ rw en (omega (arith, names-size, names-count))),
         whole-laid namesLay h (wrote-then w1 w2 (rw m at pa)) refl,
       )
 
@@ -819,26 +926,26 @@ module _ (w x : List ℕ) {most : ℕ} (h : Ready sectionLay (section w x 0 0) 0
             short = rw (from, table-at) (omega (arith, contents-end, section-size, h .short));
           }
 
-      pub section-done : (l0 : List ℕ) (a b : ℕ) {l1 l2 l3 l4 l5 l6 : List ℕ} {e : Pen} {p s : ℕ} → a ≡ getD w 0 0 → b ≡ getD w 1 0
-          → l1 ≡ sets l0 0 (written (number 4 pai1 ⨾ number 4 0 ⨾ frameLay a b n k)) → l2 ≡ put 4 l1 16 0
+      pub section-done : (l0 : List ℕ) {l1 l2 l3 l4 l5 l6 : List ℕ} {e : Pen} {p s : ℕ}
+          → l1 ≡ sets l0 0 (written (number 4 pai1 ⨾ number 4 0 ⨾ frameLay (getD w 0 0) (getD w 1 0) (getD w 2 0) (getD w 3 0))) → l2 ≡ put 4 l1 16 0
           → l3 ≡ laid namesLay (times n (text (wide 4)) w x 4 0) 20 l2 → p ≡ 16 → l4 ≡ put 4 l3 p (q .at)
           → e ≡ behind (listed contentLay (q .at + 4 * k - 0)) (times k content w x (q .word) (q .byte)) (q .at)
           → l5 ≡ laid (listed contentLay (q .at + 4 * k - 0)) (times k content w x (q .word) (q .byte)) (q .at) l4 → s ≡ 4 → l6 ≡ put 4 l5 s (e .at)
           → l6 ≡ laid sectionLay (section w x 0 0) 0 l0
       unfolding frameLay size written
-      section-done l0 a b {l1} {l2} {l3} {l4} {l5} {l6} {e} {p} {s} ea eb e1 e2 e3 ep e4 ee e5 es e6 =
+      section-done l0 {l1} {l2} {l3} {l4} {l5} {l6} {e} {p} {s} e1 e2 e3 ep e4 ee e5 es e6 =
           let f : ℕ = q .at + 4 * k - 0 in
           let nt : n ≡ length ts = sym (times-length (text (wide 4)) w x n 4 0 names-judged) in
           let nc : k ≡ length cs = sym (times-length content w x k (q .word) (q .byte) contents-judged) in
           let end : e .at ≡ sectionSize (h .value) =
           ap (λ (z : Pen). z .at) (ee ∙ behind-fine (listed contentLay (q .at + 4 * k - 0)) contents-judged (q .at)) ∙ rw (from, table-at) contents-end in
-          let w1 : Wrote l0 0 (number 4 pai1 ⨾ number 4 0 ⨾ frameLay a b n k) l1 = record { same = e1 } in
+          let w1 : Wrote l0 0 (number 4 pai1 ⨾ number 4 0 ⨾ frameLay (getD w 0 0) (getD w 1 0) (getD w 2 0) (getD w 3 0)) l1 = record { same = e1 } in
           let w2 : Wrote l1 16 (nothing ⨾ number 4 0 ⨾ namesLay ts) l3 =
           wrote-like (wrote-then {b = namesLay ts} (wrote-number e2) (record { same = e3 ∙ laid-fine namesLay names-judged 20 l2 }) refl) refl in
           let w3 : Wrote l1 16 (nothing ⨾ number 4 (q .at) ⨾ namesLay ts) l4 = wrote-patched w2 p (q .at) ep e4 in
           let w4 : Wrote l4 (q .at) (listed contentLay (q .at + 4 * k - 0) cs) l5 = record { same = e5 ∙ laid-fine (listed contentLay (q .at + 4 * k - 0)) contents-judged (q .at) l4 } in
-          let w5 : Wrote l0 0 ((number 4 pai1 ⨾ number 4 0 ⨾ frameLay a b n k) ⨾ (nothing ⨾ number 4 (q .at) ⨾ namesLay ts) ⨾ listed contentLay (q .at + 4 * k - 0) cs) l5 =
+          let w5 : Wrote l0 0 ((number 4 pai1 ⨾ number 4 0 ⨾ frameLay (getD w 0 0) (getD w 1 0) (getD w 2 0) (getD w 3 0)) ⨾ (nothing ⨾ number 4 (q .at) ⨾ namesLay ts) ⨾ listed contentLay (q .at + 4 * k - 0) cs) l5 =
           wrote-then w1 (wrote-then w3 w4 (omega (arith, table-at, names-end))) refl in
-          let w6 : Wrote l0 0 (number 4 pai1 ⨾ number 4 0 ⨾ frameLay a b n k ⨾ number 4 (q .at) ⨾ namesLay ts ⨾ listed contentLay (q .at + 4 * k - 0) cs) l5 =
+          let w6 : Wrote l0 0 (number 4 pai1 ⨾ number 4 0 ⨾ frameLay (getD w 0 0) (getD w 1 0) (getD w 2 0) (getD w 3 0) ⨾ number 4 (q .at) ⨾ namesLay ts ⨾ listed contentLay (q .at + 4 * k - 0) cs) l5 =
           wrote-like w5 (simp append-assoc) in
-          whole-laid sectionLay h (wrote-patched w6 s (e .at) es e6) (rw (end, from, table-at, ea ∙ sym (at .frames), eb ∙ sym (at .looping), nt, nc) pieces)
+          whole-laid sectionLay h (wrote-patched w6 s (e .at) es e6) (rw (end, from, table-at, sym (at .frames), sym (at .looping), sym en ∙ nt, sym ek ∙ nc) pieces)

@@ -164,6 +164,12 @@ module _ {A : Type 0} (lay like : A → Layout) {r : Judged A} {at most : ℕ} (
   pub like-laid : (out : List ℕ) → laid like r at out ≡ laid lay r at out
   like-laid out = laid-fine like (h .judged) at out ∙ ap (sets out at) (sym e) ∙ sym (laid-fine lay (h .judged) at out)
 
+-- the place behind a part
+pub behind-within : {A : Type 0} (lay : A → Layout) {r : Judged A} {at most : ℕ} → Ready lay r at most → {u : Pen} → u ≡ behind lay r at → (at ≤ u .at) × (u .at ≤ limit)
+behind-within lay {r} {at} h {u} e =
+    let p : u .at ≡ at + size (lay (h .value)) = ap (λ (z : Pen). z .at) (e ∙ behind-fine lay (h .judged) at) in
+    (omega (arith, p), omega (arith, p, h .short))
+
 pub ready-in : {A : Type 0} {lay : A → Layout} {r : Judged A} {at m n : ℕ} → n ≡ m → Ready lay r at m → Ready lay r at n
 ready-in e h = rw e h
 

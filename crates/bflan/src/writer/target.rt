@@ -32,7 +32,7 @@ fn put_head(out: &mut [u8], at: usize, layer: u32, number: u32, curve: u32, n: u
 
 // `n` keys of a curve from the next word on.
 fn put_keys(words: &[u32], curve: u32, n: usize, pen: Pen, out: &mut [u8]) -> Pen
-    requires { ⌜ (curve < 3) × (n < 65536) × (pen .word ≤ length (now words)) × Ready (parts (keyLay curve)) (times n (row (keyWidths curve)) (now words) [] (pen .word) (pen .byte)) (pen .at) (length (now out)) ⌝ }
+    requires { ⌜ (curve < 3) × (pen .word ≤ length (now words)) × Ready (parts (keyLay curve)) (times n (row (keyWidths curve)) (now words) [] (pen .word) (pen .byte)) (pen .at) (length (now out)) ⌝ }
     ensures { λ r. ⌜ (r ≡ behind (parts (keyLay curve)) (times n (row (keyWidths curve)) (now (words .entry)) [] (pen .word) (pen .byte)) (pen .at))
         × (now (out .exit) ≡ laid (parts (keyLay curve)) (times n (row (keyWidths curve)) (now (words .entry)) [] (pen .word) (pen .byte)) (pen .at) (now (out .entry))) ⌝ }
 {

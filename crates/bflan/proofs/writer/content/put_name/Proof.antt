@@ -1,3 +1,5 @@
+-- `writer::content::put_name` meets its contract.
+-- Assumes nothing.
 use borrow.Author.Needs.{needs}
 use Rattle.bflan.proofs.writer.content.put_name.Statement.{statement}
 use Rattle.bflan.proofs.writer.content.put_name.Tie as tie
@@ -6,50 +8,43 @@ use Rattle.bflan.proofs.writer.content.put_name.Lts as lts
 use Rattle.bflan.proofs.writer.field.put_chars.Reads as put-chars-reads
 use Rattle.bflan.proofs.writer.field.word_of.Reads as word-of-reads
 use Rattle.core.proofs.fill.zeros.Reads as zeros-reads
+use mathlib.Core.Path.{refl}
+use native.Mathlib.Omega.{arith}
+use denote.Ref.{now}
+use Rattle.bflan.proofs.StoredParts.{name-fits, name-done}
 
--- src/writer/content.rt:31:13
 word-of-requires : tie.Need-word-of-requires
 word-of-requires c κs = search needs
 
--- src/writer/content.rt:31:13
 cast-n : tie.Need-cast-n
 cast-n c = search needs
 
--- src/writer/content.rt:32:5
 put-chars-requires : tie.Need-put-chars-requires
-put-chars-requires c κs = search needs
+put-chars-requires c κs = name-fits (now (c .before .before .before .before .before .args .words)) (now (c .before .before .before .before .before .args .texts)) (c .before .before .before .before .before .args .pen) (c .before .before .before .before .before .pre) _ (c .before .word-of .ensures) .2
 
--- src/writer/content.rt:33:16
 add-zeros : tie.Need-add-zeros
-add-zeros c = search needs
+add-zeros c = let f = name-fits (now (c .before .before .before .before .before .before .before .before .before .args .words)) (now (c .before .before .before .before .before .before .before .before .before .args .texts)) (c .before .before .before .before .before .before .before .before .before .args .pen) (c .before .before .before .before .before .before .before .before .before .pre) _ (c .before .before .before .before .before .word-of .ensures) in omega (arith, f .1, f .3)
 
--- src/writer/content.rt:33:24
 sub-zeros : tie.Need-sub-zeros
-sub-zeros c = search needs
+sub-zeros c = name-fits (now (c .before .before .before .before .before .before .before .before .before .args .words)) (now (c .before .before .before .before .before .before .before .before .before .args .texts)) (c .before .before .before .before .before .before .before .before .before .args .pen) (c .before .before .before .before .before .before .before .before .before .pre) _ (c .before .before .before .before .before .word-of .ensures) .1
 
--- src/writer/content.rt:33:5
 zeros-requires : tie.Need-zeros-requires
 zeros-requires c κs = search needs
 
--- src/writer/content.rt:35:15
 add-t15 : tie.Need-add-t15
-add-t15 c = search needs
+add-t15 c = omega (arith, name-fits (now (c .before .before .before .before .before .before .before .before .before .before .before .before .args .words)) (now (c .before .before .before .before .before .before .before .before .before .before .before .before .args .texts)) (c .before .before .before .before .before .before .before .before .before .before .before .before .args .pen) (c .before .before .before .before .before .before .before .before .before .before .before .before .pre) _ (c .before .before .before .before .before .before .before .before .word-of .ensures) .0, c .before .before .before .before .before .before .before .before .before .before .before .before .good)
 
--- src/writer/content.rt:36:15
 add-t16 : tie.Need-add-t16
-add-t16 c = search needs
+add-t16 c = omega (arith, name-fits (now (c .before .before .before .before .before .before .before .before .before .before .before .before .args .words)) (now (c .before .before .before .before .before .before .before .before .before .before .before .before .args .texts)) (c .before .before .before .before .before .before .before .before .before .before .before .before .args .pen) (c .before .before .before .before .before .before .before .before .before .before .before .before .pre) _ (c .before .before .before .before .before .before .before .before .word-of .ensures) .2, c .before .before .before .before .before .before .before .before .before .before .before .before .good)
 
--- src/writer/content.rt:37:13
 add-t17 : tie.Need-add-t17
-add-t17 c = search needs
+add-t17 c = omega (arith, name-fits (now (c .before .before .before .before .before .before .before .before .before .before .before .before .args .words)) (now (c .before .before .before .before .before .before .before .before .before .before .before .before .args .texts)) (c .before .before .before .before .before .before .before .before .before .before .before .before .args .pen) (c .before .before .before .before .before .before .before .before .before .before .before .before .pre) _ (c .before .before .before .before .before .before .before .before .word-of .ensures) .3)
 
--- src/writer/content.rt:23:1
 same-length : tie.Need-same-length
 same-length c = search needs
 
--- src/writer/content.rt:23:1
 returns : tie.Need-returns
-returns c = search needs
+returns c = name-done (now (c .before .before .before .before .before .before .before .before .before .before .before .before .args .words)) (now (c .before .before .before .before .before .before .before .before .before .before .before .before .args .texts)) (c .before .before .before .before .before .before .before .before .before .before .before .before .args .pen) (c .before .before .before .before .before .before .before .before .before .before .before .before .pre) _ (c .before .before .before .before .before .before .before .before .word-of .ensures) (now (c .before .before .before .before .before .before .before .before .before .before .before .before .args .out)) (c .before .before .before .before .before .before .put-chars .ensures) (c .before .before .zeros .ensures) refl
 
 pub put-name-spec : {M : Type 1} → statement M
 put-name-spec =

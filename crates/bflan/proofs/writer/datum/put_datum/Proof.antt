@@ -1,3 +1,5 @@
+-- `writer::datum::put_datum` meets its contract.
+-- Assumes nothing.
 use borrow.Author.Needs.{needs}
 use Rattle.bflan.proofs.writer.datum.put_datum.Statement.{statement}
 use Rattle.bflan.proofs.writer.datum.put_datum.Tie as tie
@@ -5,22 +7,22 @@ use Rattle.bflan.proofs.writer.datum.put_datum.Reads as reads
 use Rattle.bflan.proofs.writer.datum.put_datum.Lts as lts
 use Rattle.bflan.proofs.writer.datum.put_front.Reads as put-front-reads
 use Rattle.bflan.proofs.writer.field.put_ended.Reads as put-ended-reads
+use native.Mathlib.Omega.{arith}
+use denote.Ref.{now}
+use Rattle.bflan.proofs.Storing.{ready-in}
+use Rattle.bflan.proofs.StoredParts.{datum-fits, key-ready, datum-done}
 
--- src/writer/datum.rt:70:9
 put-front-requires : tie.Need-put-front-requires
-put-front-requires c κs = search needs
+put-front-requires c κs = let f = datum-fits (now (c .before .before .before .before .args .words)) (now (c .before .before .before .before .args .texts)) (c .before .before .before .before .args .pen .word) (c .before .before .before .before .args .pen .byte) (c .before .before .before .before .args .pen .at) (c .before .before .before .before .pre) in (omega (arith, f .0), f .1)
 
--- src/writer/datum.rt:71:5
 put-ended-requires : tie.Need-put-ended-requires
-put-ended-requires c κs = search needs
+put-ended-requires c κs = ready-in (c .before .before .before .put-front .kept .1 .1 .0) (key-ready (now (c .before .before .before .before .before .before .before .before .args .words)) (now (c .before .before .before .before .before .before .before .before .args .texts)) (c .before .before .before .before .before .before .before .before .args .pen .word) (c .before .before .before .before .before .before .before .before .args .pen .byte) (c .before .before .before .before .before .before .before .before .args .pen .at) (c .before .before .before .before .before .before .before .before .pre) _ (c .before .before .before .put-front .ensures .0) (c .before .before .before .put-front .ensures .1) (c .before .before .before .put-front .ensures .2))
 
--- src/writer/datum.rt:65:1
 same-length : tie.Need-same-length
 same-length c = search needs
 
--- src/writer/datum.rt:65:1
 returns : tie.Need-returns
-returns c = search needs
+returns c = datum-done (now (c .before .before .before .before .before .before .before .before .before .before .before .args .words)) (now (c .before .before .before .before .before .before .before .before .before .before .before .args .texts)) (c .before .before .before .before .before .before .before .before .before .before .before .args .pen .word) (c .before .before .before .before .before .before .before .before .before .before .before .args .pen .byte) (c .before .before .before .before .before .before .before .before .before .before .before .args .pen .at) (c .before .before .before .before .before .before .before .before .before .before .before .pre) _ (c .before .before .before .before .before .before .put-front .ensures .0) (c .before .before .before .before .before .before .put-front .ensures .1) (c .before .before .before .before .before .before .put-front .ensures .2) (now (c .before .before .before .before .before .before .before .before .before .before .before .args .out)) (c .before .before .before .before .before .before .put-front .ensures .3) (c .before .before .put-ended .ensures .0) (c .before .before .put-ended .ensures .1)
 
 pub put-datum-spec : {M : Type 1} → statement M
 put-datum-spec = tie.close (tie.spec put-front-requires put-ended-requires same-length returns)

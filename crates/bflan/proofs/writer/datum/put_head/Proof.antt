@@ -1,3 +1,5 @@
+-- `writer::datum::put_head` meets its contract.
+-- Assumes nothing.
 use borrow.Author.Needs.{needs}
 use Rattle.bflan.proofs.writer.datum.put_head.Statement.{statement}
 use Rattle.bflan.proofs.writer.datum.put_head.Tie as tie
@@ -5,54 +7,45 @@ use Rattle.bflan.proofs.writer.datum.put_head.Reads as reads
 use Rattle.bflan.proofs.writer.datum.put_head.Lts as lts
 use Rattle.bflan.proofs.writer.datum.put_fields.Reads as put-fields-reads
 use Rattle.bflan.proofs.writer.field.word_of.Reads as word-of-reads
+use native.Mathlib.Omega.{arith}
+use denote.Ref.{now}
+use Rattle.bflan.proofs.StoredParts.{fields-by}
 
--- src/writer/datum.rt:34:9
 word-of-requires : tie.Need-word-of-requires
 word-of-requires c κs = search needs
 
--- src/writer/datum.rt:35:30
 add-word-of : tie.Need-add-word-of
-add-word-of c = search needs
+add-word-of c = omega (arith, c .before .before .before .pre .0, c .before .before .before .good)
 
--- src/writer/datum.rt:35:9
 word-of-requires-2 : tie.Need-word-of-requires-2
 word-of-requires-2 c κs = search needs
 
--- src/writer/datum.rt:36:30
 add-word-of-2 : tie.Need-add-word-of-2
-add-word-of-2 c = search needs
+add-word-of-2 c = omega (arith, c .before .before .before .before .pre .0, c .before .before .before .before .good)
 
--- src/writer/datum.rt:36:9
 word-of-requires-3 : tie.Need-word-of-requires-3
 word-of-requires-3 c κs = search needs
 
--- src/writer/datum.rt:37:31
 add-word-of-3 : tie.Need-add-word-of-3
-add-word-of-3 c = search needs
+add-word-of-3 c = omega (arith, c .before .before .before .before .before .pre .0, c .before .before .before .before .before .good)
 
--- src/writer/datum.rt:37:9
 word-of-requires-4 : tie.Need-word-of-requires-4
 word-of-requires-4 c κs = search needs
 
--- src/writer/datum.rt:38:32
 add-word-of-4 : tie.Need-add-word-of-4
-add-word-of-4 c = search needs
+add-word-of-4 c = omega (arith, c .before .before .before .before .before .before .pre .0, c .before .before .before .before .before .before .good)
 
--- src/writer/datum.rt:38:9
 word-of-requires-5 : tie.Need-word-of-requires-5
 word-of-requires-5 c κs = search needs
 
--- src/writer/datum.rt:39:5
 put-fields-requires : tie.Need-put-fields-requires
-put-fields-requires c κs = search needs
+put-fields-requires c κs = c .before .before .before .before .before .before .before .before .pre .1
 
--- src/writer/datum.rt:30:1
 same-length : tie.Need-same-length
 same-length c = search needs
 
--- src/writer/datum.rt:30:1
 returns : tie.Need-returns
-returns c = search needs
+returns c = fields-by (now (c .before .before .before .before .before .before .before .before .before .before .before .args .out)) (c .before .before .before .before .before .before .before .before .before .before .before .args .at) (c .before .before .before .before .before .before .before .before .word-of .ensures) (c .before .before .before .before .before .before .before .word-of2 .ensures) (c .before .before .before .before .before .before .word-of3 .ensures) (c .before .before .before .before .before .word-of4 .ensures) (c .before .before .before .before .word-of5 .ensures) (c .before .before .put-fields .ensures)
 
 pub put-head-spec : {M : Type 1} → statement M
 put-head-spec =

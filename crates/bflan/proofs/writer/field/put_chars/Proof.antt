@@ -1,5 +1,7 @@
 -- `writer::field::put_chars` meets its contract.
 -- Assumes nothing.
+-- `writer::field::put_chars` meets its contract.
+-- Assumes nothing.
 use borrow.Author.Needs.{needs}
 use Rattle.bflan.proofs.writer.field.put_chars.Statement.{statement}
 use Rattle.bflan.proofs.writer.field.put_chars.Tie as tie
@@ -10,6 +12,7 @@ use mathlib.Core.Path.{ap, sym, _∙_}
 use denote.Ref.{now}
 use lib.Seq.{sets}
 use Rattle.core.proofs.Parts.{take-drop}
+use Rattle.bflan.proofs.StoredParts.{chars-stored}
 
 add-end : tie.Need-add-end
 add-end c = search needs
@@ -30,7 +33,7 @@ same-length : tie.Need-same-length
 same-length c = search needs
 
 returns : tie.Need-returns
-returns c = c .before .before .copy .ensures ∙ ap (sets (now (c .before .before .before .before .before .before .before .args .out)) (c .before .before .before .before .before .before .before .args .at)) (sym (take-drop (c .before .before .before .before .before .before .before .args .n) (c .before .before .before .before .before .before .before .args .from) (now (c .before .before .before .before .before .before .before .args .texts))))
+returns c = chars-stored (now (c .before .before .before .before .before .before .before .args .texts)) (now (c .before .before .before .before .before .before .before .args .out)) (c .before .before .before .before .before .before .before .args .from) (c .before .before .before .before .before .before .before .args .n) (c .before .before .before .before .before .before .before .args .at) (c .before .before .copy .ensures)
 
 pub put-chars-spec : {M : Type 1} → statement M
 put-chars-spec =

@@ -1,45 +1,48 @@
+-- `writer::info::left_out` meets its contract.
+-- Assumes nothing.
 use borrow.Author.Needs.{needs}
 use Rattle.bflan.proofs.writer.info.left_out.Statement.{statement}
 use Rattle.bflan.proofs.writer.info.left_out.Tie as tie
 use Rattle.bflan.proofs.writer.info.left_out.Reads as reads
 use Rattle.bflan.proofs.writer.info.left_out.Lts as lts
 use Rattle.bflan.proofs.writer.field.word_of.Reads as word-of-reads
+use mathlib.Core.Path.{sym, ap, _∙_}
+use native.Mathlib.Omega.{arith}
+use denote.Ref.{now}
+use Rattle.bflan.specs.Letters.{fleu}
+use Rattle.core.specs.Number.{val}
+use Rattle.bflan.proofs.StoredParts.{out-other, out-extended}
 
--- src/writer/info.rt:62:8
 word-of-requires : tie.Need-word-of-requires
 word-of-requires c κs = search needs
 
--- src/writer/info.rt:63:9
 returns : tie.Need-returns
-returns c = search needs
+unfolding fleu val
+returns c = sym (out-other (now (c .before .before .before .args .words)) (c .before .before .before .args .i) (c .before .before .before .args .from) (c .before .before .before .args .to) (λ e. c .if1 .taken (c .before .word-of .ensures ∙ e)))
 
--- src/writer/info.rt:65:28
 add-word-of : tie.Need-add-word-of
-add-word-of c = search needs
+add-word-of c = omega (arith, c .before .before .before .pre .0, c .before .before .before .good)
 
--- src/writer/info.rt:65:9
 word-of-requires-2 : tie.Need-word-of-requires-2
 word-of-requires-2 c κs = search needs
 
--- src/writer/info.rt:66:10
 cast-result : tie.Need-cast-result
 cast-result c = search needs
 
--- src/writer/info.rt:66:5
 mul-result : tie.Need-mul-result
-mul-result c = search needs
+mul-result c = omega arith
 
--- src/writer/info.rt:66:25
 sub-result : tie.Need-sub-result
-sub-result c = search needs
+unfolding fleu val
+sub-result c = c .before .before .before .before .pre .2 (sym (c .before .before .word-of .ensures) ∙ c .before .if1 .left)
 
--- src/writer/info.rt:66:5
 add-result : tie.Need-add-result
-add-result c = search needs
+unfolding fleu val
+add-result c = let e = out-extended (now (c .before .before .before .before .args .words)) (c .before .before .before .before .args .i) (c .before .before .before .before .args .from) (c .before .before .before .before .args .to) (sym (c .before .before .word-of .ensures) ∙ c .before .if1 .left) in omega (arith, e, c .before .before .before .before .pre .1, c .word-of2 .ensures)
 
--- src/writer/info.rt:58:1
 returns-2 : tie.Need-returns-2
-returns-2 c = search needs
+unfolding fleu val
+returns-2 c = let e = out-extended (now (c .before .before .before .before .args .words)) (c .before .before .before .before .args .i) (c .before .before .before .before .args .from) (c .before .before .before .before .args .to) (sym (c .before .before .word-of .ensures) ∙ c .before .if1 .left) in omega (arith, e, c .word-of2 .ensures)
 
 pub left-out-spec : {M : Type 1} → statement M
 left-out-spec =

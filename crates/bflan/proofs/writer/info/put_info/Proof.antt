@@ -1,3 +1,5 @@
+-- `writer::info::put_info` meets its contract.
+-- Assumes nothing.
 use borrow.Author.Needs.{needs}
 use Rattle.bflan.proofs.writer.info.put_info.Statement.{statement}
 use Rattle.bflan.proofs.writer.info.put_info.Tie as tie
@@ -7,62 +9,58 @@ use Rattle.bflan.proofs.writer.datum.put_data.Reads as put-data-reads
 use Rattle.bflan.proofs.writer.field.word_of.Reads as word-of-reads
 use Rattle.bflan.proofs.writer.info.put_head.Reads as put-head-reads
 use Rattle.bflan.proofs.writer.target.put_targets.Reads as put-targets-reads
+use native.Mathlib.Omega.{arith}
+use denote.Ref.{now}
+use Rattle.bflan.specs.Letters.{fleu}
+use Rattle.core.specs.Number.{val}
+use Rattle.bflan.proofs.Storing.{ready-in}
+use Rattle.bflan.proofs.StoredParts.{info-there, info-fits, data-ready, data-done, targets-ready, targets-done}
 
--- src/writer/info.rt:42:9
 word-of-requires : tie.Need-word-of-requires
 word-of-requires c κs = search needs
 
--- src/writer/info.rt:43:28
 add-word-of : tie.Need-add-word-of
-add-word-of c = search needs
+add-word-of c = omega (arith, info-there (now (c .before .before .before .before .args .words)) (now (c .before .before .before .before .args .texts)) (c .before .before .before .before .args .pen .word) (c .before .before .before .before .args .pen .byte) (c .before .before .before .before .args .pen .at) (c .before .before .before .before .pre), c .before .before .before .before .good)
 
--- src/writer/info.rt:43:9
 word-of-requires-2 : tie.Need-word-of-requires-2
 word-of-requires-2 c κs = search needs
 
--- src/writer/info.rt:44:5
 put-head-requires : tie.Need-put-head-requires
-put-head-requires c κs = search needs
+put-head-requires c κs = info-fits (now (c .before .before .before .before .before .before .args .words)) (now (c .before .before .before .before .before .before .args .texts)) (c .before .before .before .before .before .before .args .pen .word) (c .before .before .before .before .before .before .args .pen .byte) (c .before .before .before .before .before .before .args .pen .at) (c .before .before .before .before .before .before .pre)
 
--- src/writer/info.rt:46:15
 add-put-targets : tie.Need-add-put-targets
-add-put-targets c = search needs
+add-put-targets c = omega (arith, info-there (now (c .before .before .before .before .before .before .before .before .before .args .words)) (now (c .before .before .before .before .before .before .before .before .before .args .texts)) (c .before .before .before .before .before .before .before .before .before .args .pen .word) (c .before .before .before .before .before .before .before .before .before .args .pen .byte) (c .before .before .before .before .before .before .before .before .before .args .pen .at) (c .before .before .before .before .before .before .before .before .before .pre), c .before .before .before .before .before .before .before .before .before .good)
 
--- src/writer/info.rt:48:13
 add-t14 : tie.Need-add-t14
-add-t14 c = search needs
+add-t14 c = omega (arith, info-fits (now (c .before .before .before .before .before .before .before .before .before .args .words)) (now (c .before .before .before .before .before .before .before .before .before .args .texts)) (c .before .before .before .before .before .before .before .before .before .args .pen .word) (c .before .before .before .before .before .before .before .before .before .args .pen .byte) (c .before .before .before .before .before .before .before .before .before .args .pen .at) (c .before .before .before .before .before .before .before .before .before .pre))
 
--- src/writer/info.rt:51:39
 cast-put-data : tie.Need-cast-put-data
 cast-put-data c = search needs
 
--- src/writer/info.rt:51:9
 put-data-requires : tie.Need-put-data-requires
-put-data-requires c κs = search needs
+unfolding fleu val
+put-data-requires c κs = ready-in (c .before .before .before .before .put-head .kept .0) (data-ready (now (c .before .before .before .before .before .before .before .before .before .before .before .args .words)) (now (c .before .before .before .before .before .before .before .before .before .before .before .args .texts)) (c .before .before .before .before .before .before .before .before .before .before .before .args .pen .word) (c .before .before .before .before .before .before .before .before .before .before .before .args .pen .byte) (c .before .before .before .before .before .before .before .before .before .before .before .args .pen .at) (c .before .before .before .before .before .before .before .before .before .before .before .pre) _ _ (c .before .before .before .before .before .before .before .word-of .ensures) (c .before .before .before .before .before .before .word-of2 .ensures) (c .before .if1 .taken))
 
--- src/writer/info.rt:51:9
 same-length : tie.Need-same-length
 same-length c = search needs
 
--- src/writer/info.rt:51:9
 returns : tie.Need-returns
-returns c = search needs
+unfolding fleu val
+returns c = data-done (now (c .before .before .before .before .before .before .before .before .before .before .before .before .before .before .args .words)) (now (c .before .before .before .before .before .before .before .before .before .before .before .before .before .before .args .texts)) (c .before .before .before .before .before .before .before .before .before .before .before .before .before .before .args .pen .word) (c .before .before .before .before .before .before .before .before .before .before .before .before .before .before .args .pen .byte) (c .before .before .before .before .before .before .before .before .before .before .before .before .before .before .args .pen .at) (c .before .before .before .before .before .before .before .before .before .before .before .before .before .before .pre) _ _ (c .before .before .before .before .before .before .before .before .before .before .word-of .ensures) (c .before .before .before .before .before .before .before .before .before .word-of2 .ensures) (c .before .before .before .before .if1 .taken) (now (c .before .before .before .before .before .before .before .before .before .before .before .before .before .before .args .out)) (c .before .before .before .before .before .before .before .put-head .ensures) (c .before .before .put-data .ensures .0) (c .before .before .put-data .ensures .1)
 
--- src/writer/info.rt:53:33
 cast-put-targets : tie.Need-cast-put-targets
 cast-put-targets c = search needs
 
--- src/writer/info.rt:53:5
 put-targets-requires : tie.Need-put-targets-requires
-put-targets-requires c κs = search needs
+unfolding fleu val
+put-targets-requires c κs = (omega arith, ready-in (c .before .before .before .before .put-head .kept .0) (targets-ready (now (c .before .before .before .before .before .before .before .before .before .before .before .args .words)) (now (c .before .before .before .before .before .before .before .before .before .before .before .args .texts)) (c .before .before .before .before .before .before .before .before .before .before .before .args .pen .word) (c .before .before .before .before .before .before .before .before .before .before .before .args .pen .byte) (c .before .before .before .before .before .before .before .before .before .before .before .args .pen .at) (c .before .before .before .before .before .before .before .before .before .before .before .pre) _ _ (c .before .before .before .before .before .before .before .word-of .ensures) (c .before .before .before .before .before .before .word-of2 .ensures) (c .before .if1 .left)))
 
--- src/writer/info.rt:35:1
 same-length-2 : tie.Need-same-length-2
 same-length-2 c = search needs
 
--- src/writer/info.rt:35:1
 returns-2 : tie.Need-returns-2
-returns-2 c = search needs
+unfolding fleu val
+returns-2 c = targets-done (now (c .before .before .before .before .before .before .before .before .before .before .before .before .before .before .args .words)) (now (c .before .before .before .before .before .before .before .before .before .before .before .before .before .before .args .texts)) (c .before .before .before .before .before .before .before .before .before .before .before .before .before .before .args .pen .word) (c .before .before .before .before .before .before .before .before .before .before .before .before .before .before .args .pen .byte) (c .before .before .before .before .before .before .before .before .before .before .before .before .before .before .args .pen .at) (c .before .before .before .before .before .before .before .before .before .before .before .before .before .before .pre) _ _ (c .before .before .before .before .before .before .before .before .before .before .word-of .ensures) (c .before .before .before .before .before .before .before .before .before .word-of2 .ensures) (c .before .before .before .before .if1 .left) (now (c .before .before .before .before .before .before .before .before .before .before .before .before .before .before .args .out)) (c .before .before .before .before .before .before .before .put-head .ensures) (c .before .before .put-targets .ensures .0) (c .before .before .put-targets .ensures .1)
 
 pub put-info-spec : {M : Type 1} → statement M
 put-info-spec =

@@ -1,3 +1,5 @@
+-- `writer::info::put_infos` meets its contract. The loop's invariant: what is left, from here, is what all of it is, from the start.
+-- Assumes nothing.
 use borrow.Author.Needs.{needs}
 use Rattle.bflan.proofs.writer.info.put_infos.Statement.{statement}
 use Rattle.bflan.proofs.writer.info.put_infos.Tie as tie
@@ -6,64 +8,76 @@ use Rattle.bflan.proofs.writer.info.put_infos.Lts as lts
 use Rattle.bflan.proofs.writer.field.put_offset.Reads as put-offset-reads
 use Rattle.bflan.proofs.writer.info.left_out.Reads as left-out-reads
 use Rattle.bflan.proofs.writer.info.put_info.Reads as put-info-reads
+use Prim.Native.Nat.{_+_, _*_, _-_, _≤_}
+use mathlib.Core.Path.{_≡_, refl, _∙_}
+use native.Mathlib.Omega.{arith}
+use denote.Ref.{now}
+use lib.ListN.{length}
+use Rattle.bflan.specs.Judge.{times, info}
+use Rattle.bflan.specs.Layout.{infoLay}
+use Rattle.bflan.specs.Stored.{laid, behind, listed, outOf}
+use Rattle.bflan.proofs.StoredParts.{info-there, out-turn, out-none, out-fits}
+use Rattle.bflan.proofs.Storing.{ready-in, Going, going-start, going-first, going-turn, going-end, listed-fits}
 
 abbrev Inv-loop : tie.InvT-loop
-Inv-loop words texts n base out₀ left₀ tab₀ gone₀ q₀ out left tab gone q = ?
+Inv-loop words texts n base out₀ left₀ tab₀ gone₀ q₀ out left tab gone q =
+    Going info infoLay words texts base
+    (behind (listed infoLay (tab₀ + 4 * n - base)) (times n info words texts (q₀ .word) (q₀ .byte)) tab₀)
+    (laid (listed infoLay (tab₀ + 4 * n - base)) (times n info words texts (q₀ .word) (q₀ .byte)) tab₀ out₀) left tab q out
+    × (length out ≡ length out₀)
+    × (gone + outOf (times left info words texts (q .word) (q .byte)) ≡ outOf (times n info words texts (q₀ .word) (q₀ .byte)))
 
 abbrev μ-loop : tie.MeasureT-loop
-μ-loop words texts n base out₀ left₀ tab₀ gone₀ q₀ out left tab gone q = ?
+μ-loop words texts n base out₀ left₀ tab₀ gone₀ q₀ out left tab gone q = left
 
--- src/writer/info.rt:89:22
 mul-t12 : tie.Need-mul-t12 Inv-loop μ-loop
-mul-t12 c = search needs
+mul-t12 c = omega (arith, listed-fits info infoLay (now (c .before .before .before .args .words)) (now (c .before .before .before .args .texts)) (c .before .before .before .args .base) (c .before .before .before .args .pen .at + 4 * c .before .before .before .args .n - c .before .before .before .args .base) (c .before .before .before .args .n) (c .before .before .before .args .pen .word) (c .before .before .before .args .pen .byte) (c .before .before .before .args .pen .at) (c .before .before .before .pre .1))
 
--- src/writer/info.rt:89:13
 add-t13 : tie.Need-add-t13 Inv-loop μ-loop
-add-t13 c = search needs
+add-t13 c = let h = listed-fits info infoLay (now (c .before .before .before .before .args .words)) (now (c .before .before .before .before .args .texts)) (c .before .before .before .before .args .base) (c .before .before .before .before .args .pen .at + 4 * c .before .before .before .before .args .n - c .before .before .before .before .args .base) (c .before .before .before .before .args .n) (c .before .before .before .before .args .pen .word) (c .before .before .before .before .args .pen .byte) (c .before .before .before .before .args .pen .at) (c .before .before .before .before .pre .1) in omega (arith, h)
 
--- src/writer/info.rt:91:5
 loop-holds : tie.Need-loop-holds Inv-loop μ-loop
-loop-holds c = search needs
+loop-holds c = (going-start info infoLay (now (c .before .before .before .before .args .words)) (now (c .before .before .before .before .args .texts)) (c .before .before .before .before .args .base) (c .before .before .before .before .args .n) (c .before .before .before .before .args .pen) (now (c .before .before .before .before .args .out)) (c .before .before .before .before .pre .0) (c .before .before .before .before .pre .1), refl, omega arith)
 
--- src/writer/info.rt:92:9
 put-offset-requires : tie.Need-put-offset-requires Inv-loop μ-loop
-put-offset-requires c κs = search needs
+put-offset-requires c κs = (c .before .before .loop .inv .0 .above, omega (arith, c .before .before .loop .inv .0 .ready .short))
 
--- src/writer/info.rt:93:13
 put-info-requires : tie.Need-put-info-requires Inv-loop μ-loop
-put-info-requires c κs = search needs
+put-info-requires c κs = ready-in (c .before .before .before .put-offset .kept .0) (going-first info infoLay (now (c .before .before .before .before .before .before .before .before .before .before .before .args .words)) (now (c .before .before .before .before .before .before .before .before .before .before .before .args .texts)) (c .before .before .before .before .before .before .before .before .before .before .before .args .base) (c .before .before .before .before .before .before .loop .inv .0) (c .before .before .before .before .before .loop-test .taken))
 
--- src/writer/info.rt:94:17
 left-out-requires : tie.Need-left-out-requires Inv-loop μ-loop
-left-out-requires c κs = search needs
+left-out-requires c κs =
+    let h = info-there (now (c .before .before .before .before .before .before .before .before .before .before .before .before .before .before .args .words)) (now (c .before .before .before .before .before .before .before .before .before .before .before .before .before .before .args .texts)) (c .before .before .before .before .before .before .before .before .before .loop .q .word) (c .before .before .before .before .before .before .before .before .before .loop .q .byte) (c .before .before .before .before .before .before .before .before .before .loop .q .at) (going-first info infoLay (now (c .before .before .before .before .before .before .before .before .before .before .before .before .before .before .args .words)) (now (c .before .before .before .before .before .before .before .before .before .before .before .before .before .before .args .texts)) (c .before .before .before .before .before .before .before .before .before .before .before .before .before .before .args .base) (c .before .before .before .before .before .before .before .before .before .loop .inv .0) (c .before .before .before .before .before .before .before .before .loop-test .taken)) in
+    let t = out-turn (now (c .before .before .before .before .before .before .before .before .before .before .before .before .before .before .args .words)) (now (c .before .before .before .before .before .before .before .before .before .before .before .before .before .before .args .texts)) (c .before .before .before .before .before .before .before .before .before .loop .left) (c .before .before .before .before .before .before .before .before .before .loop .q .word) (c .before .before .before .before .before .before .before .before .before .loop .q .byte) (c .before .before .before .before .before .before .before .before .before .loop .q .at) (c .before .before .before .before .before .before .before .before .loop-test .taken) (c .before .before .before .before .before .before .before .before .before .loop .inv .0 .ready) _ (c .before .before .put-info .ensures .0) in
+    (omega (arith, h), omega (arith, t .0, c .before .before .before .before .before .before .before .before .before .loop .inv .2, out-fits (now (c .before .before .before .before .before .before .before .before .before .before .before .before .before .before .args .words)) (now (c .before .before .before .before .before .before .before .before .before .before .before .before .before .before .args .texts)) (c .before .before .before .before .before .before .before .before .before .before .before .before .before .before .args .pen .at + 4 * c .before .before .before .before .before .before .before .before .before .before .before .before .before .before .args .n - c .before .before .before .before .before .before .before .before .before .before .before .before .before .before .args .base) (c .before .before .before .before .before .before .before .before .before .before .before .before .before .before .args .n) (c .before .before .before .before .before .before .before .before .before .before .before .before .before .before .args .pen .word) (c .before .before .before .before .before .before .before .before .before .before .before .before .before .before .args .pen .byte) (c .before .before .before .before .before .before .before .before .before .before .before .before .before .before .args .pen .at) (c .before .before .before .before .before .before .before .before .before .before .before .before .before .before .pre .1)), t .1)
 
--- src/writer/info.rt:94:9
 add-gone : tie.Need-add-gone Inv-loop μ-loop
-add-gone c = search needs
+add-gone c = let t = out-turn (now (c .before .before .before .before .before .before .before .before .before .before .before .before .before .before .before .args .words)) (now (c .before .before .before .before .before .before .before .before .before .before .before .before .before .before .before .args .texts)) (c .before .before .before .before .before .before .before .before .before .before .loop .left) (c .before .before .before .before .before .before .before .before .before .before .loop .q .word) (c .before .before .before .before .before .before .before .before .before .before .loop .q .byte) (c .before .before .before .before .before .before .before .before .before .before .loop .q .at) (c .before .before .before .before .before .before .before .before .before .loop-test .taken) (c .before .before .before .before .before .before .before .before .before .before .loop .inv .0 .ready) _ (c .before .before .before .put-info .ensures .0) in omega (arith, t .0, c .before .before .before .before .before .before .before .before .before .before .loop .inv .2, out-fits (now (c .before .before .before .before .before .before .before .before .before .before .before .before .before .before .before .args .words)) (now (c .before .before .before .before .before .before .before .before .before .before .before .before .before .before .before .args .texts)) (c .before .before .before .before .before .before .before .before .before .before .before .before .before .before .before .args .pen .at + 4 * c .before .before .before .before .before .before .before .before .before .before .before .before .before .before .before .args .n - c .before .before .before .before .before .before .before .before .before .before .before .before .before .before .before .args .base) (c .before .before .before .before .before .before .before .before .before .before .before .before .before .before .before .args .n) (c .before .before .before .before .before .before .before .before .before .before .before .before .before .before .before .args .pen .word) (c .before .before .before .before .before .before .before .before .before .before .before .before .before .before .before .args .pen .byte) (c .before .before .before .before .before .before .before .before .before .before .before .before .before .before .before .args .pen .at) (c .before .before .before .before .before .before .before .before .before .before .before .before .before .before .before .pre .1), c .left-out .ensures)
 
--- src/writer/info.rt:96:9
 add-tab : tie.Need-add-tab Inv-loop μ-loop
-add-tab c = search needs
+add-tab c = omega (arith, c .before .before .before .before .before .before .before .before .before .before .loop .inv .0 .apart, c .before .before .before .before .before .before .before .before .before .before .loop .inv .0 .ready .short, c .before .before .before .before .before .before .before .before .before .loop-test .taken)
 
--- src/writer/info.rt:97:9
 sub-left : tie.Need-sub-left Inv-loop μ-loop
-sub-left c = search needs
+sub-left c = omega (arith, c .before .before .before .before .before .before .before .before .before .loop-test .taken)
 
--- src/writer/info.rt:91:5
 loop-less : tie.Need-loop-less Inv-loop μ-loop
-loop-less c = search needs
+loop-less c = omega (arith, c .before .before .before .before .before .before .before .before .before .loop-test .taken)
 
--- src/writer/info.rt:91:5
 loop-again : tie.Need-loop-again Inv-loop μ-loop
-loop-again c = search needs
+loop-again c = (
+      going-turn info infoLay (now (c .before .before .before .before .before .before .before .before .before .before .before .before .before .before .before .args .words)) (now (c .before .before .before .before .before .before .before .before .before .before .before .before .before .before .before .args .texts)) (c .before .before .before .before .before .before .before .before .before .before .before .before .before .before .before .args .base) (c .before .before .before .before .before .before .before .before .before .before .loop .inv .0) (c .before .before .before .before .before .before .before .before .before .loop-test .taken) _ _ _ (c .before .before .before .before .before .before .before .put-offset .ensures) (c .before .before .before .put-info .ensures .0) (c .before .before .before .put-info .ensures .1) (c .before .before .before .put-info .kept .1 .1 .1 .0 ∙ c .before .before .before .before .before .before .before .put-offset .kept .0),
+      c .before .before .before .put-info .kept .1 .1 .1 .0 ∙ c .before .before .before .before .before .before .before .put-offset .kept .0 ∙ c .before .before .before .before .before .before .before .before .before .before .loop .inv .1,
+      (let t = out-turn (now (c .before .before .before .before .before .before .before .before .before .before .before .before .before .before .before .args .words)) (now (c .before .before .before .before .before .before .before .before .before .before .before .before .before .before .before .args .texts)) (c .before .before .before .before .before .before .before .before .before .before .loop .left) (c .before .before .before .before .before .before .before .before .before .before .loop .q .word) (c .before .before .before .before .before .before .before .before .before .before .loop .q .byte) (c .before .before .before .before .before .before .before .before .before .before .loop .q .at) (c .before .before .before .before .before .before .before .before .before .loop-test .taken) (c .before .before .before .before .before .before .before .before .before .before .loop .inv .0 .ready) _ (c .before .before .before .put-info .ensures .0) in omega (arith, t .0, c .before .before .before .before .before .before .before .before .before .before .loop .inv .2, c .left-out .ensures)),
+    )
 
--- src/writer/info.rt:70:1
 same-length : tie.Need-same-length Inv-loop μ-loop
-same-length c = search needs
+same-length c = c .before .loop .inv .1
 
--- src/writer/info.rt:70:1
 returns : tie.Need-returns Inv-loop μ-loop
-returns c = search needs
+returns c =
+    let e = going-end info infoLay (now (c .before .before .before .before .before .before .args .words)) (now (c .before .before .before .before .before .before .args .texts)) (c .before .before .before .before .before .before .args .base) (c .before .loop .inv .0) (c .loop-test .left) in
+    let z = out-none (now (c .before .before .before .before .before .before .args .words)) (now (c .before .before .before .before .before .before .args .texts)) (c .before .loop .left) (c .before .loop .q .word) (c .before .loop .q .byte) (c .loop-test .left) in
+    (e .0, omega (arith, c .before .loop .inv .2, z), e .1)
 
 pub put-infos-spec : {M : Type 1} → statement M
 put-infos-spec =

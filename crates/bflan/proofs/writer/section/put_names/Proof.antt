@@ -1,3 +1,5 @@
+-- `writer::section::put_names` meets its contract.
+-- Assumes nothing.
 use borrow.Author.Needs.{needs}
 use Rattle.bflan.proofs.writer.section.put_names.Statement.{statement}
 use Rattle.bflan.proofs.writer.section.put_names.Tie as tie
@@ -5,26 +7,30 @@ use Rattle.bflan.proofs.writer.section.put_names.Reads as reads
 use Rattle.bflan.proofs.writer.section.put_names.Lts as lts
 use Rattle.bflan.proofs.writer.section.put_textures.Reads as put-textures-reads
 use Rattle.core.proofs.fill.align4.Reads as align4-reads
+use Prim.Native.Nat.{ℕ, _+_, _*_, _-_}
+use mathlib.Core.Path.{refl, ap}
+use native.Mathlib.Omega.{arith}
+use denote.Ref.{now}
+use Rattle.core.proofs.Padding.{padding-lt}
+use Rattle.bflan.specs.Layout.{ended}
+use Rattle.bflan.specs.Stored.{listed}
+use Rattle.bflan.proofs.Storing.{behind-within}
+use Rattle.bflan.proofs.StoredParts.{names-ready, names-done}
 
--- src/writer/section.rt:64:9
 put-textures-requires : tie.Need-put-textures-requires
-put-textures-requires c κs = search needs
+put-textures-requires c κs = (omega arith, names-ready (c .before .before .before .before .args .n) (now (c .before .before .before .before .args .words)) (now (c .before .before .before .before .args .texts)) (c .before .before .before .before .pre))
 
--- src/writer/section.rt:66:9
 align4-requires : tie.Need-align4-requires
 align4-requires c κs = search needs
 
--- src/writer/section.rt:70:13
 add-t13 : tie.Need-add-t13
-add-t13 c = search needs
+add-t13 c = let b = behind-within (listed ended (20 + 4 * c .before .before .before .before .before .before .before .before .before .before .before .args .n - 20)) (names-ready (c .before .before .before .before .before .before .before .before .before .before .before .args .n) (now (c .before .before .before .before .before .before .before .before .before .before .before .args .words)) (now (c .before .before .before .before .before .before .before .before .before .before .before .args .texts)) (c .before .before .before .before .before .before .before .before .before .before .before .pre)) (c .before .before .before .before .before .before .put-textures .ensures .0) in omega (arith, b .1, c .before .before .align4 .ensures .0, padding-lt (c .before .before .before .before .before .before .put-textures .result .at))
 
--- src/writer/section.rt:54:1
 same-length : tie.Need-same-length
 same-length c = search needs
 
--- src/writer/section.rt:54:1
 returns : tie.Need-returns
-returns c = search needs
+returns c = names-done (c .before .before .before .before .before .before .before .before .before .before .before .args .n) (now (c .before .before .before .before .before .before .before .before .before .before .before .args .words)) (now (c .before .before .before .before .before .before .before .before .before .before .before .args .texts)) (c .before .before .before .before .before .before .before .before .before .before .before .pre) (now (c .before .before .before .before .before .before .before .before .before .before .before .args .out)) (c .before .before .before .before .before .before .put-textures .ensures .0) (c .before .before .before .before .before .before .put-textures .ensures .1) refl refl (ap (λ (k : ℕ). c .before .before .before .before .before .before .put-textures .result .at + k) (c .before .before .align4 .ensures .0)) (c .before .before .align4 .ensures .1)
 
 pub put-names-spec : {M : Type 1} → statement M
 put-names-spec =

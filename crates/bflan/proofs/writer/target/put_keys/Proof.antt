@@ -1,3 +1,5 @@
+-- `writer::target::put_keys` meets its contract.
+-- Assumes nothing.
 use borrow.Author.Needs.{needs}
 use Rattle.bflan.proofs.writer.target.put_keys.Statement.{statement}
 use Rattle.bflan.proofs.writer.target.put_keys.Tie as tie
@@ -5,90 +7,75 @@ use Rattle.bflan.proofs.writer.target.put_keys.Reads as reads
 use Rattle.bflan.proofs.writer.target.put_keys.Lts as lts
 use Rattle.core.proofs.run.write_numbers.Reads as write-numbers-reads
 use Rattle.core.proofs.run.write_pairs.Reads as write-pairs-reads
+use mathlib.Core.Path.{refl}
+use mathlib.Core.List.{[]}
+use native.Mathlib.Omega.{arith}
+use denote.Ref.{now}
+use lib.ListN.{length}
+use Rattle.bflan.proofs.StoredParts.{constant-coded, step-coded, hermite-coded, keys-fit, constant-done, keys-done}
 
--- src/writer/target.rt:42:9
 write-numbers-requires : tie.Need-write-numbers-requires
 write-numbers-requires c κs = search needs
 
--- src/writer/target.rt:44:19
 add-t12 : tie.Need-add-t12
-add-t12 c = search needs
+add-t12 c = omega (arith, keys-fit (constant-coded (c .before .before .before .before .if1 .taken)) (c .before .before .before .before .before .before .before .args .n) (now (c .before .before .before .before .before .before .before .args .words)) [] (c .before .before .before .before .before .before .before .args .pen .word) (c .before .before .before .before .before .before .before .args .pen .byte) (c .before .before .before .before .before .before .before .args .pen .at) (c .before .before .before .before .before .before .before .pre .2) (length (now (c .before .before .before .before .before .before .before .args .words))) (c .before .before .before .before .before .before .before .pre .1) (omega arith) .0, c .before .before .before .before .before .before .before .good)
 
--- src/writer/target.rt:46:22
 mul-t13 : tie.Need-mul-t13
-mul-t13 c = search needs
+mul-t13 c = omega (arith, keys-fit (constant-coded (c .before .before .before .before .if1 .taken)) (c .before .before .before .before .before .before .before .args .n) (now (c .before .before .before .before .before .before .before .args .words)) [] (c .before .before .before .before .before .before .before .args .pen .word) (c .before .before .before .before .before .before .before .args .pen .byte) (c .before .before .before .before .before .before .before .args .pen .at) (c .before .before .before .before .before .before .before .pre .2) (length (now (c .before .before .before .before .before .before .before .args .words))) (c .before .before .before .before .before .before .before .pre .1) (omega arith) .1)
 
--- src/writer/target.rt:46:17
 add-t14 : tie.Need-add-t14
-add-t14 c = search needs
+add-t14 c = omega (arith, keys-fit (constant-coded (c .before .before .before .before .if1 .taken)) (c .before .before .before .before .before .before .before .args .n) (now (c .before .before .before .before .before .before .before .args .words)) [] (c .before .before .before .before .before .before .before .args .pen .word) (c .before .before .before .before .before .before .before .args .pen .byte) (c .before .before .before .before .before .before .before .args .pen .at) (c .before .before .before .before .before .before .before .pre .2) (length (now (c .before .before .before .before .before .before .before .args .words))) (c .before .before .before .before .before .before .before .pre .1) (omega arith) .1)
 
--- src/writer/target.rt:43:9
 same-length : tie.Need-same-length
 same-length c = search needs
 
--- src/writer/target.rt:43:9
 returns : tie.Need-returns
-returns c = search needs
+returns c = constant-done (c .before .before .before .before .if1 .taken) (c .before .before .before .before .before .before .before .args .n) (now (c .before .before .before .before .before .before .before .args .words)) [] (c .before .before .before .before .before .before .before .args .pen .word) (c .before .before .before .before .before .before .before .args .pen .byte) (c .before .before .before .before .before .before .before .args .pen .at) (c .before .before .before .before .before .before .before .pre .2) (now (c .before .before .before .before .before .before .before .args .out)) (c .before .before .write-numbers .ensures) refl
 
--- src/writer/target.rt:50:9
 write-pairs-requires : tie.Need-write-pairs-requires
 write-pairs-requires c κs = search needs
 
--- src/writer/target.rt:52:23
 mul-t18 : tie.Need-mul-t18
-mul-t18 c = search needs
+mul-t18 c = omega (arith, keys-fit (step-coded (c .before .before .before .before .if2 .taken)) (c .before .before .before .before .before .before .before .before .args .n) (now (c .before .before .before .before .before .before .before .before .args .words)) [] (c .before .before .before .before .before .before .before .before .args .pen .word) (c .before .before .before .before .before .before .before .before .args .pen .byte) (c .before .before .before .before .before .before .before .before .args .pen .at) (c .before .before .before .before .before .before .before .before .pre .2) (length (now (c .before .before .before .before .before .before .before .before .args .words))) (c .before .before .before .before .before .before .before .before .pre .1) (omega arith) .0, c .before .before .before .before .before .before .before .before .good)
 
--- src/writer/target.rt:52:19
 add-t19 : tie.Need-add-t19
-add-t19 c = search needs
+add-t19 c = omega (arith, keys-fit (step-coded (c .before .before .before .before .if2 .taken)) (c .before .before .before .before .before .before .before .before .args .n) (now (c .before .before .before .before .before .before .before .before .args .words)) [] (c .before .before .before .before .before .before .before .before .args .pen .word) (c .before .before .before .before .before .before .before .before .args .pen .byte) (c .before .before .before .before .before .before .before .before .args .pen .at) (c .before .before .before .before .before .before .before .before .pre .2) (length (now (c .before .before .before .before .before .before .before .before .args .words))) (c .before .before .before .before .before .before .before .before .pre .1) (omega arith) .0, c .before .before .before .before .before .before .before .before .good)
 
--- src/writer/target.rt:54:22
 mul-t20 : tie.Need-mul-t20
-mul-t20 c = search needs
+mul-t20 c = omega (arith, keys-fit (step-coded (c .before .before .before .before .if2 .taken)) (c .before .before .before .before .before .before .before .before .args .n) (now (c .before .before .before .before .before .before .before .before .args .words)) [] (c .before .before .before .before .before .before .before .before .args .pen .word) (c .before .before .before .before .before .before .before .before .args .pen .byte) (c .before .before .before .before .before .before .before .before .args .pen .at) (c .before .before .before .before .before .before .before .before .pre .2) (length (now (c .before .before .before .before .before .before .before .before .args .words))) (c .before .before .before .before .before .before .before .before .pre .1) (omega arith) .1)
 
--- src/writer/target.rt:54:17
 add-t21 : tie.Need-add-t21
-add-t21 c = search needs
+add-t21 c = omega (arith, keys-fit (step-coded (c .before .before .before .before .if2 .taken)) (c .before .before .before .before .before .before .before .before .args .n) (now (c .before .before .before .before .before .before .before .before .args .words)) [] (c .before .before .before .before .before .before .before .before .args .pen .word) (c .before .before .before .before .before .before .before .before .args .pen .byte) (c .before .before .before .before .before .before .before .before .args .pen .at) (c .before .before .before .before .before .before .before .before .pre .2) (length (now (c .before .before .before .before .before .before .before .before .args .words))) (c .before .before .before .before .before .before .before .before .pre .1) (omega arith) .1)
 
--- src/writer/target.rt:51:9
 same-length-2 : tie.Need-same-length-2
 same-length-2 c = search needs
 
--- src/writer/target.rt:51:9
 returns-2 : tie.Need-returns-2
-returns-2 c = search needs
+returns-2 c = keys-done (step-coded (c .before .before .before .before .if2 .taken)) (c .before .before .before .before .before .before .before .before .args .n) (now (c .before .before .before .before .before .before .before .before .args .words)) [] (c .before .before .before .before .before .before .before .before .args .pen .word) (c .before .before .before .before .before .before .before .before .args .pen .byte) (c .before .before .before .before .before .before .before .before .args .pen .at) (c .before .before .before .before .before .before .before .before .pre .2) (now (c .before .before .before .before .before .before .before .before .args .out)) (c .before .before .write-pairs .ensures) refl
 
--- src/writer/target.rt:57:29
 mul-write-numbers : tie.Need-mul-write-numbers
-mul-write-numbers c = search needs
+mul-write-numbers c = omega (arith, keys-fit (hermite-coded (c .before .before .before .before .pre .0) (c .before .if1 .left) (c .if2 .left)) (c .before .before .before .before .args .n) (now (c .before .before .before .before .args .words)) [] (c .before .before .before .before .args .pen .word) (c .before .before .before .before .args .pen .byte) (c .before .before .before .before .args .pen .at) (c .before .before .before .before .pre .2) (length (now (c .before .before .before .before .args .words))) (c .before .before .before .before .pre .1) (omega arith) .0, c .before .before .before .before .good)
 
--- src/writer/target.rt:57:5
 write-numbers-requires-2 : tie.Need-write-numbers-requires-2
 write-numbers-requires-2 c κs = search needs
 
--- src/writer/target.rt:59:19
 mul-t23 : tie.Need-mul-t23
-mul-t23 c = search needs
+mul-t23 c = omega (arith, keys-fit (hermite-coded (c .before .before .before .before .before .before .before .before .pre .0) (c .before .before .before .before .before .if1 .left) (c .before .before .before .before .if2 .left)) (c .before .before .before .before .before .before .before .before .args .n) (now (c .before .before .before .before .before .before .before .before .args .words)) [] (c .before .before .before .before .before .before .before .before .args .pen .word) (c .before .before .before .before .before .before .before .before .args .pen .byte) (c .before .before .before .before .before .before .before .before .args .pen .at) (c .before .before .before .before .before .before .before .before .pre .2) (length (now (c .before .before .before .before .before .before .before .before .args .words))) (c .before .before .before .before .before .before .before .before .pre .1) (omega arith) .0, c .before .before .before .before .before .before .before .before .good)
 
--- src/writer/target.rt:59:15
 add-t26 : tie.Need-add-t26
-add-t26 c = search needs
+add-t26 c = omega (arith, keys-fit (hermite-coded (c .before .before .before .before .before .before .before .before .pre .0) (c .before .before .before .before .before .if1 .left) (c .before .before .before .before .if2 .left)) (c .before .before .before .before .before .before .before .before .args .n) (now (c .before .before .before .before .before .before .before .before .args .words)) [] (c .before .before .before .before .before .before .before .before .args .pen .word) (c .before .before .before .before .before .before .before .before .args .pen .byte) (c .before .before .before .before .before .before .before .before .args .pen .at) (c .before .before .before .before .before .before .before .before .pre .2) (length (now (c .before .before .before .before .before .before .before .before .args .words))) (c .before .before .before .before .before .before .before .before .pre .1) (omega arith) .0, c .before .before .before .before .before .before .before .before .good)
 
--- src/writer/target.rt:61:18
 mul-t27 : tie.Need-mul-t27
-mul-t27 c = search needs
+mul-t27 c = omega (arith, keys-fit (hermite-coded (c .before .before .before .before .before .before .before .before .pre .0) (c .before .before .before .before .before .if1 .left) (c .before .before .before .before .if2 .left)) (c .before .before .before .before .before .before .before .before .args .n) (now (c .before .before .before .before .before .before .before .before .args .words)) [] (c .before .before .before .before .before .before .before .before .args .pen .word) (c .before .before .before .before .before .before .before .before .args .pen .byte) (c .before .before .before .before .before .before .before .before .args .pen .at) (c .before .before .before .before .before .before .before .before .pre .2) (length (now (c .before .before .before .before .before .before .before .before .args .words))) (c .before .before .before .before .before .before .before .before .pre .1) (omega arith) .1)
 
--- src/writer/target.rt:61:13
 add-t28 : tie.Need-add-t28
-add-t28 c = search needs
+add-t28 c = omega (arith, keys-fit (hermite-coded (c .before .before .before .before .before .before .before .before .pre .0) (c .before .before .before .before .before .if1 .left) (c .before .before .before .before .if2 .left)) (c .before .before .before .before .before .before .before .before .args .n) (now (c .before .before .before .before .before .before .before .before .args .words)) [] (c .before .before .before .before .before .before .before .before .args .pen .word) (c .before .before .before .before .before .before .before .before .args .pen .byte) (c .before .before .before .before .before .before .before .before .args .pen .at) (c .before .before .before .before .before .before .before .before .pre .2) (length (now (c .before .before .before .before .before .before .before .before .args .words))) (c .before .before .before .before .before .before .before .before .pre .1) (omega arith) .1)
 
--- src/writer/target.rt:34:1
 same-length-3 : tie.Need-same-length-3
 same-length-3 c = search needs
 
--- src/writer/target.rt:34:1
 returns-3 : tie.Need-returns-3
-returns-3 c = search needs
+returns-3 c = keys-done (hermite-coded (c .before .before .before .before .before .before .before .before .pre .0) (c .before .before .before .before .before .if1 .left) (c .before .before .before .before .if2 .left)) (c .before .before .before .before .before .before .before .before .args .n) (now (c .before .before .before .before .before .before .before .before .args .words)) [] (c .before .before .before .before .before .before .before .before .args .pen .word) (c .before .before .before .before .before .before .before .before .args .pen .byte) (c .before .before .before .before .before .before .before .before .args .pen .at) (c .before .before .before .before .before .before .before .before .pre .2) (now (c .before .before .before .before .before .before .before .before .args .out)) (c .before .before .write-numbers2 .ensures) refl
 
 pub put-keys-spec : {M : Type 1} → statement M
 put-keys-spec =

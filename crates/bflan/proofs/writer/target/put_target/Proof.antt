@@ -1,3 +1,5 @@
+-- `writer::target::put_target` meets its contract.
+-- Assumes nothing.
 use borrow.Author.Needs.{needs}
 use Rattle.bflan.proofs.writer.target.put_target.Statement.{statement}
 use Rattle.bflan.proofs.writer.target.put_target.Tie as tie
@@ -6,62 +8,53 @@ use Rattle.bflan.proofs.writer.target.put_target.Lts as lts
 use Rattle.bflan.proofs.writer.field.word_of.Reads as word-of-reads
 use Rattle.bflan.proofs.writer.target.put_head.Reads as put-head-reads
 use Rattle.bflan.proofs.writer.target.put_keys.Reads as put-keys-reads
+use mathlib.Core.List.{[]}
+use native.Mathlib.Omega.{arith}
+use denote.Ref.{now}
+use Rattle.bflan.proofs.Storing.{ready-in}
+use Rattle.bflan.proofs.StoredParts.{target-there, keys-ready, target-done}
 
--- src/writer/target.rt:73:9
 word-of-requires : tie.Need-word-of-requires
 word-of-requires c κs = search needs
 
--- src/writer/target.rt:74:33
 add-word-of : tie.Need-add-word-of
-add-word-of c = search needs
+add-word-of c = omega (arith, target-there (c .before .before .before .args .letters) (now (c .before .before .before .args .words)) [] (c .before .before .before .args .pen .word) (c .before .before .before .args .pen .byte) (c .before .before .before .args .pen .at) (c .before .before .before .pre) .0, c .before .before .before .good)
 
--- src/writer/target.rt:74:9
 word-of-requires-2 : tie.Need-word-of-requires-2
 word-of-requires-2 c κs = search needs
 
--- src/writer/target.rt:75:32
 add-word-of-2 : tie.Need-add-word-of-2
-add-word-of-2 c = search needs
+add-word-of-2 c = omega (arith, target-there (c .before .before .before .before .args .letters) (now (c .before .before .before .before .args .words)) [] (c .before .before .before .before .args .pen .word) (c .before .before .before .before .args .pen .byte) (c .before .before .before .before .args .pen .at) (c .before .before .before .before .pre) .0, c .before .before .before .before .good)
 
--- src/writer/target.rt:75:9
 word-of-requires-3 : tie.Need-word-of-requires-3
 word-of-requires-3 c κs = search needs
 
--- src/writer/target.rt:76:28
 add-word-of-3 : tie.Need-add-word-of-3
-add-word-of-3 c = search needs
+add-word-of-3 c = omega (arith, target-there (c .before .before .before .before .before .args .letters) (now (c .before .before .before .before .before .args .words)) [] (c .before .before .before .before .before .args .pen .word) (c .before .before .before .before .before .args .pen .byte) (c .before .before .before .before .before .args .pen .at) (c .before .before .before .before .before .pre) .0, c .before .before .before .before .before .good)
 
--- src/writer/target.rt:76:9
 word-of-requires-4 : tie.Need-word-of-requires-4
 word-of-requires-4 c κs = search needs
 
--- src/writer/target.rt:77:5
 put-head-requires : tie.Need-put-head-requires
-put-head-requires c κs = search needs
+put-head-requires c κs = target-there (c .before .before .before .before .before .before .before .args .letters) (now (c .before .before .before .before .before .before .before .args .words)) [] (c .before .before .before .before .before .before .before .args .pen .word) (c .before .before .before .before .before .before .before .args .pen .byte) (c .before .before .before .before .before .before .before .args .pen .at) (c .before .before .before .before .before .before .before .pre) .1
 
--- src/writer/target.rt:79:15
 add-put-keys : tie.Need-add-put-keys
-add-put-keys c = search needs
+add-put-keys c = omega (arith, target-there (c .before .before .before .before .before .before .before .before .before .before .args .letters) (now (c .before .before .before .before .before .before .before .before .before .before .args .words)) [] (c .before .before .before .before .before .before .before .before .before .before .args .pen .word) (c .before .before .before .before .before .before .before .before .before .before .args .pen .byte) (c .before .before .before .before .before .before .before .before .before .before .args .pen .at) (c .before .before .before .before .before .before .before .before .before .before .pre) .0, c .before .before .before .before .before .before .before .before .before .before .good)
 
--- src/writer/target.rt:81:13
 add-t16 : tie.Need-add-t16
-add-t16 c = search needs
+add-t16 c = omega (arith, target-there (c .before .before .before .before .before .before .before .before .before .before .args .letters) (now (c .before .before .before .before .before .before .before .before .before .before .args .words)) [] (c .before .before .before .before .before .before .before .before .before .before .args .pen .word) (c .before .before .before .before .before .before .before .before .before .before .args .pen .byte) (c .before .before .before .before .before .before .before .before .before .before .args .pen .at) (c .before .before .before .before .before .before .before .before .before .before .pre) .1)
 
--- src/writer/target.rt:83:28
 cast-put-keys : tie.Need-cast-put-keys
 cast-put-keys c = search needs
 
--- src/writer/target.rt:83:5
 put-keys-requires : tie.Need-put-keys-requires
-put-keys-requires c κs = search needs
+put-keys-requires c κs = let k = keys-ready (c .before .before .before .before .before .before .before .before .before .before .before .args .letters) (now (c .before .before .before .before .before .before .before .before .before .before .before .args .words)) [] (c .before .before .before .before .before .before .before .before .before .before .before .args .pen .word) (c .before .before .before .before .before .before .before .before .before .before .before .args .pen .byte) (c .before .before .before .before .before .before .before .before .before .before .before .args .pen .at) (c .before .before .before .before .before .before .before .before .before .before .before .pre) _ _ _ _ (c .before .before .before .before .before .before .before .before .word-of .ensures) (c .before .before .before .before .before .before .before .word-of2 .ensures) (c .before .before .before .before .before .before .word-of3 .ensures) (c .before .before .before .before .before .word-of4 .ensures) in (k .0, k .1, ready-in (c .before .before .before .put-head .kept .0) (k .2))
 
--- src/writer/target.rt:66:1
 same-length : tie.Need-same-length
 same-length c = search needs
 
--- src/writer/target.rt:66:1
 returns : tie.Need-returns
-returns c = search needs
+returns c = target-done (c .before .before .before .before .before .before .before .before .before .before .before .before .before .before .args .letters) (now (c .before .before .before .before .before .before .before .before .before .before .before .before .before .before .args .words)) [] (c .before .before .before .before .before .before .before .before .before .before .before .before .before .before .args .pen .word) (c .before .before .before .before .before .before .before .before .before .before .before .before .before .before .args .pen .byte) (c .before .before .before .before .before .before .before .before .before .before .before .before .before .before .args .pen .at) (c .before .before .before .before .before .before .before .before .before .before .before .before .before .before .pre) _ _ _ _ (c .before .before .before .before .before .before .before .before .before .before .before .word-of .ensures) (c .before .before .before .before .before .before .before .before .before .before .word-of2 .ensures) (c .before .before .before .before .before .before .before .before .before .word-of3 .ensures) (c .before .before .before .before .before .before .before .before .word-of4 .ensures) (now (c .before .before .before .before .before .before .before .before .before .before .before .before .before .before .args .out)) (c .before .before .before .before .before .before .put-head .ensures) (c .before .before .put-keys .ensures .0) (c .before .before .put-keys .ensures .1)
 
 pub put-target-spec : {M : Type 1} → statement M
 put-target-spec =

@@ -1,5 +1,7 @@
 -- `writer::target::put_targets` meets its contract. The loop's invariant: what is left, from here, is what all of it is, from the start.
 -- Assumes nothing.
+-- `writer::target::put_targets` meets its contract. The loop's invariant: what is left, from here, is what all of it is, from the start.
+-- Assumes nothing.
 use borrow.Author.Needs.{needs}
 use Rattle.bflan.proofs.writer.target.put_targets.Statement.{statement}
 use Rattle.bflan.proofs.writer.target.put_targets.Tie as tie
@@ -18,6 +20,7 @@ use Rattle.bflan.specs.Layout.{targetLay}
 use Rattle.bflan.specs.Limits.{limit}
 use Rattle.bflan.specs.Stored.{laid, behind, listed}
 use Rattle.bflan.proofs.Storing.{Going, going-start, going-first, going-turn, going-end}
+use Rattle.bflan.proofs.Storing.{ready-in, Going, going-start, going-first, going-turn, going-end, listed-fits}
 
 abbrev Inv-loop : tie.InvT-loop
 Inv-loop words letters n base out₀ left₀ tab₀ q₀ out left tab q =
@@ -30,37 +33,40 @@ abbrev μ-loop : tie.MeasureT-loop
 μ-loop words letters n base out₀ left₀ tab₀ q₀ out left tab q = left
 
 mul-t10 : tie.Need-mul-t10 Inv-loop μ-loop
-mul-t10 c = ?
+mul-t10 c = omega (arith, listed-fits (target (c .before .before .args .letters)) targetLay (now (c .before .before .args .words)) [] (c .before .before .args .base) (c .before .before .args .pen .at + 4 * c .before .before .args .n - c .before .before .args .base) (c .before .before .args .n) (c .before .before .args .pen .word) (c .before .before .args .pen .byte) (c .before .before .args .pen .at) (c .before .before .pre .1))
 
 add-t11 : tie.Need-add-t11 Inv-loop μ-loop
-add-t11 c = ?
+add-t11 c = let h = listed-fits (target (c .before .before .before .args .letters)) targetLay (now (c .before .before .before .args .words)) [] (c .before .before .before .args .base) (c .before .before .before .args .pen .at + 4 * c .before .before .before .args .n - c .before .before .before .args .base) (c .before .before .before .args .n) (c .before .before .before .args .pen .word) (c .before .before .before .args .pen .byte) (c .before .before .before .args .pen .at) (c .before .before .before .pre .1) in omega (arith, h)
 
 loop-holds : tie.Need-loop-holds Inv-loop μ-loop
-loop-holds c = ?
+loop-holds c = (going-start (target (c .before .before .before .args .letters)) targetLay (now (c .before .before .before .args .words)) [] (c .before .before .before .args .base) (c .before .before .before .args .n) (c .before .before .before .args .pen) (now (c .before .before .before .args .out)) (c .before .before .before .pre .0) (c .before .before .before .pre .1), refl)
 
 put-offset-requires : tie.Need-put-offset-requires Inv-loop μ-loop
-put-offset-requires c κs = search needs
+put-offset-requires c κs = (c .before .before .loop .inv .0 .above, omega (arith, c .before .before .loop .inv .0 .ready .short))
 
 put-target-requires : tie.Need-put-target-requires Inv-loop μ-loop
-put-target-requires c κs = ?
+put-target-requires c κs = ready-in (c .before .before .before .put-offset .kept .0) (going-first (target (c .before .before .before .before .before .before .before .before .before .before .args .letters)) targetLay (now (c .before .before .before .before .before .before .before .before .before .before .args .words)) [] (c .before .before .before .before .before .before .before .before .before .before .args .base) (c .before .before .before .before .before .before .loop .inv .0) (c .before .before .before .before .before .loop-test .taken))
 
 add-tab : tie.Need-add-tab Inv-loop μ-loop
-add-tab c = search needs
+add-tab c = omega (arith, c .before .before .before .before .before .before .before .before .before .loop .inv .0 .apart, c .before .before .before .before .before .before .before .before .before .loop .inv .0 .ready .short, c .before .before .before .before .before .before .before .before .loop-test .taken)
 
 sub-left : tie.Need-sub-left Inv-loop μ-loop
-sub-left c = search needs
+sub-left c = omega (arith, c .before .before .before .before .before .before .before .before .loop-test .taken)
 
 loop-less : tie.Need-loop-less Inv-loop μ-loop
-loop-less c = search needs
+loop-less c = omega (arith, c .before .before .before .before .before .before .before .before .loop-test .taken)
 
 loop-again : tie.Need-loop-again Inv-loop μ-loop
-loop-again c = ?
+loop-again c = (
+      going-turn (target (c .before .before .before .before .before .before .before .before .before .before .before .before .before .args .letters)) targetLay (now (c .before .before .before .before .before .before .before .before .before .before .before .before .before .args .words)) [] (c .before .before .before .before .before .before .before .before .before .before .before .before .before .args .base) (c .before .before .before .before .before .before .before .before .before .loop .inv .0) (c .before .before .before .before .before .before .before .before .loop-test .taken) _ _ _ (c .before .before .before .before .before .before .put-offset .ensures) (c .before .before .put-target .ensures .0) (c .before .before .put-target .ensures .1) (c .before .before .put-target .kept .1 .1 .1 .0 ∙ c .before .before .before .before .before .before .put-offset .kept .0),
+      c .before .before .put-target .kept .1 .1 .1 .0 ∙ c .before .before .before .before .before .before .put-offset .kept .0 ∙ c .before .before .before .before .before .before .before .before .before .loop .inv .1,
+    )
 
 same-length : tie.Need-same-length Inv-loop μ-loop
-same-length c = search needs
+same-length c = c .before .loop .inv .1
 
 returns : tie.Need-returns Inv-loop μ-loop
-returns c = ?
+returns c = going-end (target (c .before .before .before .before .before .args .letters)) targetLay (now (c .before .before .before .before .before .args .words)) [] (c .before .before .before .before .before .args .base) (c .before .loop .inv .0) (c .loop-test .left)
 
 pub put-targets-spec : {M : Type 1} → statement M
 put-targets-spec =
