@@ -40,6 +40,8 @@ pub struct Sample {
     pub cases: usize,
     /// How many cases have each number as their answer.
     pub numbers: [usize; 6],
+    /// Of the sections that are read, the texts that are well-formed where they lie, and the others.
+    pub texts: [usize; 2],
 }
 
 /// Makes the sample, always the same.
@@ -48,8 +50,8 @@ pub fn sample() -> Sample {
     let mut alike = HashMap::new();
     let mut choice = Maker::new(SEED);
     let mut take = |kind: &str, section: &[u8], share: usize| {
-        let seen = walk(section, &Rules::DOCUMENT, 10_000);
-        if section.len() > SECTION || seen.is_none_or(|seen| seen.asked > MOST_ASKED) {
+        let Some(seen) = walk(section, &Rules::DOCUMENT, 10_000) else { return };
+        if section.len() > SECTION || seen.asked > MOST_ASKED {
             return;
         }
         let outcome = reference(section);
@@ -88,6 +90,10 @@ pub fn sample() -> Sample {
         if let (Ok(flat), 0) = (&outcome, answer[0]) {
             out.bytes.extend(flat.words.iter().flat_map(|word| word.to_le_bytes()));
             out.bytes.extend(&flat.texts);
+            for place in seen.places {
+                let text = &section[place.start..][..place.len];
+                out.texts[usize::from(std::str::from_utf8(text).is_err())] += 1;
+            }
         }
     };
     fixed_sections(&mut |kind, section| take(kind, section, if kind == "document 01's exercises" { 1 } else { 4 }));

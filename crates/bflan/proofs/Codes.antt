@@ -242,7 +242,7 @@ rows-small : Small rows
 unfolding rows val
 rows-small = (omega arith, (omega arith, (omega arith, (omega arith, (omega arith, (omega arith, (omega arith, (omega arith, (omega arith, (omega arith, (omega arith, (omega arith, (omega arith, (omega arith, (omega arith, (omega arith, (omega arith, (omega arith, tt))))))))))))))))))
 
-fleu-lt : fleu < 256 ^ 4
+pub fleu-lt : fleu < 256 ^ 4
 unfolding fleu val
 fleu-lt = omega arith
 

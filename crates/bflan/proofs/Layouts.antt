@@ -2,14 +2,17 @@
 -- Assumes nothing.
 use Prim.Native.Nat.{ℕ, _+_, _*_, _^_, _≤_, _<_}
 use mathlib.Core.Path.{_≡_, refl, ap, sym, subst, _∙_}
+use mathlib.Core.Bool.{Bool, true, false}
 use mathlib.Core.List.{List, [], _∷_, _++_}
 use native.Mathlib.Nat.{add-zero}
 use native.Mathlib.Omega.{arith}
+use lib.Dec.{eqb}
 use lib.ListN.{length, take, drop, length-append}
 use lib.Seq.{take-take, take-append-seam, drop-drop, take-add, take-length, drop-at}
+use Rattle.core.specs.Choice.{pick}
 use Rattle.core.specs.Number.{get}
 use Rattle.core.proofs.Numbers.{length-le, val-le}
-use Rattle.bflan.specs.Layout.{Layout, nothing, number, bytes, _⨾_, size, written, parts, table}
+use Rattle.bflan.specs.Layout.{Layout, nothing, number, bytes, _⨾_, size, written, parts, table, tableFrom, userLay}
 use Rattle.bflan.specs.Reader.{ok, num, numbers}
 use Rattle.bflan.proofs.KeyRuns.{num-there}
 
@@ -88,3 +91,12 @@ module _ {X : Type 0} (lay : X → Layout) where
       let r : from + size (lay x) + size (parts lay xs) < 256 ^ 4 = omega arith in
       rw (stands-num (stands-left h) n, table-reads s (i + 4) (from + size (lay x)) xs r (stands-right h))
       (ap (ok (from ∷ offsets (from + size (lay x)) xs)) (omega arith))
+
+-- the two numbers of a User content are before its info table
+pub user-size : (type total : ℕ) → 32 + size (userLay type total) ≡ tableFrom type
+unfolding userLay tableFrom size
+user-size type total = go (eqb type 2)
+  where
+    go : (b : Bool) → 32 + size (pick b (number 4 40 ⨾ number 4 total) nothing) ≡ pick b 40 32
+    go true = refl
+    go false = refl

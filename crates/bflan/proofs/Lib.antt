@@ -1,3 +1,4 @@
+pub mod Answers
 pub mod Bounds
 pub mod Codes
 pub mod ContentParts
@@ -5,12 +6,16 @@ pub mod Counts
 pub mod DatumParts
 pub mod Emits
 pub mod Exercises
+pub mod Fields
 pub mod InfoParts
 pub mod Inversion
 pub mod Judging
 pub mod KeyRuns
 pub mod Layouts
+pub mod MeasureParts
+pub mod Measures
 pub mod ReadBack
+pub mod Replacing
 pub mod RoundTrip
 pub mod SectionParts
 pub mod StoredParts
@@ -18,3 +23,4 @@ pub mod Storing
 pub mod TargetParts
 pub mod Verdicts
 pub mod Walks
+pub mod WrittenBytes

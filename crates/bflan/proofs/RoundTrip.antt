@@ -36,7 +36,7 @@ use Rattle.bflan.proofs.ContentParts.{nameSize, contentRest, content-th
 use Rattle.bflan.proofs.Emits.{sought-on, ended-on, shown-part}
 use Rattle.bflan.proofs.KeyRuns.{asNumbers, numbers-run}
 use Rattle.bflan.proofs.SectionParts.{endAt, headWords, section-body, body-there, contents-on}
-use Rattle.bflan.proofs.Layouts.{Stands, stands-left, stands-right, stands-to, stands-all, stands-num, stands-get, size-table, size-written, offsets, table-reads}
+use Rattle.bflan.proofs.Layouts.{Stands, stands-left, stands-right, stands-to, stands-all, stands-num, stands-get, size-table, size-written, offsets, table-reads, user-size}
 use Rattle.bflan.proofs.ReadBack.{shownIn, Reads, reads-as, reads-none, reads-before, reads-joined, ReadsPart, ReadsAt, many-reads, visit-reads, key-reads, shown-words, words-shown, texts-shown}
 use Rattle.bflan.proofs.TargetParts.{curve-low, count-low}
 use Rattle.bflan.proofs.Walks.{before, joined, put-before}
@@ -165,14 +165,6 @@ module _ (s : List ℕ) (short : length s ≤ 16777216) where
       record { next = b + 4 + 1 + 1 + 2 + size (parts datumLay ds); here = reads-as (sym e) refl refl (reads-before (word fleu ∷ word n ∷ []) m) }
 
   -- ---- contents
-
-  user-size : (type total : ℕ) → 32 + size (userLay type total) ≡ tableFrom type
-  unfolding userLay tableFrom size
-  user-size type total = go (eqb type 2)
-    where
-      go : (b : Bool) → 32 + size (pick b (number 4 40 ⨾ number 4 total) nothing) ≡ pick b 40 32
-      go true = refl
-      go false = refl
 
   user-reads : (type total b : ℕ) → b + 32 + size (userLay type total) ≤ length s → Stands s (b + 32) (userLay type total) → infoTable b type s (b + 32) ≡ ok (b + tableFrom type) (b + tableFrom type)
   unfolding userLay tableFrom size infoTable

@@ -161,16 +161,16 @@ second a b e = ap (λ (z : Three). z .1) e
 third : (a b : Three) → a ≡ b → a .2 ≡ b .2
 third a b e = ap (λ (z : Three). z .2) e
 
-on-no : (t : Tally) (q : ℕ) (f : Fault) → On t q ≡ No f → ⊥
+pub on-no : (t : Tally) (q : ℕ) (f : Fault) → On t q ≡ No f → ⊥
 on-no t q f e = let z : _≡_ {A = ℕ} 0 1 = cc in omega arith
 
-on-tally : (t u : Tally) (p q : ℕ) → On t p ≡ On u q → t ≡ u
+pub on-tally : (t u : Tally) (p q : ℕ) → On t p ≡ On u q → t ≡ u
 on-tally t u p q e = cc
 
 on-place : (t u : Tally) (p q : ℕ) → On t p ≡ On u q → p ≡ q
 on-place t u p q e = cc
 
-no-fault : (f g : Fault) → No f ≡ No g → f ≡ g
+pub no-fault : (f g : Fault) → No f ≡ No g → f ≡ g
 no-fault f g e = cc
 
 module _ (s : List ℕ) (t : Tally) (w x : List ℕ) (res : Res (List Item)) (h : length w ≤ 18446744073709551615) (k : length x ≤ 18446744073709551615) where

@@ -17,15 +17,12 @@ use Rattle.bflan.specs.declared.read.ReadAnswer.{ReadAnswer}
 use Rattle.bflan.specs.declared.read.ReadAnswer.the-variants.{Accepted, Refused, TooLong, TooShort}
 use Rattle.bflan.specs.declared.find.FindAnswer.{FindAnswer}
 use Rattle.bflan.specs.declared.find.FindAnswer.the-variants.{Found, Refused as FindRefused, TooLong as FindTooLong, NoSuchText, ScratchTooShort}
+use Rattle.bflan.specs.Limits.{limit}
 use Rattle.bflan.specs.Reader.{Res, ok, stop, Item, word, text}
 use Rattle.bflan.specs.Reading.{section}
 use Rattle.bflan.specs.Walk.{wordsOf, textsOf}
 
 -- ---- numbers and values
-
--- the longest section
-abbrev pub limit : ℕ
-limit = 16777216
 
 abbrev pub refused : ℕ → List ℕ → Outcome
 refused n vs = record { number = n; values = vs }

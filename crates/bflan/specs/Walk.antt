@@ -43,6 +43,10 @@ textsOf s (text a n ∷ is) = shownAt s a n ++ textsOf s is
 abbrev pub sat : ℕ → ℕ
 sat n = min n 18446744073709551615
 
+-- before anything was met; text k is wanted
+abbrev pub noneYet : ℕ → Tally
+noneYet k = record { words = 0; bytes = 0; texts = 0; want = k; start = 0; len = 0 }
+
 unfoldable pub moved : Tally → ℕ → Tally
 moved t n =
     record { words = sat (t .words + n); bytes = t .bytes; texts = t .texts; want = t .want; start = t .start; len = t .len }

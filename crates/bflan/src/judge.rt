@@ -1,4 +1,29 @@
 // Judging a record's words and texts, and measuring the section that they make.
+ghost use mathlib.Core.Path.{_≡_};
+ghost use Prim.Native.Nat.{ℕ, _+_, _*_, _<_};
+ghost use lib.ListN.{length};
+ghost use Rattle.bflan.specs.Judge.{ends, section};
+ghost use Rattle.bflan.specs.Layout.{size, parts, contentLay, sectionLay};
+ghost use Rattle.bflan.specs.Measure.{measured};
+ghost use Rattle.bflan.specs.MeasureParts.{filledUp, ending, headed};
+ghost use Rattle.bflan.specs.Record.{PaneAnimInfo};
+ghost use Rattle.bflan.specs.Walk.{sat};
+use crate::judge::content::contents;
+use crate::judge::size::filled_up;
+use crate::judge::size::grown;
+use crate::judge::text::textures;
+use crate::judge::word::below;
+use crate::judge::word::word_of;
+use crate::tally::add;
+
+pub mod content;
+pub mod datum;
+pub mod info;
+pub mod run;
+pub mod size;
+pub mod target;
+pub mod text;
+pub mod word;
 
 // Where the walk stands behind a part that is within the limits: the next word, the next text byte, and the bytes that the part has in the
 // section. A size that a usize does not hold is the largest one.
@@ -14,4 +39,77 @@ pub enum Verdict {
     BadWord(usize),
     // Where a text's fault stands.
     BadText(usize),
+}
+
+// That no word and then no text byte is over.
+fn ends(words: &[u32], texts: &[u8], i: usize, j: usize) -> Verdict
+    ensures { λ r. ⌜ r ≡ measured (λ z. 0) (ends (now (words .entry)) (now (texts .entry)) i j) ⌝ }
+{
+    if i < words.len() {
+        return Verdict::BadWord(i);
+    }
+    if j < texts.len() {
+        return Verdict::BadText(j);
+    }
+    Verdict::Fine(Mark {
+        word: i,
+        byte: j,
+        size: 0,
+    })
+}
+
+// `n` contents with their table, and nothing behind them.
+fn ending(words: &[u32], texts: &[u8], i: usize, j: usize, n: usize) -> Verdict
+    requires { ⌜ n < 65536 ⌝ }
+    ensures { λ r. ⌜ r ≡ measured (λ cs. 4 * length cs + size (parts contentLay cs)) (ending n (now (words .entry)) (now (texts .entry)) i j) ⌝ }
+{
+    match contents(words, texts, i, j, n) {
+        Verdict::BadWord(k) => Verdict::BadWord(k),
+        Verdict::BadText(k) => Verdict::BadText(k),
+        Verdict::Fine(m) => grown(ends(words, texts, m.word, m.byte), add(4 * n, m.size)),
+    }
+}
+
+// Where the content table stands behind `n` texture names of `size` bytes.
+fn table_behind(n: usize, size: usize) -> usize
+    requires { ⌜ n < 65536 ⌝ }
+    ensures { λ r. ⌜ r ≡ sat (filledUp (20 + (4 * n + size))) ⌝ }
+{
+    filled_up(add(20 + 4 * n, size))
+}
+
+// What is behind a section's first four words: `nt` texture names and `nc` contents.
+fn headed(words: &[u32], texts: &[u8], i: usize, j: usize, nt: usize, nc: usize) -> Verdict
+    requires { ⌜ (nt < 65536) × (nc < 65536) ⌝ }
+    ensures { λ r. ⌜ ((frames looping : ℕ) → r ≡ measured (λ (a : PaneAnimInfo). size (sectionLay a)) (headed frames looping nt nc (now (words .entry)) (now (texts .entry)) i j)) ⌝ }
+{
+    match textures(words, texts, i, j, nt) {
+        Verdict::BadWord(k) => Verdict::BadWord(k),
+        Verdict::BadText(k) => Verdict::BadText(k),
+        Verdict::Fine(m) => grown(
+            ending(words, texts, m.word, m.byte, nc),
+            table_behind(nt, m.size),
+        ),
+    }
+}
+
+// The section that the words and texts make.
+pub(crate) fn judge_section(words: &[u32], texts: &[u8]) -> Verdict
+    ensures { λ r. ⌜ r ≡ measured (λ (a : PaneAnimInfo). size (sectionLay a)) (section (now (words .entry)) (now (texts .entry)) 0 0) ⌝ }
+{
+    if !below(words, 0, 65536) {
+        return Verdict::BadWord(0);
+    }
+    if !below(words, 1, 2) {
+        return Verdict::BadWord(1);
+    }
+    if !below(words, 2, 65536) {
+        return Verdict::BadWord(2);
+    }
+    if !below(words, 3, 65536) {
+        return Verdict::BadWord(3);
+    }
+    let nt = word_of(words, 2) as usize;
+    let nc = word_of(words, 3) as usize;
+    headed(words, texts, 4, 0, nt, nc)
 }

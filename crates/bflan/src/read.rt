@@ -1,5 +1,15 @@
 // Reading a section into two tables.
+ghost use mathlib.Core.Path.{_≡_};
+ghost use mathlib.Core.List.{[]};
+ghost use Prim.Native.Nat.{_≤_};
+ghost use lib.ListN.{length};
+ghost use Rattle.bflan.specs.Answer.{ofReading, reading};
+ghost use Rattle.bflan.specs.Reading.{section};
+ghost use Rattle.bflan.specs.Walk.{noneYet, run};
 use crate::fault::Fault;
+use crate::section::section_at;
+use crate::tally::Walk;
+use crate::tally::fresh;
 
 pub enum ReadAnswer {
     // The words and the text bytes that were filled.
@@ -9,4 +19,42 @@ pub enum ReadAnswer {
     TooLong(usize),
     // The section reads, but does not fit: the words and the text bytes that it needs.
     TooShort(usize, usize),
+}
+
+// The longest section.
+pub(crate) const LIMIT: usize = 16777216;
+
+// The walk over a section, storing nothing; text `want` is looked for.
+pub(crate) fn measure(s: &[u8], want: usize) -> Walk
+    requires { ⌜ length (now s) ≤ 16777216 ⌝ }
+    ensures { λ r. ⌜ r ≡ run (now (s .entry)) (noneYet want) [] [] (section (now (s .entry)) 0) .0 ⌝ }
+{
+    let mut words = [0u32; 0];
+    let mut texts = [0u8; 0];
+    section_at(s, &mut words, &mut texts, fresh(want))
+}
+
+// Measured over no tables, and then filled. No text is looked for: any number serves.
+pub fn read(section: &[u8], words: &mut [u32], texts: &mut [u8]) -> ReadAnswer
+    ensures { λ r. ⌜ (ofReading r, now (words .exit), now (texts .exit)) ≡ reading (now (section .entry)) (now (words .entry)) (now (texts .entry)) ⌝ }
+{
+    let size = section.len();
+    if LIMIT < size {
+        return ReadAnswer::TooLong(size);
+    }
+    match measure(section, 0) {
+        Walk::No(f) => ReadAnswer::Refused(f),
+        Walk::On(t, _p) => {
+            let needs = t.words;
+            let bytes = t.bytes;
+            if words.len() < needs {
+                return ReadAnswer::TooShort(needs, bytes);
+            }
+            if texts.len() < bytes {
+                return ReadAnswer::TooShort(needs, bytes);
+            }
+            section_at(section, words, texts, fresh(0));
+            ReadAnswer::Accepted(needs, bytes)
+        }
+    }
 }

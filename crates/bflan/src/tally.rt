@@ -1,7 +1,7 @@
 // What a walk over a section has counted, and where it stands.
 ghost use mathlib.Core.Path.{_≡_};
 ghost use Prim.Native.Nat.{_+_, min};
-ghost use Rattle.bflan.specs.Walk.{sat, moved, named};
+ghost use Rattle.bflan.specs.Walk.{sat, noneYet, moved, named};
 use crate::fault::Fault;
 
 // Words and text bytes so far, which are also the places of the next ones; texts so far; and the place and the length of the text
@@ -21,7 +21,7 @@ pub enum Walk {
     No(Fault),
 }
 
-fn add(a: usize, b: usize) -> usize
+pub(crate) fn add(a: usize, b: usize) -> usize
     ensures { λ r. ⌜ r ≡ sat (a + b) ⌝ }
 {
     if b <= 18446744073709551615 - a {
@@ -31,7 +31,7 @@ fn add(a: usize, b: usize) -> usize
 }
 
 pub(crate) fn fresh(want: usize) -> Tally
-    ensures { λ r. ⌜ (r .words ≡ 0) × (r .bytes ≡ 0) × (r .texts ≡ 0) × (r .want ≡ want) ⌝ }
+    ensures { λ r. ⌜ r ≡ noneYet want ⌝ }
 {
     Tally {
         words: 0,

@@ -1,10 +1,18 @@
-// Functions of core for a program in C or Rust. Each only calls the function of the same name, and has its contract. A slice
-// is passed as its address and its length. None asks anything of the caller but that the slices are there and that no byte
-// that a call may change is in another of its slices.
+// Functions of core and of bflan for a program in C or Rust. Each calls the function of the same name and has its contract. A
+// slice is passed as its address and its length, and an answer that is an enum comes back as numbers in a list. None asks
+// anything of the caller but that the slices are there and that no byte that a call may change is in another of its slices.
+mod answer;
+
 ghost use mathlib.Core.Path.{_≡_};
 ghost use lib.Seq.{sets};
 ghost use Rattle.core.specs.Text.{beforeZero, firstFault};
 ghost use Rattle.core.specs.Utf8.{decode, decodedSize, sound, wellFormed};
+ghost use Rattle.bflan.specs.Answer.{finding, reading};
+ghost use Rattle.capi.specs.Flat.{flat};
+use crate::answer::of_finding;
+use crate::answer::of_reading;
+use crate::answer::put3;
+use crate::answer::put4;
 
 #[no_mangle]
 pub extern "C" fn nnbfl_decoded_len(text: &[u8]) -> usize
@@ -53,4 +61,33 @@ pub extern "C" fn nnbfl_first_fault(text: &[u8]) -> usize
     ensures { λ r. ⌜ r ≡ firstFault (now (text .entry)) ⌝ }
 {
     core::text::first_fault(text)
+}
+
+#[no_mangle]
+pub extern "C" fn nnbfl_read(
+    section: &[u8],
+    words: &mut [u32],
+    texts: &mut [u8],
+    answer: &mut [usize],
+)
+    ensures { λ _. ⌜ (now (words .exit) ≡ reading (now (section .entry)) (now (words .entry)) (now (texts .entry)) .1)
+        × (now (texts .exit) ≡ reading (now (section .entry)) (now (words .entry)) (now (texts .entry)) .2)
+        × (now (answer .exit) ≡ sets (now (answer .entry)) 0 (flat 3 (reading (now (section .entry)) (now (words .entry)) (now (texts .entry)) .0))) ⌝ }
+{
+    let r = bflan::read::read(section, words, texts);
+    put3(answer, of_reading(r));
+}
+
+#[no_mangle]
+pub extern "C" fn nnbfl_find_text(
+    section: &[u8],
+    text: usize,
+    scratch: &mut [u8],
+    answer: &mut [usize],
+)
+    ensures { λ _. ⌜ (now (scratch .exit) ≡ finding (now (section .entry)) text (now (scratch .entry)) .1)
+        × (now (answer .exit) ≡ sets (now (answer .entry)) 0 (flat 4 (finding (now (section .entry)) text (now (scratch .entry)) .0))) ⌝ }
+{
+    let r = bflan::find::find_text(section, text, scratch);
+    put4(answer, of_finding(r));
 }

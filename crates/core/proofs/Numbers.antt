@@ -32,6 +32,11 @@ bytes-take (suc n) (x ∷ s) h (suc i) = bytes-take n s (λ j. h (suc j)) i
 pub bytes-drop : (n : ℕ) (s : List ℕ) → Bytes s → Bytes (drop n s)
 bytes-drop n s h i = rw (getD-drop n s i 0) (h (n + i))
 
+pub bytes-append : (s t : List ℕ) → Bytes s → Bytes t → Bytes (s ++ t)
+bytes-append [] t h k i = k i
+bytes-append (x ∷ s) t h k zero = h 0
+bytes-append (x ∷ s) t h k (suc i) = bytes-append s t (λ j. h (suc j)) k i
+
 bytes-set : (s : List ℕ) (i x : ℕ) → Bytes s → x < 256 → Bytes (set s i x)
 bytes-set [] i x h b j = h j
 bytes-set (y ∷ s) zero x h b zero = b

@@ -5,3 +5,4 @@ pub mod Automaton
 pub mod Turns
 pub mod Tables
 pub mod Inside
+pub mod Bounds

@@ -1,12 +1,17 @@
 -- What edits need of a format: its reading, where a place's field is found in a section that reads, and the same places in a record. The pai1
 -- section is one format.
-use Prim.Native.Nat.{ℕ}
-use mathlib.Core.List.{List}
+use Prim.Native.Nat.{ℕ, _≤_}
+use mathlib.Core.Path.{_≡_}
+use mathlib.Core.List.{List, [], _∷_}
+use lib.ListN.{length}
+use lib.Seq.{sets}
+use Rattle.core.specs.Outcome.{accepted}
+use Rattle.bflan.specs.Answer.{reading}
 use Rattle.bflan.specs.Layout.{written, sectionLay}
 use Rattle.bflan.specs.Places.{Spot, Found, locate, fieldOf, replaced}
 use Rattle.bflan.specs.Reader.{Res, Item}
 use Rattle.bflan.specs.Reading.{section}
-use Rattle.bflan.specs.Record.{PaneAnimInfo}
+use Rattle.bflan.specs.Record.{PaneAnimInfo, words, texts}
 use Rattle.bflan.specs.declared.place.Place.{Place}
 
 pub record Format : Type 1 where
@@ -33,3 +38,9 @@ pai1 =
       replaced = replaced;
       bytes = λ r. written (sectionLay r);
     }
+
+-- reading these bytes with long enough tables is accepted, and fills them with the record
+abbrev pub Reads : List ℕ → PaneAnimInfo → Type 0
+Reads s r =
+    (w x : List ℕ) → length (words r) ≤ length w → length (texts r) ≤ length x
+    → reading s w x ≡ (accepted (length (words r) ∷ length (texts r) ∷ []), sets w 0 (words r), sets x 0 (texts r))

@@ -1,0 +1,53 @@
+-- `judge::headed` meets its contract: one arm of the texture names' verdict each.
+-- Assumes nothing.
+use borrow.Author.Needs.{needs}
+use Rattle.bflan.proofs.judge.headed.Statement.{statement}
+use Rattle.bflan.proofs.judge.headed.Tie as tie
+use mathlib.Core.Path.{sym, _∙_}
+use denote.Ref.{now}
+use Rattle.bflan.proofs.MeasureParts.{headed-word, headed-text, headed-fine}
+
+textures-requires : tie.Need-textures-requires
+textures-requires c κs = search needs
+
+enum-known-k : tie.Need-enum-known-k
+enum-known-k c = search needs
+
+enum-known-k-2 : tie.Need-enum-known-k-2
+enum-known-k-2 c = search needs
+
+enum-known-m : tie.Need-enum-known-m
+enum-known-m c = search needs
+
+ending-requires : tie.Need-ending-requires
+ending-requires c κs = search needs
+
+table-behind-requires : tie.Need-table-behind-requires
+table-behind-requires c κs = search needs
+
+grown-requires : tie.Need-grown-requires
+grown-requires c κs = search needs
+
+returns : tie.Need-returns
+returns c = λ frames looping. headed-word frames looping (c .before .before .before .before .before .before .args .nt) (c .before .before .before .before .before .before .args .nc) (now (c .before .before .before .before .before .before .args .words)) (now (c .before .before .before .before .before .before .args .texts)) (c .before .before .before .before .before .before .args .i) (c .before .before .before .before .before .before .args .j) _ (sym (c .before .before .before .textures .ensures) ∙ c .before .k .given .1)
+
+returns-2 : tie.Need-returns-2
+returns-2 c = λ frames looping. headed-text frames looping (c .before .before .before .before .before .before .args .nt) (c .before .before .before .before .before .before .args .nc) (now (c .before .before .before .before .before .before .args .words)) (now (c .before .before .before .before .before .before .args .texts)) (c .before .before .before .before .before .before .args .i) (c .before .before .before .before .before .before .args .j) _ (sym (c .before .before .before .textures .ensures) ∙ c .before .k2 .given .1)
+
+returns-3 : tie.Need-returns-3
+returns-3 c = λ frames looping. c .grown .ensures ∙ headed-fine frames looping (c .before .before .before .before .before .before .before .before .before .args .nt) (c .before .before .before .before .before .before .before .before .before .args .nc) (now (c .before .before .before .before .before .before .before .before .before .args .words)) (now (c .before .before .before .before .before .before .before .before .before .args .texts)) (c .before .before .before .before .before .before .before .before .before .args .i) (c .before .before .before .before .before .before .before .before .before .args .j) _ _ _ (sym (c .before .before .before .before .before .before .textures .ensures) ∙ c .before .before .before .before .m .given .1) (c .before .table-behind .ensures) (c .before .before .ending .ensures)
+
+pub headed-spec : {M : Type 1} → statement M
+headed-spec =
+    tie.close
+    (tie.spec
+    textures-requires
+    enum-known-k
+    enum-known-k-2
+    enum-known-m
+    ending-requires
+    table-behind-requires
+    grown-requires
+    returns
+    returns-2
+    returns-3)

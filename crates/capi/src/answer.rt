@@ -1,0 +1,72 @@
+// Answers as numbers in a list.
+ghost use mathlib.Core.Path.{_≡_};
+ghost use mathlib.Core.List.{[], _∷_};
+ghost use lib.ListN.{set};
+ghost use lib.Seq.{sets};
+ghost use Rattle.bflan.specs.Answer.{ofFault, ofFinding, ofReading};
+ghost use Rattle.capi.specs.Flat.{flat};
+use bflan::fault::Fault;
+use bflan::find::FindAnswer;
+use bflan::read::ReadAnswer;
+
+// An answer's number and its values, with zeros behind them.
+pub struct Numbers(pub usize, pub usize, pub usize, pub usize);
+
+fn of_fault(f: Fault) -> Numbers
+    ensures { λ r. ⌜ (r .0 ∷ r .1 ∷ r .2 ∷ r .3 ∷ []) ≡ flat 4 (ofFault f) ⌝ }
+{
+    match f {
+        Fault::PastEnd(offset, requested) => Numbers(3, offset, requested, 0),
+        Fault::NoZero(start) => Numbers(4, start, 0, 0),
+        Fault::NotPai1(letters) => Numbers(1, letters as usize, 0, 0),
+    }
+}
+
+pub(crate) fn of_reading(a: ReadAnswer) -> Numbers
+    ensures { λ r. ⌜ (r .0 ∷ r .1 ∷ r .2 ∷ r .3 ∷ []) ≡ flat 4 (ofReading a) ⌝ }
+{
+    match a {
+        ReadAnswer::Accepted(words, bytes) => Numbers(0, words, bytes, 0),
+        ReadAnswer::Refused(f) => of_fault(f),
+        ReadAnswer::TooLong(size) => Numbers(2, size, 0, 0),
+        ReadAnswer::TooShort(words, bytes) => Numbers(5, words, bytes, 0),
+    }
+}
+
+pub(crate) fn of_finding(a: FindAnswer) -> Numbers
+    ensures { λ r. ⌜ (r .0 ∷ r .1 ∷ r .2 ∷ r .3 ∷ []) ≡ flat 4 (ofFinding a) ⌝ }
+{
+    match a {
+        FindAnswer::Found(source, start, len) => Numbers(0, source, start, len),
+        FindAnswer::Refused(f) => of_fault(f),
+        FindAnswer::TooLong(size) => Numbers(2, size, 0, 0),
+        FindAnswer::NoSuchText => Numbers(10, 0, 0, 0),
+        FindAnswer::ScratchTooShort(bytes) => Numbers(5, 0, bytes, 0),
+    }
+}
+
+// `v` at `at`, if the list has that place.
+fn put(list: &mut [usize], at: usize, v: usize)
+    ensures { λ _. ⌜ now (list .exit) ≡ set (now (list .entry)) at v ⌝ }
+{
+    if at < list.len() {
+        list[at] = v;
+    }
+}
+
+// The first three numbers, as far as the list has places for them.
+pub(crate) fn put3(list: &mut [usize], n: Numbers)
+    ensures { λ _. ⌜ now (list .exit) ≡ sets (now (list .entry)) 0 (n .0 ∷ n .1 ∷ n .2 ∷ []) ⌝ }
+{
+    put(list, 0, n.0);
+    put(list, 1, n.1);
+    put(list, 2, n.2);
+}
+
+// All four.
+pub(crate) fn put4(list: &mut [usize], n: Numbers)
+    ensures { λ _. ⌜ now (list .exit) ≡ sets (now (list .entry)) 0 (n .0 ∷ n .1 ∷ n .2 ∷ n .3 ∷ []) ⌝ }
+{
+    put3(list, n);
+    put(list, 3, n.3);
+}

@@ -1,0 +1,4 @@
+pub mod Demand
+pub mod Entries
+pub mod Exercises
+pub mod Pai1

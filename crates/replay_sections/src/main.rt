@@ -1,0 +1,90 @@
+// Replays a sample of sections, read from standard input, that has the Rust reference's answers (rust/src/sample.rs has its
+// format). Each section is read into tables that stand among marked places, and each text of a section that is read is looked
+// up: answers, tables, and every place around them must be as the sample says.
+mod compare;
+mod finding;
+mod input;
+mod reading;
+mod record;
+mod report;
+
+ghost use mathlib.Core.Path.{_≡_};
+ghost use lib.ListN.{length};
+use crate::finding::find_texts;
+use crate::input::Case;
+use crate::input::Next;
+use crate::input::next_case;
+use crate::reading::read_section;
+use crate::report::COUNTS;
+use crate::report::count_case;
+use crate::report::malformed;
+use crate::report::report;
+use core::part::part;
+use libc::STDIN_FILENO;
+
+// The room for the sample.
+const ROOM: usize = 1048576;
+
+// Replays a case. False if it is none that the program is made for.
+fn replay_case(sample: &[u8], c: Case, counts: &mut [u64]) -> bool {
+    let answer = c.answer;
+    if !count_case(counts, answer.0) {
+        return false;
+    }
+    if !read_section(sample, c, counts) {
+        return false;
+    }
+    find_texts(sample, c, counts);
+    true
+}
+
+// Replays the case at a position and gives the position behind it; where there is no case, the same position.
+fn step(sample: &[u8], at: usize, counts: &mut [u64]) -> usize {
+    let next = next_case(sample, at);
+    match next {
+        Next::Bad => at,
+        Next::Case(c, end) => {
+            if replay_case(sample, c, counts) {
+                return end;
+            }
+            at
+        }
+    }
+}
+
+// Replays all cases, and gives where it stopped: at the sample's end, if that is well-formed.
+fn replay(sample: &[u8], counts: &mut [u64]) -> usize {
+    let mut at = 0;
+    while at < sample.len() {
+        let next = step(sample, at, counts);
+        if next <= at {
+            return at;
+        }
+        at = next;
+    }
+    at
+}
+
+// Replays a sample and reports.
+fn replay_all(sample: &[u8]) {
+    let mut counts = [0u64; COUNTS];
+    let end = replay(sample, &mut counts);
+    report(&counts);
+    // a sample that fills the room may have been cut
+    if end < sample.len() || sample.len() >= ROOM {
+        malformed(end);
+    }
+}
+
+// The room, empty.
+fn room() -> [u8; ROOM]
+    ensures { λ r. ⌜ 1048576 ≡ length r ⌝ }
+{
+    [0; ROOM]
+}
+
+fn main() {
+    let mut bytes = room();
+    let n = io::read_full(STDIN_FILENO, &mut bytes);
+    replay_all(part(&bytes, 0, n));
+}

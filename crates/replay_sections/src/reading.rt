@@ -1,0 +1,114 @@
+// Reading the section of a case into tables that stand among marked places.
+ghost use Prim.Native.Nat.{_+_, _≤_};
+ghost use lib.ListN.{length};
+use crate::compare::WORDS;
+use crate::compare::bytes_marked;
+use crate::compare::mark_bytes;
+use crate::compare::mark_words;
+use crate::compare::same_bytes;
+use crate::compare::same_words;
+use crate::compare::words_marked;
+use crate::input::Answer;
+use crate::input::Case;
+use crate::input::bytes_of;
+use crate::report::note;
+use bflan::fault::Fault;
+use bflan::read::ReadAnswer;
+
+// The longest table of text bytes.
+const TEXTS: usize = 320;
+// The places before a table, and at least as many are behind it.
+const BEFORE: usize = 8;
+// All places.
+const ALL_WORDS: usize = 272;
+
+const ALL_TEXTS: usize = 336;
+
+pub(crate) fn of_fault(f: Fault) -> Answer {
+    match f {
+        Fault::PastEnd(offset, requested) => Answer(3, offset, requested),
+        Fault::NoZero(start) => Answer(4, start, 0),
+        Fault::NotPai1(letters) => Answer(1, letters as usize, 0),
+    }
+}
+
+fn of_reading(a: ReadAnswer) -> Answer {
+    match a {
+        ReadAnswer::Accepted(words, bytes) => Answer(0, words, bytes),
+        ReadAnswer::Refused(f) => of_fault(f),
+        ReadAnswer::TooLong(size) => Answer(2, size, 0),
+        ReadAnswer::TooShort(words, bytes) => Answer(5, words, bytes),
+    }
+}
+
+// Whether two answers are the same.
+pub(crate) fn same_answer(a: Answer, b: Answer) -> bool {
+    a.0 == b.0 && a.1 == b.1 && a.2 == b.2
+}
+
+// Reads into n words and m bytes.
+fn read_among(section: &[u8], words: &mut [u32], n: usize, texts: &mut [u8], m: usize) -> Answer
+    requires { ⌜ (n + 8 ≤ length (now words)) × (m + 8 ≤ length (now texts)) ⌝ }
+{
+    let w = n + BEFORE;
+    let x = m + BEFORE;
+    let a = bflan::read::read(section, &mut words[BEFORE..w], &mut texts[BEFORE..x]);
+    of_reading(a)
+}
+
+// Whether the table begins with the record's words, and all other places have their marks.
+fn words_right(words: &[u32], record: &[u8]) -> bool {
+    let n = record.len() / 4;
+    if n > WORDS {
+        return false;
+    }
+    words_marked(words, 0, BEFORE)
+        && same_words(words, BEFORE, record, n)
+        && words_marked(words, n + BEFORE, ALL_WORDS)
+}
+
+fn texts_right(texts: &[u8], record: &[u8]) -> bool {
+    let m = record.len();
+    if m > TEXTS {
+        return false;
+    }
+    bytes_marked(texts, 0, BEFORE)
+        && same_bytes(texts, BEFORE, record)
+        && bytes_marked(texts, m + BEFORE, ALL_TEXTS)
+}
+
+// Reads the section of a case, whose tables are of n words and m bytes.
+fn read_case(sample: &[u8], c: Case, n: usize, m: usize, counts: &mut [u64])
+    requires { ⌜ (n ≤ 256) × (m ≤ 320) ⌝ }
+{
+    let mut words = [0u32; ALL_WORDS];
+    let mut texts = [0u8; ALL_TEXTS];
+    mark_words(&mut words);
+    mark_bytes(&mut texts);
+    let a = read_among(bytes_of(sample, c.section), &mut words, n, &mut texts, m);
+    note(counts, same_answer(a, c.answer), b"answer");
+    note(
+        counts,
+        words_right(&words, bytes_of(sample, c.record_words)),
+        b"words",
+    );
+    note(
+        counts,
+        texts_right(&texts, bytes_of(sample, c.record_texts)),
+        b"text bytes",
+    );
+}
+
+// The same, or false if there is no room for such tables.
+pub(crate) fn read_section(sample: &[u8], c: Case, counts: &mut [u64]) -> bool {
+    let n = c.words;
+    let m = c.texts;
+    if n > WORDS {
+        return false;
+    }
+    if m > TEXTS {
+        return false;
+    }
+    read_case(sample, c, n, m, counts);
+    true
+}

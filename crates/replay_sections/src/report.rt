@@ -1,0 +1,86 @@
+// What is counted, and the report.
+use libc::STDOUT_FILENO;
+
+// The counts: first those of the answers with each number, then these.
+const ANSWERS: usize = 6;
+
+pub(crate) const IN_SECTION: usize = 6;
+
+pub(crate) const DECODED: usize = 7;
+
+const CASES: usize = 8;
+
+const DIFFERENCES: usize = 9;
+
+pub(crate) const COUNTS: usize = 10;
+
+// One more at a place.
+pub(crate) fn bump(counts: &mut [u64], place: usize) {
+    if place < counts.len() {
+        let n = counts[place];
+        if n < u64::MAX {
+            counts[place] = n + 1;
+        }
+    }
+}
+
+fn count(counts: &[u64], place: usize) -> u64 {
+    if place < counts.len() {
+        return counts[place];
+    }
+    0
+}
+
+fn write(text: &[u8]) {
+    io::write_all(STDOUT_FILENO, text);
+}
+
+// Writes a number between two texts.
+fn line(before: &[u8], n: u64, after: &[u8]) {
+    write(before);
+    io::print_decimal(STDOUT_FILENO, n);
+    write(after);
+}
+
+// Counts a case whose answer has this number. False where no answer has it.
+pub(crate) fn count_case(counts: &mut [u64], number: usize) -> bool {
+    if number >= ANSWERS {
+        return false;
+    }
+    bump(counts, CASES);
+    bump(counts, number);
+    true
+}
+
+// Counts and reports a difference in the present case, unless it is right.
+pub(crate) fn note(counts: &mut [u64], right: bool, what: &[u8]) {
+    if right {
+        return;
+    }
+    bump(counts, DIFFERENCES);
+    line(b"case ", count(counts, CASES), b": difference in ");
+    write(what);
+    write(b"\n");
+}
+
+fn answers(counts: &[u64]) {
+    let mut k: usize = 0;
+    while k < ANSWERS {
+        line(b"answer ", k as u64, b": ");
+        line(b"", count(counts, k), b"\n");
+        k += 1;
+    }
+}
+
+pub(crate) fn report(counts: &[u64]) {
+    line(b"cases ", count(counts, CASES), b"\n");
+    answers(counts);
+    line(b"texts ", count(counts, IN_SECTION), b" in the section, ");
+    line(b"", count(counts, DECODED), b" decoded\n");
+    line(b"differences ", count(counts, DIFFERENCES), b"\n");
+}
+
+// Says that the sample has no whole case at a position.
+pub(crate) fn malformed(at: usize) {
+    line(b"malformed sample: no case at byte ", at as u64, b"\n");
+}
