@@ -23,4 +23,5 @@ pub mod Storing
 pub mod TargetParts
 pub mod Verdicts
 pub mod Walks
+pub mod WriteAnswers
 pub mod WrittenBytes

@@ -4,7 +4,7 @@ mod content;
 mod datum;
 mod field;
 mod info;
-mod section;
+pub mod section;
 mod target;
 
 // Where the writing stands: the next word, the next text byte, and the next byte of the section.
