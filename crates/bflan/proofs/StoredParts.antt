@@ -1,9 +1,10 @@
--- The parts of a section as they are stored: each as its fields and the parts within it. Assumes nothing.
+-- The parts of a section as they are stored: each as its fields and the parts within it.
+-- Assumes nothing.
 use Prim.Native.Nat.{ℕ, zero, suc, _+_, _*_, _-_, _/_, _%_, _^_, _≤_, _<_}
 use mathlib.Core.Path.{_≡_, refl, sym, ap, _∙_}
 use mathlib.Core.Bool.{Bool, true, false}
 use mathlib.Core.List.{List, [], _∷_, _++_, append-assoc, append-nil}
-use native.Mathlib.Nat.{add-zero, add-comm, mul-zero, mul-suc, mul-assoc, pow-succ'}
+use native.Mathlib.Nat.{add-comm, mul-zero, mul-suc, mul-comm, mul-assoc, pow-succ'}
 use native.Mathlib.Omega.{arith}
 use borrow.Author.Tests.{leb-true, eqb-true, eqb-false, eq-eqb, ne-eqb}
 use lib.Dec.{eqb, leb, ltb}
@@ -15,15 +16,16 @@ use Rattle.core.specs.Number.{le, put}
 use Rattle.core.specs.Run.{numbersLe, pairsLe}
 use Rattle.core.proofs.Numbers.{put-put}
 use Rattle.bflan.specs.declared.writer.Pen.{Pen}
-use Rattle.bflan.specs.Judge.{Judged, fine, badWord, badText, J, andThen, _>>=_, ret, word, text, times, wide, row, target, datum, info, content, section}
-use Rattle.bflan.specs.Layout.{Layout, nothing, number, bytes, _⨾_, size, written, row as rowLay, parts, table, keySkip, keyLay, targetLay, ended, datumLay, infoHead, infoLay, zeros, dataOut, infosOut, tableFrom, infosFrom, userLay, contentBody, contentLay, namesEnd, contentTable, sectionSize, sectionLay}
+use Rattle.bflan.specs.Judge.{Judged, fine, badWord, badText, J, andThen, _>>=_, word, text, times, wide, row, target, datum, info, content, section}
+use Rattle.bflan.specs.Layout.{Layout, nothing, number, bytes, _⨾_, size, written, row as rowLay, parts, keySkip, keyLay, targetLay, ended, datumLay, infoHead, infoLay, zeros, dataOut, infosOut, tableFrom, infosFrom, userLay, contentBody, contentLay, namesEnd, contentTable, sectionSize, sectionLay}
 use Rattle.bflan.specs.Letters.{fleu, targetFits}
 use Rattle.bflan.specs.Limits.{limit}
 use Rattle.bflan.specs.Reading.{pai1}
-use Rattle.bflan.specs.Record.{AnimTarget, ExtendedUserDataAnim, AnimInfo, Standard, ExtendedUserData, AnimContent, PaneAnimInfo, keyWidths}
+use Rattle.bflan.specs.Record.{ExtendedUserDataAnim, AnimInfo, Standard, ExtendedUserData, AnimContent, keyWidths}
 use Rattle.bflan.specs.Stored.{Ready, laid, behind, listed, targetHead, datumHead, datumFront, nameLay, bodyLay, frameLay, namesLay, outOf, outBy}
 use Rattle.bflan.proofs.Inversion.{TextAt, text-at, times-none, times-more, times-length, WordsAt, row-at, DatumAt, datum-at, info-at, info-extended, info-standard, ContentAt, content-at, SectionAt, section-at, TargetAt, target-at}
 use Rattle.bflan.proofs.Layouts.{size-written}
+use Rattle.bflan.proofs.Measures.{size-parts, size-numbers}
 use Rattle.bflan.proofs.Storing.{laid-fine, behind-fine, listed-size, Wrote, wrote-number, wrote-bytes, wrote-then, wrote-like, wrote-patched, Splits, split-behind, head-ready, head-done, whole-laid, whole-behind, like-ready, like-behind, like-laid}
 
 -- ---- fields
@@ -98,8 +100,7 @@ module _ (lay : List ℕ → Layout) (tail : ℕ → Layout) (shape : (t : List 
   unfolding size
   text-done out a b c =
       let v : take n (drop (q .byte) x) ≡ h .value = rw e (sym (t .bytes)) in
-      let z : n ≡ length (h .value) = e ∙ sym (t .size) in
-      (
+      let z : n ≡ length (h .value) = e ∙ sym (t .size) in (
         whole-behind lay h (ap (λ (z : Pen). z .word) c ∙ sym (t .word)) (ap (λ (z : Pen). z .byte) c ∙ rw e (sym (t .byte)))
             (ap (λ (z : Pen). z .at) c ∙ omega (arith, text-size)),
         whole-laid lay h (wrote-then (wrote-bytes (rw v at a)) (rw z at b) refl) (ap written (sym (shape (h .value)))),
@@ -249,12 +250,6 @@ module _ {curve : ℕ} where
   pub hermite-coded : curve < 3 → (curve ≡ 0 → ⊥) → (curve ≡ 1 → ⊥) → Coded curve 3 12 numbersLe
   hermite-coded l a b = let e : curve ≡ 2 = omega arith in rw e coded-hermite
 
--- parts of one size
-sized : {X : Type 0} (lay : X → Layout) (m : ℕ) → ((y : X) → size (lay y) ≡ m) → (xs : List X) → size (parts lay xs) ≡ m * length xs
-unfolding parts size
-sized lay m f [] = sym (mul-zero m)
-sized lay m f (y ∷ xs) = rw (f y, sized lay m f xs, mul-suc) (add-comm m (m * length xs))
-
 record KeysAt (enc : List ℕ → List ℕ) (bytes : List ℕ) (n c : ℕ) (w : List ℕ) (i j k l : ℕ) : Type 0 where
   same : bytes ≡ enc (take (c * n) (drop i w))
   word : k ≡ i + c * n
@@ -291,7 +286,7 @@ module _ {curve c m : ℕ} {enc : List ℕ → List ℕ} (code : Coded curve c m
 
   module _ (n : ℕ) (w x : List ℕ) (i j at : ℕ) {most : ℕ} (h : Ready (parts (keyLay curve)) (times n (row (keyWidths curve)) w x i j) at most) where
     keys-size : size (parts (keyLay curve) (h .value)) ≡ m * n
-    keys-size = sized (keyLay curve) m (code .sizes) (h .value) ∙ ap (λ (d : ℕ). m * d) (times-length (row (keyWidths curve)) w x n i j (h .judged))
+    keys-size = size-parts (keyLay curve) m (code .sizes) (h .value) ∙ ap (λ (d : ℕ). d * m) (times-length (row (keyWidths curve)) w x n i j (h .judged)) ∙ mul-comm n m
 
     pub keys-fit : (top : ℕ) → i ≤ top → length w ≤ top → (i + c * n ≤ top) × (at + m * n ≤ limit)
     keys-fit top a b =
@@ -303,8 +298,7 @@ module _ {curve c m : ℕ} {enc : List ℕ → List ℕ} (code : Coded curve c m
         → (u ≡ behind (parts (keyLay curve)) (times n (row (keyWidths curve)) w x i j) at) × (o ≡ laid (parts (keyLay curve)) (times n (row (keyWidths curve)) w x i j) at out)
     unfolding written
     keys-done out e f =
-        let g = keys-at n w x i j (h .judged) in
-        (
+        let g = keys-at n w x i j (h .judged) in (
           whole-behind (parts (keyLay curve)) h (ap (λ (z : Pen). z .word) f ∙ sym (g .word)) (ap (λ (z : Pen). z .byte) f ∙ sym (g .byte))
               (ap (λ (z : Pen). z .at) f ∙ ap (λ (d : ℕ). at + d) (sym keys-size)),
           whole-laid (parts (keyLay curve)) h (wrote-bytes e) (sym (g .same)),
@@ -368,10 +362,6 @@ unfolding parts written numbersLe
 numbers-parts [] = refl
 numbers-parts (v ∷ vs) = ap (λ (b : List ℕ). le 4 v ++ b) (numbers-parts vs)
 
-values-size : (vs : List ℕ) → size (parts (number 4) vs) ≡ 4 * length vs
-unfolding size
-values-size vs = sized (number 4) 4 (λ v. refl) vs
-
 pub fields-stored : (at a b c d e : ℕ) {l0 l1 l2 l3 l4 l5 : List ℕ} → l1 ≡ put 4 l0 at a → l2 ≡ put 2 l1 (at + 4) b → l3 ≡ put 2 l2 (at + 6) c
     → l4 ≡ put 4 l3 (at + 8) d → l5 ≡ put 4 l4 (at + 12) e → Wrote l0 at (datumHead a b c d e) l5
 unfolding size datumHead
@@ -388,9 +378,8 @@ pub front-stored : (w : List ℕ) (i at n : ℕ) {l0 l1 l2 l3 : List ℕ} → n 
     → Wrote l0 at (datumFront w i) l3
 unfolding size datumFront datumHead
 front-stored w i at n {l0} {l1} {l2} {l3} en h e1 e2 e3 =
-    let v : List ℕ = take (3 * getD w (i + 3) 0) (drop (i + 5) w) in
     let c : length (take (3 * getD w (i + 3) 0) (drop (i + 5) w)) ≡ n = ap (λ (d : ℕ). length (take d (drop (i + 5) w))) (sym en) ∙ length-take-le n (drop (i + 5) w) (rw length-drop (omega (arith, h))) in
-    let z = values-size (take (3 * getD w (i + 3) 0) (drop (i + 5) w)) in
+    let z = size-numbers (take (3 * getD w (i + 3) 0) (drop (i + 5) w)) in
     let four : at + 16 + 4 * n + 4 - (at + 16 + 4 * n) ≡ 4 = omega arith in
     wrote-then (record { same = e1 }) (wrote-then (record { same = e2 ∙ ap (sets l1 (at + 16)) (ap (λ (d : ℕ). numbersLe (take d (drop (i + 5) w))) en ∙ sym (numbers-parts (take (3 * getD w (i + 3) 0) (drop (i + 5) w)))) })
     (wrote-number (rw four at e3)) (omega (arith, z, c))) refl
@@ -398,7 +387,7 @@ front-stored w i at n {l0} {l1} {l2} {l3} en h e1 e2 e3 =
 pub front-size : (w : List ℕ) (i : ℕ) → i + 5 + 3 * getD w (i + 3) 0 ≤ length w → size (datumFront w i) ≡ 20 + 4 * (3 * getD w (i + 3) 0)
 unfolding size datumFront datumHead
 front-size w i h =
-    let z = values-size (take (3 * getD w (i + 3) 0) (drop (i + 5) w)) in
+    let z = size-numbers (take (3 * getD w (i + 3) 0) (drop (i + 5) w)) in
     let c : length (take (3 * getD w (i + 3) 0) (drop (i + 5) w)) ≡ 3 * getD w (i + 3) 0 = length-take-le (3 * getD w (i + 3) 0) (drop (i + 5) w) (rw length-drop (omega (arith, h))) in
     omega (arith, z, c)
 
@@ -600,8 +589,7 @@ module _ (w x : List ℕ) where
       let d : u ≡ record { word = o; byte = p; at = at + size (infoLay a) } = e ∙ behind-fine infoLay first at in
       let s : suc n - 1 ≡ n = omega arith in
       let f = info-out w x i j first in
-      let b : u .byte ≡ p = ap (λ (z : Pen). z .byte) d in
-      (
+      let b : u .byte ≡ p = ap (λ (z : Pen). z .byte) d in (
         rw (h .judged, q, s, ap (λ (z : Pen). z .word) d, b, rest) (infos-more a is ∙ ap (λ (k : ℕ). k + infosOut is) (f .0)),
         rw b (f .1),
       )
@@ -702,8 +690,7 @@ module _ (n : ℕ) (w x : List ℕ) (q : Pen) (start : ℕ) {most : ℕ} (h : Re
       let f : q .at + 8 - start ≡ 40 = omega (arith, s) in
       let m : q .at + 8 + 4 * n - start ≡ 40 + 4 * n = omega (arith, s) in
       let all : Wrote l0 (q .at) (number 4 40 ⨾ number 4 0 ⨾ listed infoLay (q .at + 8 + 4 * n - start) (h .value)) l3 =
-      wrote-then (wrote-number (rw f at e1)) (wrote-then (wrote-number e2) (record { same = e3 ∙ laid-fine (listed infoLay (q .at + 8 + 4 * n - start)) (h .judged) (q .at + 8) l2 }) (omega arith)) refl in
-      (
+      wrote-then (wrote-number (rw f at e1)) (wrote-then (wrote-number e2) (record { same = e3 ∙ laid-fine (listed infoLay (q .at + 8 + 4 * n - start)) (h .judged) (q .at + 8) l2 }) (omega arith)) refl in (
         eu ∙ split-behind user-splits (q .at) (record { word = q .word; byte = q .byte; at = q .at + 8 }) (unfold behind in refl),
         whole-laid (bodyLay 2) h (wrote-patched all p (u .at - start - gone) ep e4) (rw (t, m, c, append-assoc)),
       )
@@ -782,7 +769,6 @@ module _ (w x : List ℕ) (i j at : ℕ) {most : ℕ} (h : Ready contentLay (con
           → (u ≡ behind contentLay (content w x i j) at) × (l4 ≡ laid contentLay (content w x i j) at l0)
       unfolding contentLay size written
       content-done l0 {l1} {l2} {l3} {l4} {e} {u} e1 e2 ee e3 uw ub ua e4 =
-          let is : List AnimInfo = h .value .infos in
           let count : n ≡ length (h .value .infos) = sym (times-length info w x n (q .word + 2) (q .byte) infos-judged) in
           let pe : e ≡ record { word = h .word; byte = h .byte; at = at + 32 + size (bodyLay kind (h .value .infos)) } = ee ∙ behind-fine (bodyLay kind) infos-judged (at + 32) in
           let pa : e .at ≡ at + 32 + size (bodyLay kind (h .value .infos)) = ap (λ (z : Pen). z .at) pe in
@@ -795,8 +781,7 @@ module _ (w x : List ℕ) (i j at : ℕ) {most : ℕ} (h : Ready contentLay (con
           let same : written (nameLay (h .value .name) ⨾ (number 1 n ⨾ number 1 kind ⨾ number 2 0) ⨾ bodyLay kind (h .value .infos)) ≡ written (contentBody (h .value)) =
           rw (count, ← kind-is) (sym body) in
           let all : Wrote l0 at ((nameLay (h .value .name) ⨾ (number 1 n ⨾ number 1 kind ⨾ number 2 0) ⨾ bodyLay kind (h .value .infos)) ⨾ zeros (paddingOf (size (contentBody (h .value))))) l4 =
-          wrote-then (wrote-then w1 (wrote-then w2 w3 (omega arith)) (omega (arith, name-size))) w4 (omega (arith, name-size, pa)) in
-          (
+          wrote-then (wrote-then w1 (wrote-then w2 w3 (omega arith)) (omega (arith, name-size))) w4 (omega (arith, name-size, pa)) in (
             whole-behind contentLay h (uw ∙ ap (λ (z : Pen). z .word) pe) (ub ∙ ap (λ (z : Pen). z .byte) pe)
                 (ua ∙ rw sz (omega (arith, whole-size, pa, bs))),
             whole-laid contentLay h all (ap (λ (b : List ℕ). b ++ replicate (paddingOf (size (contentBody (h .value)))) 0) same),
@@ -852,8 +837,7 @@ module _ (n : ℕ) (w x : List ℕ) {most : ℕ} (h : Ready namesLay (times n (t
       let z = listed-size ended (20 + 4 * n - 20) (h .value) in
       let en : q .at ≡ 20 + (4 * length (h .value) + size (parts ended (h .value))) = omega (arith, pa, z) in
       let w1 : Wrote l0 20 (listed ended (4 * length (h .value)) (h .value)) l1 = record { same = e2 ∙ laid-fine (listed ended (20 + 4 * n - 20)) (h .judged) 20 l0 ∙ rw m refl } in
-      let w2 : Wrote l1 (q .at) (zeros (paddingOf (20 + (4 * length (h .value) + size (parts ended (h .value)))))) l2 = wrote-bytes (e3 ∙ rw en refl) in
-      (
+      let w2 : Wrote l1 (q .at) (zeros (paddingOf (20 + (4 * length (h .value) + size (parts ended (h .value)))))) l2 = wrote-bytes (e3 ∙ rw en refl) in (
         whole-behind namesLay h (uw ∙ ap (λ (z : Pen). z .word) pq) (ub ∙ ap (λ (z : Pen). z .byte) pq)
             (ua ∙ rw en (omega (arith, names-size, names-count))),
         whole-laid namesLay h (wrote-then w1 w2 (rw m at pa)) refl,
@@ -934,7 +918,6 @@ module _ (w x : List ℕ) {most : ℕ} (h : Ready sectionLay (section w x 0 0) 0
           → l6 ≡ laid sectionLay (section w x 0 0) 0 l0
       unfolding frameLay size written
       section-done l0 {l1} {l2} {l3} {l4} {l5} {l6} {e} {p} {s} e1 e2 e3 ep e4 ee e5 es e6 =
-          let f : ℕ = q .at + 4 * k - 0 in
           let nt : n ≡ length ts = sym (times-length (text (wide 4)) w x n 4 0 names-judged) in
           let nc : k ≡ length cs = sym (times-length content w x k (q .word) (q .byte) contents-judged) in
           let end : e .at ≡ sectionSize (h .value) =

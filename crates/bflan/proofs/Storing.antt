@@ -2,24 +2,23 @@
 -- Assumes nothing.
 use Prim.Native.Nat.{ℕ, zero, suc, _+_, _*_, _-_, _≤_, _<_}
 use mathlib.Core.Path.{_≡_, refl, sym, ap, _∙_}
-use mathlib.Core.List.{List, [], _∷_, _++_, append-assoc}
+use mathlib.Core.List.{List, _∷_, _++_}
 use mathlib.Core.Logic.{inl, inr}
-use native.Mathlib.Nat.{add-zero, add-assoc}
+use native.Mathlib.Nat.{add-zero}
 use native.Mathlib.Omega.{arith}
-use lib.ListN.{length, getD, length-append}
-use lib.Seq.{sets, length-sets}
+use lib.ListN.{length, length-append}
+use lib.Seq.{sets}
 use Rattle.core.specs.Number.{le, put}
 use Rattle.core.proofs.Apart.{sets-past}
 use Rattle.core.proofs.Numbers.{length-le, patch-late}
 use Rattle.core.proofs.Stores.{sets-append}
 use Rattle.bflan.specs.declared.writer.Pen.{Pen}
-use Rattle.bflan.specs.Judge.{Judged, fine, badWord, badText, J, times, row, target}
-use Rattle.bflan.specs.Layout.{Layout, number, bytes, _⨾_, size, written, parts, table, keyLay, targetLay}
+use Rattle.bflan.specs.Judge.{Judged, fine, badWord, badText, J, times}
+use Rattle.bflan.specs.Layout.{Layout, number, bytes, _⨾_, size, written, parts, table}
 use Rattle.bflan.specs.Limits.{limit}
-use Rattle.bflan.specs.Record.{keyWidths}
-use Rattle.bflan.specs.Stored.{Ready, laid, behind, listed, targetHead}
-use Rattle.bflan.proofs.Inversion.{times-none, times-more, times-length, target-at}
-use Rattle.bflan.proofs.Judging.{fine-to, no-word, no-text}
+use Rattle.bflan.specs.Stored.{Ready, laid, behind, listed}
+use Rattle.bflan.proofs.Inversion.{times-more, times-length}
+use Rattle.bflan.proofs.Judging.{fine-to}
 use Rattle.bflan.proofs.Layouts.{size-written, size-table}
 
 -- ---- layouts stored one after another
@@ -120,8 +119,15 @@ module _ {A B C : Type 0} {lay : A → Layout} {r : Judged A} {one : B → Layou
     pub split-laid : (q : Pen) → q ≡ behind one s at → (out : List ℕ) → laid two t (q .at) (laid one s at out) ≡ laid lay r at out
     split-laid q e out =
         let p : q .at ≡ at + size (one (h .first)) = ap (λ (z : Pen). z .at) (e ∙ behind-fine one (h .starts) at) in
-        rw (laid-fine two (h .goes-on) (q .at) (laid one s at out), laid-fine one (h .starts) at out, laid-fine lay (h .all) at out, h .same,
-          sets-append out at (written (one (h .first))) (written (two (h .rest))), size-written (one (h .first)), p)
+        rw (
+          laid-fine two (h .goes-on) (q .at) (laid one s at out),
+          laid-fine one (h .starts) at out,
+          laid-fine lay (h .all) at out,
+          h .same,
+          sets-append out at (written (one (h .first))) (written (two (h .rest))),
+          size-written (one (h .first)),
+          p,
+        )
 
 -- the same, the first being plain fields
 module _ {A C : Type 0} {lay : A → Layout} {r : Judged A} {head : Layout} {i j : ℕ} {two : C → Layout} {t : Judged C}

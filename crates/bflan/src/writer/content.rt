@@ -40,14 +40,7 @@ fn put_name(words: &[u32], texts: &[u8], pen: Pen, out: &mut [u8]) -> Pen
 
 // The infos of a User content that starts at `start`, with the two numbers before their table: its offset, and the total size, which is patched
 // when the infos are there.
-fn put_user(
-    words: &[u32],
-    texts: &[u8],
-    n: usize,
-    start: usize,
-    pen: Pen,
-    out: &mut [u8],
-) -> Pen
+fn put_user(words: &[u32], texts: &[u8], n: usize, start: usize, pen: Pen, out: &mut [u8]) -> Pen
     requires { ⌜ (pen .at ≡ start + 32) × Ready (bodyLay 2) (times n info (now words) (now texts) (pen .word) (pen .byte)) (pen .at) (length (now out)) ⌝ }
     ensures { λ r. ⌜ (r ≡ behind (bodyLay 2) (times n info (now (words .entry)) (now (texts .entry)) (pen .word) (pen .byte)) (pen .at))
         × (now (out .exit) ≡ laid (bodyLay 2) (times n info (now (words .entry)) (now (texts .entry)) (pen .word) (pen .byte)) (pen .at) (now (out .entry))) ⌝ }

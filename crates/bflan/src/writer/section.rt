@@ -22,14 +22,7 @@ use core::placeholder::patch_u32;
 use core::placeholder::write_placeholder_u32;
 
 // `n` texture names from the next word on, behind the table of their offsets, which count from `base`.
-fn put_textures(
-    words: &[u32],
-    texts: &[u8],
-    n: usize,
-    base: usize,
-    pen: Pen,
-    out: &mut [u8],
-) -> Pen
+fn put_textures(words: &[u32], texts: &[u8], n: usize, base: usize, pen: Pen, out: &mut [u8]) -> Pen
     requires { ⌜ (base ≤ pen .at) × Ready (listed ended (pen .at + 4 * n - base)) (times n (text (wide 4)) (now words) (now texts) (pen .word) (pen .byte)) (pen .at) (length (now out)) ⌝ }
     ensures { λ r. ⌜ (r ≡ behind (listed ended (pen .at + 4 * n - base)) (times n (text (wide 4)) (now (words .entry)) (now (texts .entry)) (pen .word) (pen .byte)) (pen .at))
         × (now (out .exit) ≡ laid (listed ended (pen .at + 4 * n - base)) (times n (text (wide 4)) (now (words .entry)) (now (texts .entry)) (pen .word) (pen .byte)) (pen .at) (now (out .entry))) ⌝ }

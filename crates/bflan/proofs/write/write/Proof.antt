@@ -1,15 +1,11 @@
 -- `write::write` meets its contract.
 -- Assumes nothing.
-use borrow.Author.Needs.{needs}
-use Rattle.bflan.proofs.write.write.Statement.{statement}
-use Rattle.bflan.proofs.write.write.Tie as tie
-use Rattle.bflan.proofs.write.write.Reads as reads
-use Rattle.bflan.proofs.write.write.Lts as lts
-use Rattle.bflan.proofs.judge.judge_section.Reads as judge-section-reads
-use Rattle.bflan.proofs.writer.section.put_section.Reads as put-section-reads
 use mathlib.Core.Path.{sym, _∙_}
 use denote.Ref.{now}
 use Rattle.bflan.proofs.WriteAnswers.{answer-word, answer-text, answer-over, answer-short, section-ready, answer-written}
+use borrow.Author.Needs.{needs}
+use Rattle.bflan.proofs.write.write.Statement.{statement}
+use Rattle.bflan.proofs.write.write.Tie as tie
 
 judge-section-requires : tie.Need-judge-section-requires
 judge-section-requires c κs = search needs

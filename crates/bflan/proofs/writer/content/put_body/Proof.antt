@@ -1,15 +1,11 @@
 -- `writer::content::put_body` meets its contract.
 -- Assumes nothing.
-use borrow.Author.Needs.{needs}
-use Rattle.bflan.proofs.writer.content.put_body.Statement.{statement}
-use Rattle.bflan.proofs.writer.content.put_body.Tie as tie
-use Rattle.bflan.proofs.writer.content.put_body.Reads as reads
-use Rattle.bflan.proofs.writer.content.put_body.Lts as lts
-use Rattle.bflan.proofs.writer.content.put_user.Reads as put-user-reads
-use Rattle.bflan.proofs.writer.info.put_infos.Reads as put-infos-reads
 use native.Mathlib.Omega.{arith}
 use denote.Ref.{now}
 use Rattle.bflan.proofs.StoredParts.{two-ready, two-done, plain-ready, plain-done}
+use borrow.Author.Needs.{needs}
+use Rattle.bflan.proofs.writer.content.put_body.Statement.{statement}
+use Rattle.bflan.proofs.writer.content.put_body.Tie as tie
 
 put-user-requires : tie.Need-put-user-requires
 put-user-requires c κs = (c .before .before .before .before .before .pre .0, two-ready (c .before .before .before .before .before .args .kind) (c .before .before .before .before .before .args .n) (now (c .before .before .before .before .before .args .words)) (now (c .before .before .before .before .before .args .texts)) (c .before .before .before .before .before .args .pen) (c .before .before .before .before .before .args .start) (c .before .before .before .before .before .pre .1) (c .before .before .before .before .before .pre .0) (c .before .if1 .taken))

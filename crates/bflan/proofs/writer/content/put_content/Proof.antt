@@ -1,21 +1,14 @@
 -- `writer::content::put_content` meets its contract.
 -- Assumes nothing.
-use borrow.Author.Needs.{needs}
-use Rattle.bflan.proofs.writer.content.put_content.Statement.{statement}
-use Rattle.bflan.proofs.writer.content.put_content.Tie as tie
-use Rattle.bflan.proofs.writer.content.put_content.Reads as reads
-use Rattle.bflan.proofs.writer.content.put_content.Lts as lts
-use Rattle.bflan.proofs.writer.content.put_body.Reads as put-body-reads
-use Rattle.bflan.proofs.writer.content.put_name.Reads as put-name-reads
-use Rattle.bflan.proofs.writer.content.put_padding.Reads as put-padding-reads
-use Rattle.bflan.proofs.writer.field.put_counts.Reads as put-counts-reads
-use Rattle.bflan.proofs.writer.field.word_of.Reads as word-of-reads
 use mathlib.Core.Path.{refl, _∙_}
 use native.Mathlib.Omega.{arith}
 use denote.Ref.{now}
 use Rattle.bflan.specs.Stored.{bodyLay}
 use Rattle.bflan.proofs.Storing.{ready-in, behind-within}
 use Rattle.bflan.proofs.StoredParts.{name-ready, content-fits, body-ready, content-done}
+use borrow.Author.Needs.{needs}
+use Rattle.bflan.proofs.writer.content.put_content.Statement.{statement}
+use Rattle.bflan.proofs.writer.content.put_content.Tie as tie
 
 put-name-requires : tie.Need-put-name-requires
 put-name-requires c κs = name-ready (now (c .before .before .before .before .args .words)) (now (c .before .before .before .before .args .texts)) (c .before .before .before .before .args .pen .word) (c .before .before .before .before .args .pen .byte) (c .before .before .before .before .args .pen .at) (c .before .before .before .before .pre)

@@ -1,17 +1,12 @@
 -- `writer::content::put_name` meets its contract.
 -- Assumes nothing.
-use borrow.Author.Needs.{needs}
-use Rattle.bflan.proofs.writer.content.put_name.Statement.{statement}
-use Rattle.bflan.proofs.writer.content.put_name.Tie as tie
-use Rattle.bflan.proofs.writer.content.put_name.Reads as reads
-use Rattle.bflan.proofs.writer.content.put_name.Lts as lts
-use Rattle.bflan.proofs.writer.field.put_chars.Reads as put-chars-reads
-use Rattle.bflan.proofs.writer.field.word_of.Reads as word-of-reads
-use Rattle.core.proofs.fill.zeros.Reads as zeros-reads
 use mathlib.Core.Path.{refl}
 use native.Mathlib.Omega.{arith}
 use denote.Ref.{now}
 use Rattle.bflan.proofs.StoredParts.{name-fits, name-done}
+use borrow.Author.Needs.{needs}
+use Rattle.bflan.proofs.writer.content.put_name.Statement.{statement}
+use Rattle.bflan.proofs.writer.content.put_name.Tie as tie
 
 word-of-requires : tie.Need-word-of-requires
 word-of-requires c κs = search needs

@@ -1,12 +1,5 @@
 -- `writer::content::put_padding` meets its contract.
 -- Assumes nothing.
-use borrow.Author.Needs.{needs}
-use Rattle.bflan.proofs.writer.content.put_padding.Statement.{statement}
-use Rattle.bflan.proofs.writer.content.put_padding.Tie as tie
-use Rattle.bflan.proofs.writer.content.put_padding.Reads as reads
-use Rattle.bflan.proofs.writer.content.put_padding.Lts as lts
-use Rattle.core.proofs.fill.padding.Reads as padding-reads
-use Rattle.core.proofs.fill.zeros.Reads as zeros-reads
 use Prim.Native.Nat.{ℕ, _+_, _-_}
 use mathlib.Core.Path.{refl, ap, _∙_}
 use native.Mathlib.Omega.{arith}
@@ -14,6 +7,9 @@ use denote.Ref.{now}
 use lib.ListN.{replicate}
 use lib.Seq.{sets}
 use Rattle.core.proofs.Padding.{padding-lt}
+use borrow.Author.Needs.{needs}
+use Rattle.bflan.proofs.writer.content.put_padding.Statement.{statement}
+use Rattle.bflan.proofs.writer.content.put_padding.Tie as tie
 
 sub-padding : tie.Need-sub-padding
 sub-padding c = c .before .pre .0

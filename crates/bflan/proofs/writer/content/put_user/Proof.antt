@@ -1,14 +1,5 @@
 -- `writer::content::put_user` meets its contract.
 -- Assumes nothing.
-use borrow.Author.Needs.{needs}
-use Rattle.bflan.proofs.writer.content.put_user.Statement.{statement}
-use Rattle.bflan.proofs.writer.content.put_user.Tie as tie
-use Rattle.bflan.proofs.writer.content.put_user.Reads as reads
-use Rattle.bflan.proofs.writer.content.put_user.Lts as lts
-use Rattle.bflan.proofs.writer.field.put_offset.Reads as put-offset-reads
-use Rattle.bflan.proofs.writer.info.put_infos.Reads as put-infos-reads
-use Rattle.core.proofs.placeholder.patch_u32.Reads as patch-u32-reads
-use Rattle.core.proofs.placeholder.write_placeholder_u32.Reads as write-placeholder-u32-reads
 use Prim.Native.Nat.{_+_, _*_, _-_}
 use mathlib.Core.Path.{_∙_}
 use native.Mathlib.Omega.{arith}
@@ -17,6 +8,9 @@ use Rattle.bflan.specs.Layout.{infoLay}
 use Rattle.bflan.specs.Stored.{listed}
 use Rattle.bflan.proofs.Storing.{ready-in, behind-within}
 use Rattle.bflan.proofs.StoredParts.{user-left, user-ready, user-done}
+use borrow.Author.Needs.{needs}
+use Rattle.bflan.proofs.writer.content.put_user.Statement.{statement}
+use Rattle.bflan.proofs.writer.content.put_user.Tie as tie
 
 add-put-offset : tie.Need-add-put-offset
 add-put-offset c = omega (arith, user-ready (c .before .before .before .before .args .n) (now (c .before .before .before .before .args .words)) (now (c .before .before .before .before .args .texts)) (c .before .before .before .before .args .pen) (c .before .before .before .before .args .start) (c .before .before .before .before .pre .1) (c .before .before .before .before .pre .0) .short)

@@ -1,11 +1,5 @@
 -- `writer::datum::put_data` meets its contract. The loop's invariant: what is left, from here, is what all of it is, from the start.
 -- Assumes nothing.
-use borrow.Author.Needs.{needs}
-use Rattle.bflan.proofs.writer.datum.put_data.Statement.{statement}
-use Rattle.bflan.proofs.writer.datum.put_data.Tie as tie
-use Rattle.bflan.proofs.writer.datum.put_data.Reads as reads
-use Rattle.bflan.proofs.writer.datum.put_data.Lts as lts
-use Rattle.bflan.proofs.writer.datum.put_datum.Reads as put-datum-reads
 use mathlib.Core.Path.{_≡_, refl, _∙_}
 use native.Mathlib.Omega.{arith}
 use denote.Ref.{now}
@@ -14,6 +8,8 @@ use Rattle.bflan.specs.Judge.{times, datum}
 use Rattle.bflan.specs.Layout.{parts, datumLay}
 use Rattle.bflan.specs.Stored.{laid, behind}
 use Rattle.bflan.proofs.Storing.{first-of, Running, running-turn, running-end}
+use Rattle.bflan.proofs.writer.datum.put_data.Statement.{statement}
+use Rattle.bflan.proofs.writer.datum.put_data.Tie as tie
 
 abbrev Inv-loop : tie.InvT-loop
 Inv-loop words texts n out₀ left₀ q₀ out left q =
@@ -38,9 +34,9 @@ loop-less c = omega (arith, c .before .before .before .before .loop-test .taken)
 
 loop-again : tie.Need-loop-again Inv-loop μ-loop
 loop-again c = (
-      running-turn datum datumLay (now (c .before .before .before .before .before .before .before .before .before .args .words)) (now (c .before .before .before .before .before .before .before .before .before .args .texts)) (c .before .before .before .before .before .loop .inv .0) (c .before .before .before .before .loop-test .taken) _ (c .before .before .put-datum .ensures .0) _ (c .before .before .put-datum .ensures .1) (c .before .before .put-datum .kept .1 .1 .1 .0),
-      c .before .before .put-datum .kept .1 .1 .1 .0 ∙ c .before .before .before .before .before .loop .inv .1,
-    )
+  running-turn datum datumLay (now (c .before .before .before .before .before .before .before .before .before .args .words)) (now (c .before .before .before .before .before .before .before .before .before .args .texts)) (c .before .before .before .before .before .loop .inv .0) (c .before .before .before .before .loop-test .taken) _ (c .before .before .put-datum .ensures .0) _ (c .before .before .put-datum .ensures .1) (c .before .before .put-datum .kept .1 .1 .1 .0),
+  c .before .before .put-datum .kept .1 .1 .1 .0 ∙ c .before .before .before .before .before .loop .inv .1,
+)
 
 same-length : tie.Need-same-length Inv-loop μ-loop
 same-length c = c .before .loop .inv .1

@@ -1,16 +1,12 @@
 -- `writer::datum::put_datum` meets its contract.
 -- Assumes nothing.
-use borrow.Author.Needs.{needs}
-use Rattle.bflan.proofs.writer.datum.put_datum.Statement.{statement}
-use Rattle.bflan.proofs.writer.datum.put_datum.Tie as tie
-use Rattle.bflan.proofs.writer.datum.put_datum.Reads as reads
-use Rattle.bflan.proofs.writer.datum.put_datum.Lts as lts
-use Rattle.bflan.proofs.writer.datum.put_front.Reads as put-front-reads
-use Rattle.bflan.proofs.writer.field.put_ended.Reads as put-ended-reads
 use native.Mathlib.Omega.{arith}
 use denote.Ref.{now}
 use Rattle.bflan.proofs.Storing.{ready-in}
 use Rattle.bflan.proofs.StoredParts.{datum-fits, key-ready, datum-done}
+use borrow.Author.Needs.{needs}
+use Rattle.bflan.proofs.writer.datum.put_datum.Statement.{statement}
+use Rattle.bflan.proofs.writer.datum.put_datum.Tie as tie
 
 put-front-requires : tie.Need-put-front-requires
 put-front-requires c κs = let f = datum-fits (now (c .before .before .before .before .args .words)) (now (c .before .before .before .before .args .texts)) (c .before .before .before .before .args .pen .word) (c .before .before .before .before .args .pen .byte) (c .before .before .before .before .args .pen .at) (c .before .before .before .before .pre) in (omega (arith, f .0), f .1)

@@ -1,13 +1,9 @@
 -- `writer::datum::put_fields` meets its contract.
 -- Assumes nothing.
+use Rattle.bflan.proofs.StoredParts.{fields-stored}
 use borrow.Author.Needs.{needs}
 use Rattle.bflan.proofs.writer.datum.put_fields.Statement.{statement}
 use Rattle.bflan.proofs.writer.datum.put_fields.Tie as tie
-use Rattle.bflan.proofs.writer.datum.put_fields.Reads as reads
-use Rattle.bflan.proofs.writer.datum.put_fields.Lts as lts
-use Rattle.bflan.proofs.writer.field.put_half.Reads as put-half-reads
-use Rattle.core.proofs.number.write_u32.Reads as write-u32-reads
-use Rattle.bflan.proofs.StoredParts.{fields-stored}
 
 write-u32-requires : tie.Need-write-u32-requires
 write-u32-requires c κs = search needs

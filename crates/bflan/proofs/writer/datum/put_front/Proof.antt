@@ -1,19 +1,13 @@
 -- `writer::datum::put_front` meets its contract.
 -- Assumes nothing.
-use borrow.Author.Needs.{needs}
-use Rattle.bflan.proofs.writer.datum.put_front.Statement.{statement}
-use Rattle.bflan.proofs.writer.datum.put_front.Tie as tie
-use Rattle.bflan.proofs.writer.datum.put_front.Reads as reads
-use Rattle.bflan.proofs.writer.datum.put_front.Lts as lts
-use Rattle.bflan.proofs.writer.datum.put_head.Reads as put-head-reads
-use Rattle.bflan.proofs.writer.field.put_offset.Reads as put-offset-reads
-use Rattle.bflan.proofs.writer.field.word_of.Reads as word-of-reads
-use Rattle.core.proofs.run.write_numbers.Reads as write-numbers-reads
+use Prim.Native.Nat.{ℕ, _*_}
 use mathlib.Core.Path.{refl, ap}
-use Prim.Native.Nat.{ℕ, _+_, _*_}
 use native.Mathlib.Omega.{arith}
 use denote.Ref.{now}
 use Rattle.bflan.proofs.StoredParts.{front-stored}
+use borrow.Author.Needs.{needs}
+use Rattle.bflan.proofs.writer.datum.put_front.Statement.{statement}
+use Rattle.bflan.proofs.writer.datum.put_front.Tie as tie
 
 put-head-requires : tie.Need-put-head-requires
 put-head-requires c κs = (omega (arith, c .before .before .before .pre .0), omega (arith, c .before .before .before .pre .1))
@@ -68,11 +62,11 @@ same-length c = search needs
 
 returns : tie.Need-returns
 returns c = (
-      omega (arith, c .before .before .before .before .before .before .before .before .word-of .ensures),
-      refl,
-      omega (arith, c .before .before .before .before .before .before .before .before .word-of .ensures),
-      front-stored (now (c .before .before .before .before .before .before .before .before .before .before .before .before .before .before .before .args .words)) (c .before .before .before .before .before .before .before .before .before .before .before .before .before .before .before .args .pen .word) (c .before .before .before .before .before .before .before .before .before .before .before .before .before .before .before .args .pen .at) _ (ap (λ (k : ℕ). 3 * k) (c .before .before .before .before .before .before .before .before .word-of .ensures)) (omega (arith, c .before .before .before .before .before .before .before .before .before .before .before .before .before .before .before .pre .0, c .before .before .before .before .before .before .before .before .before .before .before .before .before .before .before .pre .1, c .before .before .before .before .before .before .before .before .word-of .ensures, c .before .before .before .before .before .before .before .before .before .before .before .before .before .before .before .good)) (c .before .before .before .before .before .before .before .before .before .before .before .put-head .ensures) (c .before .before .before .before .before .before .write-numbers .ensures) (c .before .before .put-offset .ensures) .same,
-    )
+  omega (arith, c .before .before .before .before .before .before .before .before .word-of .ensures),
+  refl,
+  omega (arith, c .before .before .before .before .before .before .before .before .word-of .ensures),
+  front-stored (now (c .before .before .before .before .before .before .before .before .before .before .before .before .before .before .before .args .words)) (c .before .before .before .before .before .before .before .before .before .before .before .before .before .before .before .args .pen .word) (c .before .before .before .before .before .before .before .before .before .before .before .before .before .before .before .args .pen .at) _ (ap (λ (k : ℕ). 3 * k) (c .before .before .before .before .before .before .before .before .word-of .ensures)) (omega (arith, c .before .before .before .before .before .before .before .before .before .before .before .before .before .before .before .pre .0, c .before .before .before .before .before .before .before .before .before .before .before .before .before .before .before .pre .1, c .before .before .before .before .before .before .before .before .word-of .ensures, c .before .before .before .before .before .before .before .before .before .before .before .before .before .before .before .good)) (c .before .before .before .before .before .before .before .before .before .before .before .put-head .ensures) (c .before .before .before .before .before .before .write-numbers .ensures) (c .before .before .put-offset .ensures) .same,
+)
 
 pub put-front-spec : {M : Type 1} → statement M
 put-front-spec =

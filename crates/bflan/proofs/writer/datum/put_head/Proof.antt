@@ -1,15 +1,11 @@
 -- `writer::datum::put_head` meets its contract.
 -- Assumes nothing.
-use borrow.Author.Needs.{needs}
-use Rattle.bflan.proofs.writer.datum.put_head.Statement.{statement}
-use Rattle.bflan.proofs.writer.datum.put_head.Tie as tie
-use Rattle.bflan.proofs.writer.datum.put_head.Reads as reads
-use Rattle.bflan.proofs.writer.datum.put_head.Lts as lts
-use Rattle.bflan.proofs.writer.datum.put_fields.Reads as put-fields-reads
-use Rattle.bflan.proofs.writer.field.word_of.Reads as word-of-reads
 use native.Mathlib.Omega.{arith}
 use denote.Ref.{now}
 use Rattle.bflan.proofs.StoredParts.{fields-by}
+use borrow.Author.Needs.{needs}
+use Rattle.bflan.proofs.writer.datum.put_head.Statement.{statement}
+use Rattle.bflan.proofs.writer.datum.put_head.Tie as tie
 
 word-of-requires : tie.Need-word-of-requires
 word-of-requires c κs = search needs

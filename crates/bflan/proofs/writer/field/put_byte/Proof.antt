@@ -1,14 +1,11 @@
 -- `writer::field::put_byte` meets its contract.
 -- Assumes nothing.
-use borrow.Author.Needs.{needs}
-use Rattle.bflan.proofs.writer.field.put_byte.Statement.{statement}
-use Rattle.bflan.proofs.writer.field.put_byte.Tie as tie
-use Rattle.bflan.proofs.writer.field.put_byte.Reads as reads
-use Rattle.bflan.proofs.writer.field.put_byte.Lts as lts
-use Rattle.core.proofs.number.write_u8.Reads as write-u8-reads
 use mathlib.Core.Path.{_∙_}
 use denote.Ref.{now}
 use Rattle.bflan.proofs.StoredParts.{put-low-byte}
+use borrow.Author.Needs.{needs}
+use Rattle.bflan.proofs.writer.field.put_byte.Statement.{statement}
+use Rattle.bflan.proofs.writer.field.put_byte.Tie as tie
 
 cast-write-u8 : tie.Need-cast-write-u8
 cast-write-u8 c = search needs

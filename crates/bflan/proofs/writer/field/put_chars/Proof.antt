@@ -1,18 +1,10 @@
 -- `writer::field::put_chars` meets its contract.
 -- Assumes nothing.
--- `writer::field::put_chars` meets its contract.
--- Assumes nothing.
+use denote.Ref.{now}
+use Rattle.bflan.proofs.StoredParts.{chars-stored}
 use borrow.Author.Needs.{needs}
 use Rattle.bflan.proofs.writer.field.put_chars.Statement.{statement}
 use Rattle.bflan.proofs.writer.field.put_chars.Tie as tie
-use Rattle.bflan.proofs.writer.field.put_chars.Reads as reads
-use Rattle.bflan.proofs.writer.field.put_chars.Lts as lts
-use Rattle.core.proofs.fill.copy.Reads as copy-reads
-use mathlib.Core.Path.{ap, sym, _∙_}
-use denote.Ref.{now}
-use lib.Seq.{sets}
-use Rattle.core.proofs.Parts.{take-drop}
-use Rattle.bflan.proofs.StoredParts.{chars-stored}
 
 add-end : tie.Need-add-end
 add-end c = search needs

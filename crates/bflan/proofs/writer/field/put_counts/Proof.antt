@@ -1,13 +1,9 @@
 -- `writer::field::put_counts` meets its contract.
 -- Assumes nothing.
+use Rattle.bflan.proofs.StoredParts.{counts-stored}
 use borrow.Author.Needs.{needs}
 use Rattle.bflan.proofs.writer.field.put_counts.Statement.{statement}
 use Rattle.bflan.proofs.writer.field.put_counts.Tie as tie
-use Rattle.bflan.proofs.writer.field.put_counts.Reads as reads
-use Rattle.bflan.proofs.writer.field.put_counts.Lts as lts
-use Rattle.bflan.proofs.writer.field.put_byte.Reads as put-byte-reads
-use Rattle.bflan.proofs.writer.field.put_half.Reads as put-half-reads
-use Rattle.bflan.proofs.StoredParts.{counts-stored}
 
 put-byte-requires : tie.Need-put-byte-requires
 put-byte-requires c κs = search needs

@@ -1,17 +1,12 @@
 -- `writer::field::put_ended` meets its contract.
 -- Assumes nothing.
-use borrow.Author.Needs.{needs}
-use Rattle.bflan.proofs.writer.field.put_ended.Statement.{statement}
-use Rattle.bflan.proofs.writer.field.put_ended.Tie as tie
-use Rattle.bflan.proofs.writer.field.put_ended.Reads as reads
-use Rattle.bflan.proofs.writer.field.put_ended.Lts as lts
-use Rattle.bflan.proofs.writer.field.put_byte.Reads as put-byte-reads
-use Rattle.bflan.proofs.writer.field.put_chars.Reads as put-chars-reads
-use Rattle.bflan.proofs.writer.field.word_of.Reads as word-of-reads
 use mathlib.Core.Path.{refl}
 use native.Mathlib.Omega.{arith}
 use denote.Ref.{now}
 use Rattle.bflan.proofs.StoredParts.{ended-fits, ended-done}
+use borrow.Author.Needs.{needs}
+use Rattle.bflan.proofs.writer.field.put_ended.Statement.{statement}
+use Rattle.bflan.proofs.writer.field.put_ended.Tie as tie
 
 word-of-requires : tie.Need-word-of-requires
 word-of-requires c κs = search needs

@@ -1,14 +1,11 @@
 -- `writer::field::put_half` meets its contract.
 -- Assumes nothing.
-use borrow.Author.Needs.{needs}
-use Rattle.bflan.proofs.writer.field.put_half.Statement.{statement}
-use Rattle.bflan.proofs.writer.field.put_half.Tie as tie
-use Rattle.bflan.proofs.writer.field.put_half.Reads as reads
-use Rattle.bflan.proofs.writer.field.put_half.Lts as lts
-use Rattle.core.proofs.number.write_u16.Reads as write-u16-reads
 use mathlib.Core.Path.{_∙_}
 use denote.Ref.{now}
 use Rattle.bflan.proofs.StoredParts.{put-low-half}
+use borrow.Author.Needs.{needs}
+use Rattle.bflan.proofs.writer.field.put_half.Statement.{statement}
+use Rattle.bflan.proofs.writer.field.put_half.Tie as tie
 
 cast-write-u16 : tie.Need-cast-write-u16
 cast-write-u16 c = search needs

@@ -1,15 +1,11 @@
 -- `writer::field::put_offset` meets its contract.
 -- Assumes nothing.
-use borrow.Author.Needs.{needs}
-use Rattle.bflan.proofs.writer.field.put_offset.Statement.{statement}
-use Rattle.bflan.proofs.writer.field.put_offset.Tie as tie
-use Rattle.bflan.proofs.writer.field.put_offset.Reads as reads
-use Rattle.bflan.proofs.writer.field.put_offset.Lts as lts
-use Rattle.core.proofs.placeholder.patch_u32.Reads as patch-u32-reads
-use Rattle.core.proofs.placeholder.write_placeholder_u32.Reads as write-placeholder-u32-reads
 use Prim.Native.Nat.{_-_}
 use denote.Ref.{now}
 use Rattle.bflan.proofs.StoredParts.{offset-stored}
+use borrow.Author.Needs.{needs}
+use Rattle.bflan.proofs.writer.field.put_offset.Statement.{statement}
+use Rattle.bflan.proofs.writer.field.put_offset.Tie as tie
 
 write-placeholder-u32-requires : tie.Need-write-placeholder-u32-requires
 write-placeholder-u32-requires c κs = search needs

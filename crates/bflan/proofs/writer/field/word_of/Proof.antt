@@ -1,13 +1,11 @@
 -- `writer::field::word_of` meets its contract.
 -- Assumes nothing.
-use borrow.Author.Needs.{needs}
-use Rattle.bflan.proofs.writer.field.word_of.Statement.{statement}
-use Rattle.bflan.proofs.writer.field.word_of.Tie as tie
-use Rattle.bflan.proofs.writer.field.word_of.Reads as reads
-use Rattle.bflan.proofs.writer.field.word_of.Lts as lts
 use mathlib.Core.Path.{sym}
 use denote.Ref.{now}
 use lib.ListN.{List·getD-eq-default}
+use borrow.Author.Needs.{needs}
+use Rattle.bflan.proofs.writer.field.word_of.Statement.{statement}
+use Rattle.bflan.proofs.writer.field.word_of.Tie as tie
 
 mul-result : tie.Need-mul-result
 mul-result c = search needs

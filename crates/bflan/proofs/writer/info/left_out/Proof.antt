@@ -1,17 +1,14 @@
 -- `writer::info::left_out` meets its contract.
 -- Assumes nothing.
+use mathlib.Core.Path.{sym, _∙_}
+use native.Mathlib.Omega.{arith}
+use denote.Ref.{now}
+use Rattle.core.specs.Number.{val}
+use Rattle.bflan.specs.Letters.{fleu}
+use Rattle.bflan.proofs.StoredParts.{out-other, out-extended}
 use borrow.Author.Needs.{needs}
 use Rattle.bflan.proofs.writer.info.left_out.Statement.{statement}
 use Rattle.bflan.proofs.writer.info.left_out.Tie as tie
-use Rattle.bflan.proofs.writer.info.left_out.Reads as reads
-use Rattle.bflan.proofs.writer.info.left_out.Lts as lts
-use Rattle.bflan.proofs.writer.field.word_of.Reads as word-of-reads
-use mathlib.Core.Path.{sym, ap, _∙_}
-use native.Mathlib.Omega.{arith}
-use denote.Ref.{now}
-use Rattle.bflan.specs.Letters.{fleu}
-use Rattle.core.specs.Number.{val}
-use Rattle.bflan.proofs.StoredParts.{out-other, out-extended}
 
 word-of-requires : tie.Need-word-of-requires
 word-of-requires c κs = search needs

@@ -1,14 +1,10 @@
 -- `writer::info::put_head` meets its contract.
 -- Assumes nothing.
+use native.Mathlib.Omega.{arith}
+use Rattle.bflan.proofs.StoredParts.{info-head-stored}
 use borrow.Author.Needs.{needs}
 use Rattle.bflan.proofs.writer.info.put_head.Statement.{statement}
 use Rattle.bflan.proofs.writer.info.put_head.Tie as tie
-use Rattle.bflan.proofs.writer.info.put_head.Reads as reads
-use Rattle.bflan.proofs.writer.info.put_head.Lts as lts
-use Rattle.bflan.proofs.writer.field.put_counts.Reads as put-counts-reads
-use Rattle.core.proofs.number.write_u32.Reads as write-u32-reads
-use native.Mathlib.Omega.{arith}
-use Rattle.bflan.proofs.StoredParts.{info-head-stored}
 
 write-u32-requires : tie.Need-write-u32-requires
 write-u32-requires c κs = search needs

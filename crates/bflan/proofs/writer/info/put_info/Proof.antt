@@ -1,20 +1,14 @@
 -- `writer::info::put_info` meets its contract.
 -- Assumes nothing.
+use native.Mathlib.Omega.{arith}
+use denote.Ref.{now}
+use Rattle.core.specs.Number.{val}
+use Rattle.bflan.specs.Letters.{fleu}
+use Rattle.bflan.proofs.Storing.{ready-in}
+use Rattle.bflan.proofs.StoredParts.{info-there, info-fits, data-ready, data-done, targets-ready, targets-done}
 use borrow.Author.Needs.{needs}
 use Rattle.bflan.proofs.writer.info.put_info.Statement.{statement}
 use Rattle.bflan.proofs.writer.info.put_info.Tie as tie
-use Rattle.bflan.proofs.writer.info.put_info.Reads as reads
-use Rattle.bflan.proofs.writer.info.put_info.Lts as lts
-use Rattle.bflan.proofs.writer.datum.put_data.Reads as put-data-reads
-use Rattle.bflan.proofs.writer.field.word_of.Reads as word-of-reads
-use Rattle.bflan.proofs.writer.info.put_head.Reads as put-head-reads
-use Rattle.bflan.proofs.writer.target.put_targets.Reads as put-targets-reads
-use native.Mathlib.Omega.{arith}
-use denote.Ref.{now}
-use Rattle.bflan.specs.Letters.{fleu}
-use Rattle.core.specs.Number.{val}
-use Rattle.bflan.proofs.Storing.{ready-in}
-use Rattle.bflan.proofs.StoredParts.{info-there, info-fits, data-ready, data-done, targets-ready, targets-done}
 
 word-of-requires : tie.Need-word-of-requires
 word-of-requires c κs = search needs

@@ -1,14 +1,6 @@
 -- `writer::info::put_infos` meets its contract. The loop's invariant: what is left, from here, is what all of it is, from the start.
 -- Assumes nothing.
-use borrow.Author.Needs.{needs}
-use Rattle.bflan.proofs.writer.info.put_infos.Statement.{statement}
-use Rattle.bflan.proofs.writer.info.put_infos.Tie as tie
-use Rattle.bflan.proofs.writer.info.put_infos.Reads as reads
-use Rattle.bflan.proofs.writer.info.put_infos.Lts as lts
-use Rattle.bflan.proofs.writer.field.put_offset.Reads as put-offset-reads
-use Rattle.bflan.proofs.writer.info.left_out.Reads as left-out-reads
-use Rattle.bflan.proofs.writer.info.put_info.Reads as put-info-reads
-use Prim.Native.Nat.{_+_, _*_, _-_, _≤_}
+use Prim.Native.Nat.{_+_, _*_, _-_}
 use mathlib.Core.Path.{_≡_, refl, _∙_}
 use native.Mathlib.Omega.{arith}
 use denote.Ref.{now}
@@ -18,6 +10,8 @@ use Rattle.bflan.specs.Layout.{infoLay}
 use Rattle.bflan.specs.Stored.{laid, behind, listed, outOf}
 use Rattle.bflan.proofs.StoredParts.{info-there, out-turn, out-none, out-fits}
 use Rattle.bflan.proofs.Storing.{ready-in, Going, going-start, going-first, going-turn, going-end, listed-fits}
+use Rattle.bflan.proofs.writer.info.put_infos.Statement.{statement}
+use Rattle.bflan.proofs.writer.info.put_infos.Tie as tie
 
 abbrev Inv-loop : tie.InvT-loop
 Inv-loop words texts n base out₀ left₀ tab₀ gone₀ q₀ out left tab gone q =
@@ -65,10 +59,10 @@ loop-less c = omega (arith, c .before .before .before .before .before .before .b
 
 loop-again : tie.Need-loop-again Inv-loop μ-loop
 loop-again c = (
-      going-turn info infoLay (now (c .before .before .before .before .before .before .before .before .before .before .before .before .before .before .before .args .words)) (now (c .before .before .before .before .before .before .before .before .before .before .before .before .before .before .before .args .texts)) (c .before .before .before .before .before .before .before .before .before .before .before .before .before .before .before .args .base) (c .before .before .before .before .before .before .before .before .before .before .loop .inv .0) (c .before .before .before .before .before .before .before .before .before .loop-test .taken) _ _ _ (c .before .before .before .before .before .before .before .put-offset .ensures) (c .before .before .before .put-info .ensures .0) (c .before .before .before .put-info .ensures .1) (c .before .before .before .put-info .kept .1 .1 .1 .0 ∙ c .before .before .before .before .before .before .before .put-offset .kept .0),
-      c .before .before .before .put-info .kept .1 .1 .1 .0 ∙ c .before .before .before .before .before .before .before .put-offset .kept .0 ∙ c .before .before .before .before .before .before .before .before .before .before .loop .inv .1,
-      (let t = out-turn (now (c .before .before .before .before .before .before .before .before .before .before .before .before .before .before .before .args .words)) (now (c .before .before .before .before .before .before .before .before .before .before .before .before .before .before .before .args .texts)) (c .before .before .before .before .before .before .before .before .before .before .loop .left) (c .before .before .before .before .before .before .before .before .before .before .loop .q .word) (c .before .before .before .before .before .before .before .before .before .before .loop .q .byte) (c .before .before .before .before .before .before .before .before .before .before .loop .q .at) (c .before .before .before .before .before .before .before .before .before .loop-test .taken) (c .before .before .before .before .before .before .before .before .before .before .loop .inv .0 .ready) _ (c .before .before .before .put-info .ensures .0) in omega (arith, t .0, c .before .before .before .before .before .before .before .before .before .before .loop .inv .2, c .left-out .ensures)),
-    )
+  going-turn info infoLay (now (c .before .before .before .before .before .before .before .before .before .before .before .before .before .before .before .args .words)) (now (c .before .before .before .before .before .before .before .before .before .before .before .before .before .before .before .args .texts)) (c .before .before .before .before .before .before .before .before .before .before .before .before .before .before .before .args .base) (c .before .before .before .before .before .before .before .before .before .before .loop .inv .0) (c .before .before .before .before .before .before .before .before .before .loop-test .taken) _ _ _ (c .before .before .before .before .before .before .before .put-offset .ensures) (c .before .before .before .put-info .ensures .0) (c .before .before .before .put-info .ensures .1) (c .before .before .before .put-info .kept .1 .1 .1 .0 ∙ c .before .before .before .before .before .before .before .put-offset .kept .0),
+  c .before .before .before .put-info .kept .1 .1 .1 .0 ∙ c .before .before .before .before .before .before .before .put-offset .kept .0 ∙ c .before .before .before .before .before .before .before .before .before .before .loop .inv .1,
+  (let t = out-turn (now (c .before .before .before .before .before .before .before .before .before .before .before .before .before .before .before .args .words)) (now (c .before .before .before .before .before .before .before .before .before .before .before .before .before .before .before .args .texts)) (c .before .before .before .before .before .before .before .before .before .before .loop .left) (c .before .before .before .before .before .before .before .before .before .before .loop .q .word) (c .before .before .before .before .before .before .before .before .before .before .loop .q .byte) (c .before .before .before .before .before .before .before .before .before .before .loop .q .at) (c .before .before .before .before .before .before .before .before .before .loop-test .taken) (c .before .before .before .before .before .before .before .before .before .before .loop .inv .0 .ready) _ (c .before .before .before .put-info .ensures .0) in omega (arith, t .0, c .before .before .before .before .before .before .before .before .before .before .loop .inv .2, c .left-out .ensures)),
+)
 
 same-length : tie.Need-same-length Inv-loop μ-loop
 same-length c = c .before .loop .inv .1

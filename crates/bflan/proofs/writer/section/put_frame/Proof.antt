@@ -1,13 +1,9 @@
 -- `writer::section::put_frame` meets its contract.
 -- Assumes nothing.
+use Rattle.bflan.proofs.StoredParts.{frame-stored}
 use borrow.Author.Needs.{needs}
 use Rattle.bflan.proofs.writer.section.put_frame.Statement.{statement}
 use Rattle.bflan.proofs.writer.section.put_frame.Tie as tie
-use Rattle.bflan.proofs.writer.section.put_frame.Reads as reads
-use Rattle.bflan.proofs.writer.section.put_frame.Lts as lts
-use Rattle.bflan.proofs.writer.field.put_byte.Reads as put-byte-reads
-use Rattle.bflan.proofs.writer.field.put_half.Reads as put-half-reads
-use Rattle.bflan.proofs.StoredParts.{frame-stored}
 
 put-half-requires : tie.Need-put-half-requires
 put-half-requires c κs = search needs

@@ -1,12 +1,5 @@
 -- `writer::section::put_names` meets its contract.
 -- Assumes nothing.
-use borrow.Author.Needs.{needs}
-use Rattle.bflan.proofs.writer.section.put_names.Statement.{statement}
-use Rattle.bflan.proofs.writer.section.put_names.Tie as tie
-use Rattle.bflan.proofs.writer.section.put_names.Reads as reads
-use Rattle.bflan.proofs.writer.section.put_names.Lts as lts
-use Rattle.bflan.proofs.writer.section.put_textures.Reads as put-textures-reads
-use Rattle.core.proofs.fill.align4.Reads as align4-reads
 use Prim.Native.Nat.{ℕ, _+_, _*_, _-_}
 use mathlib.Core.Path.{refl, ap}
 use native.Mathlib.Omega.{arith}
@@ -16,6 +9,9 @@ use Rattle.bflan.specs.Layout.{ended}
 use Rattle.bflan.specs.Stored.{listed}
 use Rattle.bflan.proofs.Storing.{behind-within}
 use Rattle.bflan.proofs.StoredParts.{names-ready, names-done}
+use borrow.Author.Needs.{needs}
+use Rattle.bflan.proofs.writer.section.put_names.Statement.{statement}
+use Rattle.bflan.proofs.writer.section.put_names.Tie as tie
 
 put-textures-requires : tie.Need-put-textures-requires
 put-textures-requires c κs = (omega arith, names-ready (c .before .before .before .before .args .n) (now (c .before .before .before .before .args .words)) (now (c .before .before .before .before .args .texts)) (c .before .before .before .before .pre))

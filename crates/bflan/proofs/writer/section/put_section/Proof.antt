@@ -1,22 +1,14 @@
 -- `writer::section::put_section` meets its contract.
 -- Assumes nothing.
-use borrow.Author.Needs.{needs}
-use Rattle.bflan.proofs.writer.section.put_section.Statement.{statement}
-use Rattle.bflan.proofs.writer.section.put_section.Tie as tie
-use Rattle.bflan.proofs.writer.section.put_section.Reads as reads
-use Rattle.bflan.proofs.writer.section.put_section.Lts as lts
-use Rattle.bflan.proofs.writer.content.put_contents.Reads as put-contents-reads
-use Rattle.bflan.proofs.writer.field.word_of.Reads as word-of-reads
-use Rattle.bflan.proofs.writer.section.put_names.Reads as put-names-reads
-use Rattle.bflan.proofs.writer.section.put_start.Reads as put-start-reads
-use Rattle.core.proofs.placeholder.patch_u32.Reads as patch-u32-reads
-use Rattle.core.proofs.placeholder.write_placeholder_u32.Reads as write-placeholder-u32-reads
-use mathlib.Core.Path.{refl, _∙_}
+use mathlib.Core.Path.{_∙_}
 use native.Mathlib.Omega.{arith}
 use denote.Ref.{now}
 use Rattle.bflan.specs.Stored.{namesLay}
 use Rattle.bflan.proofs.Storing.{ready-in, behind-within}
 use Rattle.bflan.proofs.StoredParts.{names-there, contents-there, section-done}
+use borrow.Author.Needs.{needs}
+use Rattle.bflan.proofs.writer.section.put_section.Statement.{statement}
+use Rattle.bflan.proofs.writer.section.put_section.Tie as tie
 
 put-start-requires : tie.Need-put-start-requires
 put-start-requires c κs = search needs

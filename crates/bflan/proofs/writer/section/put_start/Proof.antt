@@ -1,18 +1,12 @@
 -- `writer::section::put_start` meets its contract.
 -- Assumes nothing.
-use borrow.Author.Needs.{needs}
-use Rattle.bflan.proofs.writer.section.put_start.Statement.{statement}
-use Rattle.bflan.proofs.writer.section.put_start.Tie as tie
-use Rattle.bflan.proofs.writer.section.put_start.Reads as reads
-use Rattle.bflan.proofs.writer.section.put_start.Lts as lts
-use Rattle.bflan.proofs.writer.field.word_of.Reads as word-of-reads
-use Rattle.bflan.proofs.writer.section.put_frame.Reads as put-frame-reads
-use Rattle.core.proofs.number.write_u32.Reads as write-u32-reads
-use Rattle.core.proofs.placeholder.write_placeholder_u32.Reads as write-placeholder-u32-reads
 use denote.Ref.{now}
 use Rattle.core.specs.Number.{val}
 use Rattle.bflan.specs.Reading.{pai1}
 use Rattle.bflan.proofs.StoredParts.{start-stored}
+use borrow.Author.Needs.{needs}
+use Rattle.bflan.proofs.writer.section.put_start.Statement.{statement}
+use Rattle.bflan.proofs.writer.section.put_start.Tie as tie
 
 write-u32-requires : tie.Need-write-u32-requires
 write-u32-requires c κs = search needs

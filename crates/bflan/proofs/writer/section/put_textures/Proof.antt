@@ -1,13 +1,6 @@
 -- `writer::section::put_textures` meets its contract. The loop's invariant: what is left, from here, is what all of it is, from the start.
 -- Assumes nothing.
-use borrow.Author.Needs.{needs}
-use Rattle.bflan.proofs.writer.section.put_textures.Statement.{statement}
-use Rattle.bflan.proofs.writer.section.put_textures.Tie as tie
-use Rattle.bflan.proofs.writer.section.put_textures.Reads as reads
-use Rattle.bflan.proofs.writer.section.put_textures.Lts as lts
-use Rattle.bflan.proofs.writer.field.put_ended.Reads as put-ended-reads
-use Rattle.bflan.proofs.writer.field.put_offset.Reads as put-offset-reads
-use Prim.Native.Nat.{_+_, _*_, _-_, _≤_}
+use Prim.Native.Nat.{_+_, _*_, _-_}
 use mathlib.Core.Path.{_≡_, refl, _∙_}
 use native.Mathlib.Omega.{arith}
 use denote.Ref.{now}
@@ -16,6 +9,8 @@ use Rattle.bflan.specs.Judge.{text, times, wide}
 use Rattle.bflan.specs.Layout.{ended}
 use Rattle.bflan.specs.Stored.{laid, behind, listed}
 use Rattle.bflan.proofs.Storing.{ready-in, Going, going-start, going-first, going-turn, going-end, listed-fits}
+use Rattle.bflan.proofs.writer.section.put_textures.Statement.{statement}
+use Rattle.bflan.proofs.writer.section.put_textures.Tie as tie
 
 abbrev Inv-loop : tie.InvT-loop
 Inv-loop words texts n base out₀ left₀ tab₀ q₀ out left tab q =
@@ -53,9 +48,9 @@ loop-less c = omega (arith, c .before .before .before .before .before .before .b
 
 loop-again : tie.Need-loop-again Inv-loop μ-loop
 loop-again c = (
-      going-turn (text (wide 4)) ended (now (c .before .before .before .before .before .before .before .before .before .before .before .before .before .before .args .words)) (now (c .before .before .before .before .before .before .before .before .before .before .before .before .before .before .args .texts)) (c .before .before .before .before .before .before .before .before .before .before .before .before .before .before .args .base) (c .before .before .before .before .before .before .before .before .before .loop .inv .0) (c .before .before .before .before .before .before .before .before .loop-test .taken) _ _ _ (c .before .before .before .before .before .before .put-offset .ensures) (c .before .before .put-ended .ensures .0) (c .before .before .put-ended .ensures .1) (c .before .before .put-ended .kept .1 .1 .1 .0 ∙ c .before .before .before .before .before .before .put-offset .kept .0),
-      c .before .before .put-ended .kept .1 .1 .1 .0 ∙ c .before .before .before .before .before .before .put-offset .kept .0 ∙ c .before .before .before .before .before .before .before .before .before .loop .inv .1,
-    )
+  going-turn (text (wide 4)) ended (now (c .before .before .before .before .before .before .before .before .before .before .before .before .before .before .args .words)) (now (c .before .before .before .before .before .before .before .before .before .before .before .before .before .before .args .texts)) (c .before .before .before .before .before .before .before .before .before .before .before .before .before .before .args .base) (c .before .before .before .before .before .before .before .before .before .loop .inv .0) (c .before .before .before .before .before .before .before .before .loop-test .taken) _ _ _ (c .before .before .before .before .before .before .put-offset .ensures) (c .before .before .put-ended .ensures .0) (c .before .before .put-ended .ensures .1) (c .before .before .put-ended .kept .1 .1 .1 .0 ∙ c .before .before .before .before .before .before .put-offset .kept .0),
+  c .before .before .put-ended .kept .1 .1 .1 .0 ∙ c .before .before .before .before .before .before .put-offset .kept .0 ∙ c .before .before .before .before .before .before .before .before .before .loop .inv .1,
+)
 
 same-length : tie.Need-same-length Inv-loop μ-loop
 same-length c = c .before .loop .inv .1

@@ -1,14 +1,9 @@
 -- `writer::target::put_head` meets its contract.
 -- Assumes nothing.
+use Rattle.bflan.proofs.StoredParts.{head-stored}
 use borrow.Author.Needs.{needs}
 use Rattle.bflan.proofs.writer.target.put_head.Statement.{statement}
 use Rattle.bflan.proofs.writer.target.put_head.Tie as tie
-use Rattle.bflan.proofs.writer.target.put_head.Reads as reads
-use Rattle.bflan.proofs.writer.target.put_head.Lts as lts
-use Rattle.bflan.proofs.writer.field.put_byte.Reads as put-byte-reads
-use Rattle.bflan.proofs.writer.field.put_half.Reads as put-half-reads
-use Rattle.bflan.proofs.writer.field.put_offset.Reads as put-offset-reads
-use Rattle.bflan.proofs.StoredParts.{head-stored}
 
 put-byte-requires : tie.Need-put-byte-requires
 put-byte-requires c κs = search needs

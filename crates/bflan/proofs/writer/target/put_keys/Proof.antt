@@ -1,18 +1,14 @@
 -- `writer::target::put_keys` meets its contract.
 -- Assumes nothing.
-use borrow.Author.Needs.{needs}
-use Rattle.bflan.proofs.writer.target.put_keys.Statement.{statement}
-use Rattle.bflan.proofs.writer.target.put_keys.Tie as tie
-use Rattle.bflan.proofs.writer.target.put_keys.Reads as reads
-use Rattle.bflan.proofs.writer.target.put_keys.Lts as lts
-use Rattle.core.proofs.run.write_numbers.Reads as write-numbers-reads
-use Rattle.core.proofs.run.write_pairs.Reads as write-pairs-reads
 use mathlib.Core.Path.{refl}
 use mathlib.Core.List.{[]}
 use native.Mathlib.Omega.{arith}
 use denote.Ref.{now}
 use lib.ListN.{length}
 use Rattle.bflan.proofs.StoredParts.{constant-coded, step-coded, hermite-coded, keys-fit, constant-done, keys-done}
+use borrow.Author.Needs.{needs}
+use Rattle.bflan.proofs.writer.target.put_keys.Statement.{statement}
+use Rattle.bflan.proofs.writer.target.put_keys.Tie as tie
 
 write-numbers-requires : tie.Need-write-numbers-requires
 write-numbers-requires c κs = search needs

@@ -1,18 +1,13 @@
 -- `writer::target::put_target` meets its contract.
 -- Assumes nothing.
-use borrow.Author.Needs.{needs}
-use Rattle.bflan.proofs.writer.target.put_target.Statement.{statement}
-use Rattle.bflan.proofs.writer.target.put_target.Tie as tie
-use Rattle.bflan.proofs.writer.target.put_target.Reads as reads
-use Rattle.bflan.proofs.writer.target.put_target.Lts as lts
-use Rattle.bflan.proofs.writer.field.word_of.Reads as word-of-reads
-use Rattle.bflan.proofs.writer.target.put_head.Reads as put-head-reads
-use Rattle.bflan.proofs.writer.target.put_keys.Reads as put-keys-reads
 use mathlib.Core.List.{[]}
 use native.Mathlib.Omega.{arith}
 use denote.Ref.{now}
 use Rattle.bflan.proofs.Storing.{ready-in}
 use Rattle.bflan.proofs.StoredParts.{target-there, keys-ready, target-done}
+use borrow.Author.Needs.{needs}
+use Rattle.bflan.proofs.writer.target.put_target.Statement.{statement}
+use Rattle.bflan.proofs.writer.target.put_target.Tie as tie
 
 word-of-requires : tie.Need-word-of-requires
 word-of-requires c κs = search needs

@@ -1,15 +1,6 @@
 -- `writer::target::put_targets` meets its contract. The loop's invariant: what is left, from here, is what all of it is, from the start.
 -- Assumes nothing.
--- `writer::target::put_targets` meets its contract. The loop's invariant: what is left, from here, is what all of it is, from the start.
--- Assumes nothing.
-use borrow.Author.Needs.{needs}
-use Rattle.bflan.proofs.writer.target.put_targets.Statement.{statement}
-use Rattle.bflan.proofs.writer.target.put_targets.Tie as tie
-use Rattle.bflan.proofs.writer.target.put_targets.Reads as reads
-use Rattle.bflan.proofs.writer.target.put_targets.Lts as lts
-use Rattle.bflan.proofs.writer.field.put_offset.Reads as put-offset-reads
-use Rattle.bflan.proofs.writer.target.put_target.Reads as put-target-reads
-use Prim.Native.Nat.{_+_, _*_, _-_, _≤_}
+use Prim.Native.Nat.{_+_, _*_, _-_}
 use mathlib.Core.Path.{_≡_, refl, _∙_}
 use mathlib.Core.List.{[]}
 use native.Mathlib.Omega.{arith}
@@ -17,10 +8,11 @@ use denote.Ref.{now}
 use lib.ListN.{length}
 use Rattle.bflan.specs.Judge.{times, target}
 use Rattle.bflan.specs.Layout.{targetLay}
-use Rattle.bflan.specs.Limits.{limit}
 use Rattle.bflan.specs.Stored.{laid, behind, listed}
 use Rattle.bflan.proofs.Storing.{Going, going-start, going-first, going-turn, going-end}
 use Rattle.bflan.proofs.Storing.{ready-in, Going, going-start, going-first, going-turn, going-end, listed-fits}
+use Rattle.bflan.proofs.writer.target.put_targets.Statement.{statement}
+use Rattle.bflan.proofs.writer.target.put_targets.Tie as tie
 
 abbrev Inv-loop : tie.InvT-loop
 Inv-loop words letters n base out₀ left₀ tab₀ q₀ out left tab q =
@@ -58,9 +50,9 @@ loop-less c = omega (arith, c .before .before .before .before .before .before .b
 
 loop-again : tie.Need-loop-again Inv-loop μ-loop
 loop-again c = (
-      going-turn (target (c .before .before .before .before .before .before .before .before .before .before .before .before .before .args .letters)) targetLay (now (c .before .before .before .before .before .before .before .before .before .before .before .before .before .args .words)) [] (c .before .before .before .before .before .before .before .before .before .before .before .before .before .args .base) (c .before .before .before .before .before .before .before .before .before .loop .inv .0) (c .before .before .before .before .before .before .before .before .loop-test .taken) _ _ _ (c .before .before .before .before .before .before .put-offset .ensures) (c .before .before .put-target .ensures .0) (c .before .before .put-target .ensures .1) (c .before .before .put-target .kept .1 .1 .1 .0 ∙ c .before .before .before .before .before .before .put-offset .kept .0),
-      c .before .before .put-target .kept .1 .1 .1 .0 ∙ c .before .before .before .before .before .before .put-offset .kept .0 ∙ c .before .before .before .before .before .before .before .before .before .loop .inv .1,
-    )
+  going-turn (target (c .before .before .before .before .before .before .before .before .before .before .before .before .before .args .letters)) targetLay (now (c .before .before .before .before .before .before .before .before .before .before .before .before .before .args .words)) [] (c .before .before .before .before .before .before .before .before .before .before .before .before .before .args .base) (c .before .before .before .before .before .before .before .before .before .loop .inv .0) (c .before .before .before .before .before .before .before .before .loop-test .taken) _ _ _ (c .before .before .before .before .before .before .put-offset .ensures) (c .before .before .put-target .ensures .0) (c .before .before .put-target .ensures .1) (c .before .before .put-target .kept .1 .1 .1 .0 ∙ c .before .before .before .before .before .before .put-offset .kept .0),
+  c .before .before .put-target .kept .1 .1 .1 .0 ∙ c .before .before .before .before .before .before .put-offset .kept .0 ∙ c .before .before .before .before .before .before .before .before .before .loop .inv .1,
+)
 
 same-length : tie.Need-same-length Inv-loop μ-loop
 same-length c = c .before .loop .inv .1
