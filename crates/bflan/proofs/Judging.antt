@@ -404,7 +404,7 @@ abbrev Sound : {X : Type 0} → J X → (X → List Cell) → (X → Type 0) →
 Sound {X = X} p cellsOf Q =
     (w x : List ℕ) (i j : ℕ) (a : X) (k l : ℕ) → i ≤ length w → j ≤ length x → p w x i j ≡ fine a k l → Got cellsOf Q w x i j a k l
 
-fine-to : {A : Type 0} (R : A → ℕ → ℕ → Type 0) {a b : A} {i j k l : ℕ} → fine a i j ≡ fine b k l → R a i j → R b k l
+pub fine-to : {A : Type 0} (R : A → ℕ → ℕ → Type 0) {a b : A} {i j k l : ℕ} → fine a i j ≡ fine b k l → R a i j → R b k l
 fine-to R {a} {b} {i} {j} {k} {l} e r =
     let ea : a ≡ b = cc in
     let ei : i ≡ k = cc in
@@ -413,10 +413,10 @@ fine-to R {a} {b} {i} {j} {k} {l} e r =
 
 -- a walk that a fault ends accepts nothing
 module _ {A C : Type 0} {a : A} {k l n : ℕ} where
-  no-word : badWord n ≡ fine a k l → C
+  pub no-word : badWord n ≡ fine a k l → C
   no-word e = let z : _≡_ {A = ℕ} 0 1 = cc in absurd (omega arith)
 
-  no-text : badText n ≡ fine a k l → C
+  pub no-text : badText n ≡ fine a k l → C
   no-text e = let z : _≡_ {A = ℕ} 0 1 = cc in absurd (omega arith)
 
 -- where a walk goes on after its first part: that part stands there, and the positions are within the lists

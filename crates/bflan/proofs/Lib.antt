@@ -8,6 +8,7 @@ pub mod Emits
 pub mod Exercises
 pub mod Fields
 pub mod InfoParts
+pub mod Inversion
 pub mod Judging
 pub mod KeyRuns
 pub mod Layouts
@@ -17,7 +18,10 @@ pub mod ReadBack
 pub mod Replacing
 pub mod RoundTrip
 pub mod SectionParts
+pub mod StoredParts
+pub mod Storing
 pub mod TargetParts
 pub mod Verdicts
 pub mod Walks
+pub mod WriteAnswers
 pub mod WrittenBytes

@@ -22,7 +22,8 @@ use Rattle.bflan.specs.MeasureParts.{fits, grown, filledUp, padded, Behi
 use Rattle.bflan.specs.Record.{AnimTarget, Standard, AnimInfo, AnimContent, PaneAnimInfo, keyWidths}
 use Rattle.bflan.specs.Walk.{sat}
 use Rattle.bflan.proofs.Layouts.{size-table, user-size}
-use Rattle.bflan.proofs.Measures.{marked, measured-padded, sat-filled, grown-sat, was-word, was-text, was-fine, measured-by, measured-grown, measured-made, then-grown, word-fine, word-bad, times-none, times-turn, times-length, steps-as, steps-word, steps-row, steps-times, ran, steps-measured, size-parts, size-numbers}
+use Rattle.bflan.proofs.Inversion.{times-length}
+use Rattle.bflan.proofs.Measures.{marked, measured-padded, sat-filled, grown-sat, was-word, was-text, was-fine, measured-by, measured-grown, measured-made, then-grown, word-fine, word-bad, times-none, times-turn, steps-as, steps-word, steps-row, steps-times, ran, steps-measured, size-parts, size-numbers}
 
 -- ---- texts
 
@@ -91,7 +92,7 @@ module _ (w : List ℕ) (small : (k : ℕ) → getD w k 0 < 4294967296) (x : Lis
   run-is : measured (λ vs. size (parts (number 4) vs)) (times n (word (wide 4)) w x i j) ≡ ran n (n * 4) (length w) i j
   run-is =
       steps-measured (times n (word (wide 4))) w x n (steps-as _ w x (n * 1) n (steps-times (word (wide 4)) w x 1 (steps-word w small x) n) (omega arith)) (λ vs. size (parts (number 4) vs)) (n * 4) i j
-      (λ vs u v e. size-numbers vs ∙ ap (λ (m : ℕ). m * 4) (times-length (word (wide 4)) w x n i j vs u v e))
+      (λ vs u v e. size-numbers vs ∙ ap (λ (m : ℕ). m * 4) (times-length (word (wide 4)) w x n i j e))
 
   pub run-there : n ≤ length w - i → n ≤ 17179869184 → marked (i + n) j (4 * n) ≡ measured (λ vs. size (parts (number 4) vs)) (times n (word (wide 4)) w x i j)
   run-there h b = rw (run-is, le-leb n (length w - i) h) (ap (marked (i + n) j) (omega arith))
@@ -118,7 +119,7 @@ module _ (w : List ℕ) (small : (k : ℕ) → getD w k 0 < 4294967296) (x : Lis
   keys-run curve k m n ew es em e4 =
       run-is w small x m i j ∙ sym (rw ew
       (steps-measured (times n (row (replicate k 4))) w x m (steps-as _ w x (n * k) m (steps-times (row (replicate k 4)) w x k (steps-row w small x k) n) em) (λ ks. size (parts (keyLay curve) ks)) (m * 4) i j
-      (λ ks u v e. size-parts (keyLay curve) (k * 4) es ks ∙ ap (λ (l : ℕ). l * (k * 4)) (times-length (row (replicate k 4)) w x n i j ks u v e) ∙ e4)))
+      (λ ks u v e. size-parts (keyLay curve) (k * 4) es ks ∙ ap (λ (l : ℕ). l * (k * 4)) (times-length (row (replicate k 4)) w x n i j e) ∙ e4)))
 
   pub keys-constant : (curve n : ℕ) → curve ≡ 0
       → measured (λ vs. size (parts (number 4) vs)) (times n (word (wide 4)) w x i j) ≡ measured (λ ks. size (parts (keyLay curve) ks)) (times n (row (keyWidths curve)) w x i j)
@@ -155,7 +156,7 @@ pub pairs-size : (w x : List ℕ) (n i j : ℕ) → measured (λ ks. 8 * n) (tim
 pairs-size w x n i j =
     measured-by (λ ks. 8 * n) (λ ks. size (parts (keyLay 1) ks)) (times n (row (keyWidths 1)) w x i j)
     (λ ks u v e.
-    let l = times-length (row (keyWidths 1)) w x n i j ks u v e in
+    let l = times-length (row (keyWidths 1)) w x n i j e in
     let s = size-parts (keyLay 1) 8 (λ k. unfold keyLay keyWidths keySkip size in rw (row-size (4 ∷ 2 ∷ []) k)) ks in
     omega (arith, l, s))
 
@@ -287,7 +288,7 @@ module _ (w x : List ℕ) (i j : ℕ) where
     info-targets e ev =
         rw (word-fine lettersFit w x i j e1, word-fine (wide 1) w x (i + 1) j e2, ← el, ← en, ne-eqb letters fleu e)
         (then-grown (λ a. size (infoLay a)) (λ ts. size (parts targetLay ts)) (times n (target letters) w x (i + 1 + 1) j) w x (8 + 4 * n) v _ ev
-        (λ ts u u′ d. targets-size letters n ts (times-length (target letters) w x n (i + 1 + 1) j ts u u′ d)))
+        (λ ts u u′ d. targets-size letters n ts (times-length (target letters) w x n (i + 1 + 1) j d)))
 
 -- ---- a content: its name, and what is behind it
 
@@ -337,7 +338,7 @@ module _ (name w x : List ℕ) (i j : ℕ) where
   unfolding named
   named-whole e1 e2 h head n type en et eh v ev =
       rw (word-fine (λ t. leb t 4) w x i j e1, word-fine (wide 1) w x (i + 1) j e2, ← en, ← et, ev)
-      (named-made head n type eh h (times n info w x (i + 1 + 1) j) (λ ps u v e. times-length info w x n (i + 1 + 1) j ps u v e))
+      (named-made head n type eh h (times n info w x (i + 1 + 1) j) (λ ps u v e. times-length info w x n (i + 1 + 1) j e))
 
 module _ (w x : List ℕ) (i j : ℕ) where
   pub content-word : (k : ℕ) → measured (λ (t : List ℕ). length t) (text (λ n. leb n 28) w x i j) ≡ BadWord k → BadWord k ≡ measured (λ c. size (contentLay c)) (content w x i j)
@@ -390,7 +391,7 @@ module _ (n : ℕ) (w x : List ℕ) (i j : ℕ) where
     where
       go : (cs : List AnimContent) → times n content w x i j ≡ fine cs (m .word) (m .byte) → m .size ≡ sat (size (parts contentLay cs)) → grown k v ≡ measured endingSize (ending n w x i j)
       go cs is sized =
-          let l = times-length content w x n i j cs (m .word) (m .byte) is in
+          let l = times-length content w x n i j is in
           let q : k ≡ sat (endingSize cs) = omega (arith, ek, sized, l) in
           ap (λ (k : ℕ). grown k v) q ∙ grown-sat (endingSize cs) v
           ∙ rw is (then-grown endingSize (λ z. 0) (ends w x (m .word) (m .byte)) w x (endingSize cs) v (λ z. cs) ev (λ z u u′ d. omega arith))
@@ -426,7 +427,7 @@ module _ (frames looping nt nc : ℕ) (w x : List ℕ) (i j : ℕ) where
       go : (ts : List (List ℕ)) → times nt (text (wide 4)) w x i j ≡ fine ts (m .word) (m .byte) → m .size ≡ sat (size (parts ended ts))
           → grown k v ≡ measured (λ (a : PaneAnimInfo). size (sectionLay a)) (headed frames looping nt nc w x i j)
       go ts is sized =
-          let l = times-length (text (wide 4)) w x nt i j ts (m .word) (m .byte) is in
+          let l = times-length (text (wide 4)) w x nt i j is in
           let n : ℕ = 20 + (4 * length ts + size (parts ended ts)) in
           let o : ℕ = 20 + (4 * nt + m .size) in
           let s : sat o ≡ sat n = omega (arith, sized, l) in

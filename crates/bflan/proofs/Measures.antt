@@ -202,23 +202,6 @@ module _ {A : Type 0} (p : J A) (w x : List ℕ) where
   times-turn zero i j h = absurd (omega arith)
   times-turn (suc n) i j h = let e : suc n - 1 ≡ n = omega arith in rw e
 
-  pub times-length : (n i j : ℕ) (ps : List A) (k l : ℕ) → times n p w x i j ≡ fine ps k l → length ps ≡ n
-  unfolding times
-  times-length zero i j ps k l e = let d : [] ≡ ps = cc in ap length (sym d)
-  times-length (suc n) i j ps k l e = first (p w x i j) (λ u v bs u′ v′ d. times-length n u v bs u′ v′ d) e
-    where
-      second : (a : A) (r : Judged (List A)) → ((bs : List A) (u v : ℕ) → r ≡ fine bs u v → length bs ≡ n) → andThen r (λ bs. ret (a ∷ bs)) w x ≡ fine ps k l → length ps ≡ suc n
-      second a (fine bs u v) f e = let d : a ∷ bs ≡ ps = cc in ap length (sym d) ∙ ap suc (f bs u v refl)
-      second a (badWord u) f e = let z : _≡_ {A = ℕ} 0 1 = cc in absurd (omega arith)
-      second a (badText u) f e = let z : _≡_ {A = ℕ} 0 1 = cc in absurd (omega arith)
-
-      first : (r : Judged A) → ((u v : ℕ) (bs : List A) (u′ v′ : ℕ) → times n p w x u v ≡ fine bs u′ v′ → length bs ≡ n)
-          → andThen r (λ a w x i j. andThen (times n p w x i j) (λ bs. ret (a ∷ bs)) w x) w x ≡ fine ps k l → length ps ≡ suc n
-      first (fine a u v) f e = second a (times n p w x u v) (f u v) e
-      first (badWord u) f e = let z : _≡_ {A = ℕ} 0 1 = cc in absurd (omega arith)
-      first (badText u) f e = let z : _≡_ {A = ℕ} 0 1 = cc in absurd (omega arith)
-
--- ---- a loop over parts, `left` of which are still to come, with k bytes before them: what is left is the whole before a turn, so it is
 -- after it; and at the end
 
 module _ {A : Type 0} (p : J A) (lay : A → Layout) (w x : List ℕ) (left i j k : ℕ) (whole : Verdict) (e : grown k (measured (λ ps. size (parts lay ps)) (times left p w x i j)) ≡ whole) where

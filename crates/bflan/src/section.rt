@@ -26,7 +26,7 @@ use core::seek::Sought;
 use core::seek::seek;
 
 // The letters `pai1`, as the number that their four bytes are.
-const PAI1: u32 = 0x3169_6170;
+pub(crate) const PAI1: u32 = 0x3169_6170;
 
 // Where the reading stops of a section that has its first eight bytes, but not the twelve behind them.
 fn short_body(s: &[u8]) -> Fault

@@ -1,4 +1,10 @@
 // Writing a record as a section.
+ghost use mathlib.Core.Path.{_≡_};
+ghost use Rattle.bflan.specs.Writing.{ofWriting, writing};
+use crate::judge::Verdict;
+use crate::judge::judge_section;
+use crate::read::LIMIT;
+use crate::writer::section::put_section;
 
 pub enum WriteAnswer {
     // The section's length.
@@ -11,4 +17,25 @@ pub enum WriteAnswer {
     OverLimit,
     // The output is too short: the section's length.
     OutputTooShort(usize),
+}
+
+// Judged and measured, and then written from the output's start on.
+pub fn write(words: &[u32], texts: &[u8], out: &mut [u8]) -> WriteAnswer
+    ensures { λ r. ⌜ (ofWriting r, now (out .exit)) ≡ writing (now (words .entry)) (now (texts .entry)) (now (out .entry)) ⌝ }
+{
+    match judge_section(words, texts) {
+        Verdict::BadWord(index) => WriteAnswer::BadWord(index),
+        Verdict::BadText(index) => WriteAnswer::BadText(index),
+        Verdict::Fine(m) => {
+            let size = m.size;
+            if LIMIT < size {
+                return WriteAnswer::OverLimit;
+            }
+            if out.len() < size {
+                return WriteAnswer::OutputTooShort(size);
+            }
+            put_section(words, texts, out);
+            WriteAnswer::Written(size)
+        }
+    }
 }

@@ -1,0 +1,56 @@
+-- `writer::info::left_out` meets its contract.
+-- Assumes nothing.
+use mathlib.Core.Path.{sym, _∙_}
+use native.Mathlib.Omega.{arith}
+use denote.Ref.{now}
+use Rattle.core.specs.Number.{val}
+use Rattle.bflan.specs.Letters.{fleu}
+use Rattle.bflan.proofs.StoredParts.{out-other, out-extended}
+use borrow.Author.Needs.{needs}
+use Rattle.bflan.proofs.writer.info.left_out.Statement.{statement}
+use Rattle.bflan.proofs.writer.info.left_out.Tie as tie
+
+word-of-requires : tie.Need-word-of-requires
+word-of-requires c κs = search needs
+
+returns : tie.Need-returns
+unfolding fleu val
+returns c = sym (out-other (now (c .before .before .before .args .words)) (c .before .before .before .args .i) (c .before .before .before .args .from) (c .before .before .before .args .to) (λ e. c .if1 .taken (c .before .word-of .ensures ∙ e)))
+
+add-word-of : tie.Need-add-word-of
+add-word-of c = omega (arith, c .before .before .before .pre .0, c .before .before .before .good)
+
+word-of-requires-2 : tie.Need-word-of-requires-2
+word-of-requires-2 c κs = search needs
+
+cast-result : tie.Need-cast-result
+cast-result c = search needs
+
+mul-result : tie.Need-mul-result
+mul-result c = omega arith
+
+sub-result : tie.Need-sub-result
+unfolding fleu val
+sub-result c = c .before .before .before .before .pre .2 (sym (c .before .before .word-of .ensures) ∙ c .before .if1 .left)
+
+add-result : tie.Need-add-result
+unfolding fleu val
+add-result c = let e = out-extended (now (c .before .before .before .before .args .words)) (c .before .before .before .before .args .i) (c .before .before .before .before .args .from) (c .before .before .before .before .args .to) (sym (c .before .before .word-of .ensures) ∙ c .before .if1 .left) in omega (arith, e, c .before .before .before .before .pre .1, c .word-of2 .ensures)
+
+returns-2 : tie.Need-returns-2
+unfolding fleu val
+returns-2 c = let e = out-extended (now (c .before .before .before .before .args .words)) (c .before .before .before .before .args .i) (c .before .before .before .before .args .from) (c .before .before .before .before .args .to) (sym (c .before .before .word-of .ensures) ∙ c .before .if1 .left) in omega (arith, e, c .word-of2 .ensures)
+
+pub left-out-spec : {M : Type 1} → statement M
+left-out-spec =
+    tie.close
+    (tie.spec
+    word-of-requires
+    returns
+    add-word-of
+    word-of-requires-2
+    cast-result
+    mul-result
+    sub-result
+    add-result
+    returns-2)
