@@ -22,7 +22,7 @@ pub enum ReadAnswer {
 }
 
 // The longest section.
-pub(crate) const LIMIT: usize = 16777216;
+pub const LIMIT: usize = 16777216;
 
 // The walk over a section, storing nothing; text `want` is looked for.
 pub(crate) fn measure(s: &[u8], want: usize) -> Walk

@@ -1,3 +1,4 @@
+pub mod Calls
 pub mod Demand
 pub mod Entries
 pub mod Exercises

@@ -2,3 +2,4 @@ pub mod Editing
 pub mod Format
 pub mod Journal
 pub mod Machine
+pub mod Packing

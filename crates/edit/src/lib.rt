@@ -1,4 +1,5 @@
 // Edits of a finished section in place, with a journal, and their undoing.
 pub mod edit;
+pub mod journal;
 pub mod key;
 pub mod undo;

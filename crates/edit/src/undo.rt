@@ -1,4 +1,16 @@
 // Taking back the last edit.
+ghost use mathlib.Core.Path.{_≡_};
+ghost use mathlib.Core.Bool.{true};
+ghost use lib.ListN.{length};
+ghost use Rattle.edit.specs.Editing.{ofUndoing, restored, undoing};
+ghost use Rattle.edit.specs.Journal.{sound};
+ghost use Rattle.edit.specs.Packing.{entryList};
+use crate::journal::ENTRY_WORDS;
+use crate::journal::Entry;
+use crate::journal::entry_at;
+use crate::journal::filled;
+use crate::journal::put_packed;
+use bflan::read::LIMIT;
 
 pub enum UndoAnswer {
     // The new count of journal entries.
@@ -8,4 +20,48 @@ pub enum UndoAnswer {
     NothingToUndo,
     // The count of journal entries, which the journal does not bear out.
     BadJournal(usize),
+}
+
+// Whether an entry can be undone in a section of `size` bytes.
+fn sound(e: Entry, size: usize) -> bool
+    ensures { λ r. ⌜ r ≡ sound size (entryList e) ⌝ }
+{
+    let n = e.count;
+    let old = e.old;
+    if filled(n, old) {
+        return (e.at as usize) + (n as usize) <= size;
+    }
+    false
+}
+
+fn restore(section: &mut [u8], e: Entry)
+    requires { ⌜ sound (length (now section)) (entryList e) ≡ true ⌝ }
+    ensures { λ _. ⌜ now (section .exit) ≡ restored (now (section .entry)) (entryList e) ⌝ }
+{
+    let at = e.at as usize;
+    let n = e.count;
+    let old = e.old;
+    put_packed(section, at, n, old);
+}
+
+pub fn undo(section: &mut [u8], journal: &[u32], count: usize) -> UndoAnswer
+    ensures { λ r. ⌜ (ofUndoing r, now (section .exit)) ≡ undoing (now (section .entry)) (now (journal .entry)) count ⌝ }
+{
+    let size = section.len();
+    if LIMIT < size {
+        return UndoAnswer::TooLong(size);
+    }
+    if count == 0 {
+        return UndoAnswer::NothingToUndo;
+    }
+    if journal.len() / ENTRY_WORDS < count {
+        return UndoAnswer::BadJournal(count);
+    }
+    let last = count - 1;
+    let e = entry_at(journal, last);
+    if sound(e, size) {
+        restore(section, e);
+        return UndoAnswer::Undone(last);
+    }
+    UndoAnswer::BadJournal(count)
 }
