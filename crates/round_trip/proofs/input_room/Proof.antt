@@ -1,0 +1,16 @@
+-- The room's length, by the law of repeats: a search would count it out.
+-- Assumes nothing.
+use Prim.Native.Nat.{ℕ}
+use mathlib.Core.Path.{_≡_, sym}
+use lib.ListN.{length, replicate, length-replicate}
+use Rattle.round_trip.proofs.input_room.Statement.{statement}
+use Rattle.round_trip.proofs.input_room.Tie as tie
+
+long : (n v : ℕ) → n ≡ length (replicate n v)
+long n v = sym (length-replicate n v)
+
+returns : tie.Need-returns
+returns c = long 65537 0
+
+pub input-room-spec : {M : Type 1} → statement M
+input-room-spec = tie.close (tie.spec returns)
