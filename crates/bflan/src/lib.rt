@@ -1,4 +1,4 @@
-// The pai1 section: read into a flat record.
+// The pai1 section: read into a flat record, and written from one.
 mod content;
 mod datum;
 mod emit;
