@@ -46,7 +46,7 @@ tables (No f) s t w x w′ x′ is p e = absurd (on-no _ _ _ (sym (ap (λ (z : W
 
 -- ---- a section that was measured
 
-stopped : (s : List ℕ) (t : Tally) (res : Res (List Item)) (f : Fault) → run s t [] [] res .0 ≡ No f → res ≡ stop f
+pub stopped : (s : List ℕ) (t : Tally) (res : Res (List Item)) (f : Fault) → run s t [] [] res .0 ≡ No f → res ≡ stop f
 unfolding run
 stopped s t (ok is p) f e = absurd (on-no _ _ _ e)
 stopped s t (stop g) f e = ap (λ (z : Fault). stop z) (no-fault g f e)
@@ -60,13 +60,13 @@ unfolding run
 went-not s u t f p e = on-no _ _ _ (sym e)
 
 -- what the tally of a section says, of which text k was wanted
-record Whole (s : List ℕ) (k : ℕ) (t : Tally) : Type 0 where
-  items : List Item
-  last : ℕ
-  reads : section s 0 ≡ ok items last
-  counts : t ≡ tallied s (noneYet k) items
+pub record Whole (s : List ℕ) (k : ℕ) (t : Tally) : Type 0 where
+  pub items : List Item
+  pub last : ℕ
+  pub reads : section s 0 ≡ ok items last
+  pub counts : t ≡ tallied s (noneYet k) items
 
-whole : (s : List ℕ) (k : ℕ) (t : Tally) (p : ℕ) → run s (noneYet k) [] [] (section s 0) .0 ≡ On t p → Whole s k t
+pub whole : (s : List ℕ) (k : ℕ) (t : Tally) (p : ℕ) → run s (noneYet k) [] [] (section s 0) .0 ≡ On t p → Whole s k t
 whole s k t p e = go (section s 0) refl e
   where
     go : (res : Res (List Item)) → section s 0 ≡ res → run s (noneYet k) [] [] res .0 ≡ On t p → Whole s k t

@@ -34,11 +34,11 @@ use Rattle.bflan.proofs.Walks.{many-suc}
 
 -- ---- what values fit
 
-and-left : (a b : Bool) → (a && b) ≡ true → a ≡ true
+pub and-left : (a b : Bool) → (a && b) ≡ true → a ≡ true
 and-left true b e = refl
 and-left false b e = e
 
-and-right : (a b : Bool) → (a && b) ≡ true → b ≡ true
+pub and-right : (a b : Bool) → (a && b) ≡ true → b ≡ true
 and-right true b e = e
 and-right false b e = absurd (no e)
   where

@@ -12,6 +12,7 @@ pub mod Inversion
 pub mod Judging
 pub mod KeyRuns
 pub mod Layouts
+pub mod Locating
 pub mod MeasureParts
 pub mod Measures
 pub mod ReadBack

@@ -13,6 +13,7 @@ use Rattle.core.specs.Number.{le, put}
 use Rattle.core.proofs.Numbers.{low, length-le}
 use Rattle.core.proofs.Stores.{sets-turn}
 use Rattle.bflan.specs.Limits.{limit}
+use Rattle.bflan.proofs.Fields.{and-left, and-right}
 use Rattle.edit.specs.declared.journal.Entry.{Entry}
 use Rattle.edit.specs.declared.journal.Packed.{Packed}
 use Rattle.edit.specs.declared.undo.UndoAnswer.the-variants.{Undone, TooLong, NothingToUndo, BadJournal}
@@ -21,17 +22,6 @@ use Rattle.edit.specs.Journal.{capacity, entryAt, bytesIn, fieldSize, al
 use Rattle.edit.specs.Packing.{unpacked, entryList}
 
 -- ---- zeros behind the bytes of a number
-
-and-left : (a b : Bool) → a && b ≡ true → a ≡ true
-and-left true b e = refl
-and-left false b e = e
-
-and-right : (a b : Bool) → a && b ≡ true → b ≡ true
-and-right true b e = e
-and-right false b e = absurd (differ e)
-  where
-    differ : _≡_ {A = Bool} false true → ⊥
-    differ d = let z : _≡_ {A = ℕ} 0 1 = cc in absurd (omega arith)
 
 and-assoc : (a b c : Bool) → (a && b) && c ≡ a && (b && c)
 and-assoc true b c = refl

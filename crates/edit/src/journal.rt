@@ -5,7 +5,11 @@ ghost use lib.ListN.{length, take, drop};
 ghost use lib.Seq.{sets};
 ghost use Prim.Native.Nat.{_+_, _*_, _<_, _≤_};
 ghost use Rattle.edit.specs.Journal.{entryAt, fieldSize, allZero};
-ghost use Rattle.edit.specs.Packing.{unpacked, entryList};
+ghost use Rattle.edit.specs.Packing.{unpacked, packed, readValue, entryList};
+use core::number::Read;
+use core::number::read_u8;
+use core::number::read_u16;
+use core::number::read_u32;
 use core::number::write_u8;
 use core::number::write_u16;
 use core::number::write_u32;
@@ -77,4 +81,65 @@ pub(crate) fn entry_at(journal: &[u32], n: usize) -> Entry
             c: journal[i + 4],
         },
     }
+}
+
+fn read_value(r: Read) -> u32
+    ensures { λ v. ⌜ v ≡ readValue r ⌝ }
+{
+    match r {
+        Read::Value(v, _next) => v,
+        Read::Past(_offset, _requested) => 0,
+    }
+}
+
+// The `n` bytes from `at` on.
+pub(crate) fn packed_at(s: &[u8], at: usize, n: u32) -> Packed
+    requires { ⌜ (fieldSize n ≡ true) × (at + n ≤ length (now s)) ⌝ }
+    ensures { λ r. ⌜ r ≡ packed (take n (drop at (now (s .entry)))) ⌝ }
+{
+    match n {
+        1 => Packed {
+            a: read_value(read_u8(s, at)),
+            b: 0,
+            c: 0,
+        },
+        2 => Packed {
+            a: read_value(read_u16(s, at)),
+            b: 0,
+            c: 0,
+        },
+        4 => Packed {
+            a: read_value(read_u32(s, at)),
+            b: 0,
+            c: 0,
+        },
+        6 => Packed {
+            a: read_value(read_u32(s, at)),
+            b: read_value(read_u16(s, at + 4)),
+            c: 0,
+        },
+        _ => Packed {
+            a: read_value(read_u32(s, at)),
+            b: read_value(read_u32(s, at + 4)),
+            c: read_value(read_u32(s, at + 8)),
+        },
+    }
+}
+
+// Entry `n`, stored.
+pub(crate) fn put_entry(journal: &mut [u32], n: usize, e: Entry)
+    requires { ⌜ 5 * n + 5 ≤ length (now journal) ⌝ }
+    ensures { λ _. ⌜ now (journal .exit) ≡ sets (now (journal .entry)) (5 * n) (entryList e) ⌝ }
+{
+    let i = ENTRY_WORDS * n;
+    let i1 = i + 1;
+    let i2 = i1 + 1;
+    let i3 = i2 + 1;
+    let i4 = i3 + 1;
+    let old = e.old;
+    journal[i] = e.at;
+    journal[i1] = e.count;
+    journal[i2] = old.a;
+    journal[i3] = old.b;
+    journal[i4] = old.c;
 }

@@ -1,0 +1,173 @@
+// The words of a change's new value, and which of them a field takes.
+ghost use mathlib.Core.Path.{_≡_};
+ghost use mathlib.Core.List.{[], _∷_};
+ghost use Rattle.bflan.specs.Letters.{targetFits};
+ghost use Rattle.bflan.specs.Places.{widths, total, fitWidths, fit};
+ghost use Rattle.bflan.specs.declared.place.Field.the-variants.{Target, Key};
+ghost use Rattle.edit.specs.Editing.{placeOf, keyWords, valuesOf};
+ghost use Rattle.edit.specs.Packing.{valuesIn, packedOf, oneMost};
+use crate::edit::Change;
+use crate::journal::Packed;
+use crate::key::NewKey;
+use bflan::letters::AnimInfoType;
+use bflan::letters::kind_of;
+use bflan::place::Field;
+use bflan::place::Place;
+use core::float::hermite_to_bits;
+use core::float::to_bits;
+
+pub enum Values {
+    One(u32),
+    Two(u32, u32),
+    Three(u32, u32, u32),
+}
+
+pub(crate) fn place_of(change: Change) -> Place
+    ensures { λ r. ⌜ r ≡ placeOf change ⌝ }
+{
+    match change {
+        Change::FrameCount(_v) => Place::FrameCount,
+        Change::Looping(_v) => Place::Looping,
+        Change::Layer(c, i, t, _v) => Place::Layer(c, i, t),
+        Change::Target(c, i, t, _v) => Place::Target(c, i, t),
+        Change::Key(c, i, t, k, _new) => Place::Key(c, i, t, k),
+        Change::Value(c, i, d, l, n, _v) => Place::Value(c, i, d, l, n),
+    }
+}
+
+fn key_values(new: NewKey) -> Values
+    ensures { λ r. ⌜ valuesIn r ≡ keyWords new ⌝ }
+{
+    match new {
+        NewKey::Constant(value) => Values::One(to_bits(value)),
+        NewKey::Step(frame, value) => Values::Two(to_bits(frame), value as u32),
+        NewKey::Hermite(h) => {
+            let b = hermite_to_bits(h);
+            Values::Three(b.0, b.1, b.2)
+        }
+    }
+}
+
+pub(crate) fn values_of(change: Change) -> Values
+    ensures { λ r. ⌜ valuesIn r ≡ valuesOf change ⌝ }
+{
+    match change {
+        Change::FrameCount(v) => Values::One(v),
+        Change::Looping(v) => Values::One(v),
+        Change::Layer(_c, _i, _t, v) => Values::One(v),
+        Change::Target(_c, _i, _t, v) => Values::One(v),
+        Change::Key(_c, _i, _t, _k, new) => key_values(new),
+        Change::Value(_c, _i, _d, _l, _n, v) => Values::One(v),
+    }
+}
+
+// The bytes that are written, a word each; of the last word the field's size says how many.
+pub(crate) fn packed_of(v: Values) -> Packed
+    ensures { λ r. ⌜ r ≡ packedOf v ⌝ }
+{
+    match v {
+        Values::One(a) => Packed { a, b: 0, c: 0 },
+        Values::Two(a, b) => Packed { a, b, c: 0 },
+        Values::Three(a, b, c) => Packed { a, b, c },
+    }
+}
+
+pub(crate) fn size_of(f: Field) -> u32
+    ensures { λ r. ⌜ r ≡ total (widths f) ⌝ }
+{
+    match f {
+        Field::FrameCount => 2,
+        Field::Looping => 1,
+        Field::Layer => 1,
+        Field::Target(_letters) => 1,
+        Field::Key(curve) => match curve {
+            0 => 4,
+            1 => 6,
+            _ => 12,
+        },
+        Field::Value => 4,
+    }
+}
+
+// One value, of at most `most`.
+fn one_most(v: Values, most: u32) -> bool
+    ensures { λ r. ⌜ r ≡ oneMost (valuesIn v) most ⌝ }
+{
+    match v {
+        Values::One(a) => a <= most,
+        Values::Two(_a, _b) => false,
+        Values::Three(_a, _b, _c) => false,
+    }
+}
+
+// A Step key's two values, and a Hermite key's three.
+
+fn fits_step(v: Values) -> bool
+    ensures { λ r. ⌜ r ≡ fitWidths (4 ∷ 2 ∷ []) (valuesIn v) ⌝ }
+{
+    match v {
+        Values::One(_a) => false,
+        Values::Two(_a, b) => b < 65536,
+        Values::Three(_a, _b, _c) => false,
+    }
+}
+
+fn fits_hermite(v: Values) -> bool
+    ensures { λ r. ⌜ r ≡ fitWidths (4 ∷ 4 ∷ 4 ∷ []) (valuesIn v) ⌝ }
+{
+    match v {
+        Values::One(_a) => false,
+        Values::Two(_a, _b) => false,
+        Values::Three(_a, _b, _c) => true,
+    }
+}
+
+// Whether a target's number is one that the record's limits allow under these letters.
+fn target_fits(letters: u32, t: u32) -> bool
+    ensures { λ r. ⌜ r ≡ targetFits letters t ⌝ }
+{
+    match kind_of(letters) {
+        AnimInfoType::Standard(n) => t < n as u32,
+        AnimInfoType::ExtendedUserData => t == 255,
+        AnimInfoType::Invalid => t == 255,
+    }
+}
+
+fn fits_target(letters: u32, v: Values) -> bool
+    ensures { λ r. ⌜ r ≡ fit (Target letters) (valuesIn v) ⌝ }
+{
+    match v {
+        Values::One(a) => {
+            if 255 < a {
+                return false;
+            }
+            target_fits(letters, a)
+        }
+        Values::Two(_a, _b) => false,
+        Values::Three(_a, _b, _c) => false,
+    }
+}
+
+fn fits_key(curve: u32, v: Values) -> bool
+    ensures { λ r. ⌜ r ≡ fit (Key curve) (valuesIn v) ⌝ }
+{
+    match curve {
+        0 => one_most(v, 4294967295),
+        1 => fits_step(v),
+        _ => fits_hermite(v),
+    }
+}
+
+// Whether a field takes these values.
+pub(crate) fn fits(f: Field, v: Values) -> bool
+    ensures { λ r. ⌜ r ≡ fit f (valuesIn v) ⌝ }
+{
+    match f {
+        Field::FrameCount => one_most(v, 65535),
+        Field::Looping => one_most(v, 1),
+        Field::Layer => one_most(v, 255),
+        Field::Target(letters) => fits_target(letters, v),
+        Field::Key(curve) => fits_key(curve, v),
+        Field::Value => one_most(v, 4294967295),
+    }
+}
