@@ -58,7 +58,8 @@ fn answer_text(section: &[u8], walked: &Walked, rules: &Rules, text: usize, scra
     store(&numbers, answer);
 }
 
-fn store(numbers: &[usize], answer: &mut [usize]) {
+/// Stores an answer's numbers, as far as there are places for them.
+pub fn store(numbers: &[usize], answer: &mut [usize]) {
     for (place, &number) in answer.iter_mut().zip(numbers) {
         *place = number;
     }
