@@ -12,7 +12,7 @@ use crate::layout::{Rules, TARGET_NUMBERS, Walked, walk};
 use crate::machine::Machine;
 use crate::record::{flat, reference};
 use crate::sections::{
-    Maker, Placing, READABLE, Style, Target, fixed_sections, large_sections, one_target, placed, random_sections,
+    Maker, Placing, READABLE, Style, Target, fixed_sections, large_sections, one_target, placed, random_sections, speed,
 };
 use crate::{parse, proved, serialize};
 
@@ -54,7 +54,7 @@ impl Trial {
 pub struct Kind {
     pub name: String,
     pub lists: u64,
-    /// How many lists were not tried to the end, since the section's record is too long.
+    /// How many lists were left before their end, since the section's record is too long.
     pub left_out: u64,
     pub calls: u64,
     /// The calls by the number of their answers.
@@ -162,6 +162,9 @@ impl<'a> Trials<'a> {
         let sections = count / CALLS_ON_ANY as u64;
         random_sections(&mut maker, sections, &mut |kind, section| self.on_any(kind, section, MOST));
         large_sections(&mut maker, &mut |kind, section| self.on_any(kind, section, MOST_LARGE));
+        for (_, section) in speed::sections() {
+            self.on_record("written, large", record_of(&section), 16, MOST_LARGE);
+        }
     }
 
     /// Calls on sections that the reference wrote: every number of a target, and at least `count` random ones.
@@ -181,17 +184,22 @@ impl<'a> Trials<'a> {
                     shape = self.maker.shape(style);
                 }
                 let section = placed(&shape, Placing::Written, &mut self.maker.random).bytes;
-                let record = record_of(&section);
-                let contents = walk(&section, &Rules::DOCUMENT, MOST).unwrap().contents;
-                let room = ENTRY_WORDS * self.maker.few(30) + self.maker.random.below(ENTRY_WORDS);
-                let journal = garbage(&mut self.maker, room);
                 let most = if self.maker.random.below(8) == 0 { 400 } else { 60 };
                 let len = self.maker.random.within(1, most);
-                let calls = calls(&mut self.maker, &contents, len);
-                tried += calls.len() as u64;
-                self.try_list(kind, &Trial::on_written(record, journal, calls), MOST);
+                self.on_record(kind, record_of(&section), len, MOST);
+                tried += len as u64;
             }
         }
+    }
+
+    /// A list of `len` calls on the section that the reference writes for a record.
+    fn on_record(&mut self, kind: &str, record: PaneAnimInfo, len: usize, most: usize) {
+        let room = ENTRY_WORDS * self.maker.few(len.min(30)) + self.maker.random.below(ENTRY_WORDS);
+        let journal = garbage(&mut self.maker, room);
+        let mut trial = Trial::on_written(record, journal, Vec::new());
+        let walked = walk(&trial.section, &Rules::DOCUMENT, most).unwrap();
+        trial.calls = calls(&mut self.maker, &walked.contents, len);
+        self.try_list(kind, &trial, most);
     }
 
     /// Some calls on a section of any bytes, with a journal and a count of any kind.
@@ -328,25 +336,11 @@ impl<'a> Trials<'a> {
 
     /// Prints the counts, and the shortest list that showed a difference.
     pub fn print(&self) {
-        for (title, kinds) in [("kind of section", &self.kinds), ("kind of call", &self.calls)] {
-            print!("{title:<32} {:>8} {:>9}", "lists", "calls");
-            for number in NUMBERS {
-                print!(" {number:>8}");
-            }
-            println!(" {:>8}", "left out");
-            let mut sum = Kind { name: "all".to_owned(), ..Kind::default() };
-            for kind in kinds {
-                line(kind);
-                sum.lists += kind.lists;
-                sum.left_out += kind.left_out;
-                sum.calls += kind.calls;
-                for (all, one) in sum.outcomes.iter_mut().zip(kind.outcomes) {
-                    *all += one;
-                }
-            }
-            line(&sum);
-            println!();
-        }
+        table("kind of section", &self.kinds);
+        let lists: u64 = self.kinds.iter().map(|kind| kind.lists).sum();
+        let left_out: u64 = self.kinds.iter().map(|kind| kind.left_out).sum();
+        println!("{lists} lists of calls; {left_out} were left, since the section's record is too long\n");
+        table("kind of call", &self.calls);
         if let Some((trial, what)) = &self.smallest {
             let hex: Vec<String> = trial.section.iter().take(4_096).map(|byte| format!("{byte:02X}")).collect();
             let more = if trial.section.len() > 4_096 { " .." } else { "" };
@@ -361,12 +355,27 @@ impl<'a> Trials<'a> {
 /// The answers that a call can have.
 const NUMBERS: [usize; 10] = [0, 1, 2, 3, 4, 10, 11, 12, 13, 14];
 
-fn line(kind: &Kind) {
-    print!("{:<32} {:>8} {:>9}", kind.name, kind.lists, kind.calls);
-    for number in NUMBERS {
-        print!(" {:>8}", kind.outcomes[number]);
+/// Prints the calls of each kind, and of all, by their answers.
+fn table(title: &str, kinds: &[Kind]) {
+    let line = |name: &str, cells: Vec<String>| {
+        print!("{name:<32}");
+        cells.iter().for_each(|cell| print!(" {cell:>9}"));
+        println!();
+    };
+    let counts = |kind: &Kind| {
+        let outcomes = NUMBERS.iter().map(|&number| kind.outcomes[number].to_string());
+        [kind.calls.to_string()].into_iter().chain(outcomes).collect()
+    };
+    line(title, ["calls".to_owned()].into_iter().chain(NUMBERS.map(|number| number.to_string())).collect());
+    let mut sum = Kind::default();
+    for kind in kinds {
+        line(&kind.name, counts(kind));
+        sum.calls += kind.calls;
+        for (all, one) in sum.outcomes.iter_mut().zip(kind.outcomes) {
+            *all += one;
+        }
     }
-    println!(" {:>8}", kind.left_out);
+    line("all", counts(&sum));
 }
 
 /// What the reference reads.
