@@ -1056,6 +1056,14 @@ pub mod speed {
         shapes
     }
 
+    /// One info of 255 extended data, and nothing else: the way to the last goes over all.
+    pub fn one_extended_info() -> Vec<u8> {
+        let random = &mut Random(20_261_116);
+        let infos = vec![extended(random, 255, 2)];
+        let contents = vec![content(random, 2, infos)];
+        written(&Shape { contents, ..Shape::default() })
+    }
+
     /// The sections, as the writer writes them.
     pub fn sections() -> Vec<(&'static str, Vec<u8>)> {
         shapes().into_iter().map(|(name, shape)| (name, written(&shape))).collect()
