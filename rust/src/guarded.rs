@@ -1,11 +1,11 @@
-//! Lists that a call is given, between places that no call may change.
+//! Lists for a call to store in. Every place holds something before the call, and so does each around the list: what a call
+//! has no business with is seen to have stayed.
 
-/// How many places stand on each side of a list.
+/// How many places stand on each side of a list that a call is given.
 const MARGIN: usize = 16;
 
 /// What stands in a list before a call.
 pub trait Guard: Copy + PartialEq + std::fmt::Debug {
-    /// The guard of place `i`.
     fn guard(salt: u64, i: usize) -> Self;
 }
 
@@ -31,7 +31,7 @@ impl Guard for usize {
     }
 }
 
-/// A list between places that do not belong to it.
+/// A list that a call may store in, between places that do not belong to it.
 #[derive(Default)]
 pub struct Guarded<T> {
     held: Vec<T>,

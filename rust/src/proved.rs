@@ -2,7 +2,7 @@
 //! each slice apart into the address and the length that C passes.
 use crate::reader::Reader;
 
-pub mod edits;
+mod edits;
 
 unsafe extern "C" {
     fn nnbfl_decoded_len(text: *const u8, text_len: usize) -> usize;

@@ -58,7 +58,7 @@ fn answer_text(section: &[u8], walked: &Walked, rules: &Rules, text: usize, scra
     store(&numbers, answer);
 }
 
-/// Stores an answer's numbers, as far as there are places for them.
+/// Stores an answer's numbers, as many as it has places for.
 pub fn store(numbers: &[usize], answer: &mut [usize]) {
     for (place, &number) in answer.iter_mut().zip(numbers) {
         *place = number;

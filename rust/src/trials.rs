@@ -10,11 +10,13 @@ use crate::guarded::Guarded;
 use crate::journal::ENTRY_WORDS;
 use crate::layout::{Rules, TARGET_NUMBERS, Walked, walk};
 use crate::machine::Machine;
+use crate::proved::Proved;
+use crate::reader::Reader;
 use crate::record::{flat, reference};
 use crate::sections::{
     Maker, Placing, READABLE, Style, Target, fixed_sections, large_sections, one_target, placed, random_sections, speed,
 };
-use crate::{parse, proved, serialize};
+use crate::{parse, serialize};
 
 /// The words and bytes of a record above which a section is left out, and the same for the large ones.
 const MOST: usize = 300_000;
@@ -114,8 +116,9 @@ impl Beside {
                 return Err("the reference reads another record than the machine's".to_owned());
             }
             let (mut words, mut texts) = (vec![0; wanted.words.len()], vec![0; wanted.texts.len()]);
-            proved::reader().1.read(after, &mut words, &mut texts, &mut []);
-            if words != wanted.words || texts != wanted.texts {
+            let mut said = [9; 3];
+            Proved.read(after, &mut words, &mut texts, &mut said);
+            if said != [0, words.len(), texts.len()] || words != wanted.words || texts != wanted.texts {
                 return Err("the reader reads another record than the machine's".to_owned());
             }
         }

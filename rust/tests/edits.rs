@@ -4,7 +4,7 @@ use compare::change::{Call, Change, NewKey};
 use compare::editor::{ByLayout, Editor, edited, field, undone};
 use compare::journal::ENTRY_WORDS;
 use compare::layout::{Rules, walk};
-use compare::proved::edits::Proved;
+use compare::proved::Proved;
 use compare::reader::store;
 use compare::sections::{Maker, content_p, fixed_sections, random_sections};
 use compare::trials::{Kind, Trials};

@@ -11,11 +11,12 @@ use compare::chars::{WORDS, char_of_len, damage, push, push_char};
 use compare::editor::Editor;
 use compare::journal::ENTRY_WORDS;
 use compare::layout::{InfoAt, PartsAt, Rules, walk};
-use compare::proved::edits::Proved;
+use compare::parse;
+use compare::proved::{self, Proved};
 use compare::random::Random;
+use compare::reader::Reader;
 use compare::record::LIMIT;
 use compare::sections::{content_p, speed};
-use compare::{parse, proved};
 
 /// The input of one line: texts one after another, each given by where it ends.
 struct Input {
@@ -218,7 +219,6 @@ fn change_at(contents: &[Vec<InfoAt>], last: bool) -> Option<Change> {
 
 /// Edits each section beside reading it, into tables that fit and into none; and takes an edit back.
 fn edits(budget: Duration) {
-    let reader = proved::reader().1;
     println!(
         "Times in microseconds, of an undo in nanoseconds. \"measured\" is a read into empty tables, which is refused"
     );
@@ -235,11 +235,11 @@ fn edits(budget: Duration) {
     sections.push(("content `P`, with zeros to the limit", longest));
     for (name, mut section) in sections {
         let mut answer = [0; 3];
-        let measured = best_call(budget, || reader.read(black_box(&section), &mut [], &mut [], &mut answer));
+        let measured = best_call(budget, || Proved.read(black_box(&section), &mut [], &mut [], &mut answer));
         let [5, words, texts] = answer else { panic!("{name}: {answer:?}") };
         let (mut words, mut texts) = (vec![1u32; words], vec![1u8; texts]);
         let read = best_call(budget, || {
-            reader.read(black_box(&section), &mut words, &mut texts, &mut answer);
+            Proved.read(black_box(&section), &mut words, &mut texts, &mut answer);
             black_box((&words, &texts));
         });
         assert_eq!(answer[0], 0);

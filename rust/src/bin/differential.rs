@@ -9,8 +9,7 @@ use std::process::ExitCode;
 
 use compare::chars::{WORDS, boundary_pieces, char_of_len, damage, push, push_char};
 use compare::comparison::Comparison;
-use compare::proved;
-use compare::proved::edits;
+use compare::proved::{self, Proved};
 use compare::random::Random;
 use compare::trials::Trials;
 
@@ -271,7 +270,7 @@ fn sections(seed: u64, millions: u64) -> u64 {
 
 fn changes(seed: u64, calls: u64) -> u64 {
     println!("seed {seed}, {calls} calls beside the machine, and as many on any bytes");
-    let mut trials = Trials::new(&edits::Proved, seed);
+    let mut trials = Trials::new(&Proved, seed);
     trials.run(seed, calls);
     trials.shrink();
     trials.print();

@@ -1,6 +1,7 @@
 //! The proved calls that change a section.
 use crate::change::{Change, NewKey};
 use crate::editor::Editor;
+use crate::proved::Proved;
 
 unsafe extern "C" {
     fn nnbfl_edit_frame_count(
@@ -119,9 +120,6 @@ unsafe extern "C" {
         answer_len: usize,
     );
 }
-
-/// The proved editor.
-pub struct Proved;
 
 impl Editor for Proved {
     fn edit(&self, section: &mut [u8], journal: &mut [u32], count: usize, change: &Change, answer: &mut [usize]) {
