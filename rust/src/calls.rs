@@ -78,6 +78,7 @@ fn around(maker: &mut Maker, most: u32) -> u32 {
     }
 }
 
+/// A target's number: mostly one that these letters have, else one near them.
 fn target_number(maker: &mut Maker, letters: u32) -> u32 {
     let numbers = targets_of(letters);
     match maker.random.below(8) {
@@ -89,6 +90,7 @@ fn target_number(maker: &mut Maker, letters: u32) -> u32 {
     }
 }
 
+/// A key of a curve.
 fn new_key(maker: &mut Maker, curve: usize) -> NewKey {
     match curve {
         0 => NewKey::Constant(maker.pattern()),
@@ -115,6 +117,7 @@ fn spoiled<const N: usize>(maker: &mut Maker, mut place: [usize; N]) -> [usize; 
     place
 }
 
+/// The targets of an info.
 fn target_count(info: &InfoAt) -> usize {
     match &info.of {
         PartsAt::Targets(targets) => targets.len(),
@@ -122,6 +125,7 @@ fn target_count(info: &InfoAt) -> usize {
     }
 }
 
+/// The extended data of an info.
 fn datum_count(info: &InfoAt) -> usize {
     match &info.of {
         PartsAt::Targets(_) => 0,
@@ -186,6 +190,7 @@ pub fn journal(maker: &mut Maker, len: usize, size: usize) -> Vec<u32> {
     journal
 }
 
+/// The words of an entry: sound, or with one word changed.
 fn entry(maker: &mut Maker, size: usize) -> [u32; ENTRY_WORDS] {
     let count = *maker.random.one(&FIELD_SIZES);
     let last = size.saturating_sub(count);

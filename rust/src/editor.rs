@@ -59,10 +59,12 @@ fn number(at: usize, size: usize, value: u32, fit: bool) -> Field {
     Field { at, size, new: fit.then(|| value.to_le_bytes()[..size].to_vec()) }
 }
 
+/// The info at a place.
 fn info_at(walked: &Walked, content: usize, info: usize) -> Option<&InfoAt> {
     walked.contents.get(content)?.get(info)
 }
 
+/// The target at a place, with its info.
 fn target_at(walked: &Walked, [content, info, target]: [usize; 3]) -> Option<(&InfoAt, &TargetAt)> {
     let info = info_at(walked, content, info)?;
     match &info.of {

@@ -89,6 +89,7 @@ pub struct InfoAt {
     pub of: PartsAt,
 }
 
+/// The parts of an info, as many as were met.
 #[derive(Clone, Debug)]
 pub enum PartsAt {
     Targets(Vec<TargetAt>),

@@ -12,10 +12,13 @@ const UNFIT: usize = 11;
 const FULL: usize = 12;
 const NOTHING: usize = 13;
 
+/// The machine. What it is fed is each call's kind and, for an edit, its field, place and new value.
 pub struct Machine {
+    /// The record as it is now.
     pub record: PaneAnimInfo,
     /// The records before each edit that is not taken back.
     pub stack: Vec<PaneAnimInfo>,
+    /// How high the stack may get.
     pub capacity: usize,
 }
 
@@ -86,6 +89,7 @@ fn fit<T: TryFrom<u32>>(value: u32) -> Result<T, usize> {
     T::try_from(value).map_err(|_| UNFIT)
 }
 
+/// Looping is 0 or 1.
 fn one_bit(value: u32) -> Result<bool, usize> {
     match value {
         0 => Ok(false),
@@ -102,6 +106,7 @@ fn numbered(letters: AnimInfoType, number: u32) -> Result<TargetIndex, usize> {
     Ok(TargetIndex::resolve(&letters, number as u8))
 }
 
+/// The info at a place.
 fn info(record: &mut PaneAnimInfo, content: usize, info: usize) -> Result<&mut AnimInfo, usize> {
     record.contents.get_mut(content).and_then(|content| content.infos.get_mut(info)).ok_or(NO_PLACE)
 }
@@ -117,6 +122,7 @@ fn target(
     }
 }
 
+/// The extended datum at a place.
 fn datum(record: &mut PaneAnimInfo, [content, at, datum]: [usize; 3]) -> Result<&mut ExtendedUserDataAnim, usize> {
     match info(record, content, at)? {
         AnimInfo::Standard { .. } => Err(NO_PLACE),

@@ -64,6 +64,7 @@ pub struct Kind {
 }
 
 impl Kind {
+    /// Counts a call.
     fn answered(&mut self, number: usize) {
         self.calls += 1;
         self.outcomes[number] += 1;
@@ -126,6 +127,7 @@ impl Beside {
     }
 }
 
+/// The trials of one editor.
 pub struct Trials<'a> {
     editor: &'a dyn Editor,
     maker: Maker,
@@ -143,6 +145,7 @@ pub struct Trials<'a> {
 }
 
 impl<'a> Trials<'a> {
+    /// Trials whose calls are the same for the same seed.
     pub fn new(editor: &'a dyn Editor, seed: u64) -> Trials<'a> {
         Trials {
             editor,
@@ -219,6 +222,7 @@ impl<'a> Trials<'a> {
         self.try_list(kind, &Trial { section: section.to_vec(), journal, count, calls, record: None }, most);
     }
 
+    /// What was seen of a kind of section.
     fn kind(&mut self, name: &str) -> &mut Kind {
         let at = self.kinds.iter().position(|kind| kind.name == name).unwrap_or(self.kinds.len());
         if at == self.kinds.len() {
@@ -309,6 +313,7 @@ impl<'a> Trials<'a> {
         Ok(wanted)
     }
 
+    /// Counts a difference, and keeps the shortest list that has one.
     fn differs(&mut self, trial: Trial, what: String) {
         self.differences += 1;
         let size = |trial: &Trial| (trial.calls.len(), trial.section.len());

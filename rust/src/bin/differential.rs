@@ -268,6 +268,7 @@ fn sections(seed: u64, millions: u64) -> u64 {
     comparison.differences
 }
 
+/// Edits and undos beside document 01.
 fn changes(seed: u64, calls: u64) -> u64 {
     println!("seed {seed}, {calls} calls beside the machine, and as many on any bytes");
     let mut trials = Trials::new(&Proved, seed);
