@@ -41,15 +41,22 @@ pub mod ui2d {
     }
 }
 
+pub mod calls;
+pub mod change;
 pub mod chars;
 pub mod comparison;
+pub mod editor;
+pub mod guarded;
+pub mod journal;
 pub mod layout;
+pub mod machine;
 pub mod proved;
 pub mod random;
 pub mod reader;
 pub mod record;
 pub mod sample;
 pub mod sections;
+pub mod trials;
 
 use crate::bflan::anim_info::PaneAnimInfo;
 use crate::bflan::file::BflanSections;

@@ -2,6 +2,8 @@
 //! each slice apart into the address and the length that C passes.
 use crate::reader::Reader;
 
+mod edits;
+
 unsafe extern "C" {
     fn nnbfl_decoded_len(text: *const u8, text_len: usize) -> usize;
     fn nnbfl_decode_into(text: *const u8, text_len: usize, out: *mut u8, out_len: usize, at: usize) -> usize;

@@ -386,12 +386,13 @@ impl Maker {
     }
 
     /// A number up to `most`, the small ones somewhat likelier.
-    fn few(&mut self, most: usize) -> usize {
+    pub fn few(&mut self, most: usize) -> usize {
         let most = if self.random.below(4) == 0 { self.random.below(most + 1) } else { most };
         self.random.below(most + 1)
     }
 
-    fn half(&mut self) -> u16 {
+    /// A number of two bytes, those at the edges likelier.
+    pub fn half(&mut self) -> u16 {
         match self.random.below(4) {
             0 => 0,
             1 => self.random.below(300) as u16,
@@ -405,7 +406,7 @@ impl Maker {
     }
 
     /// A float's pattern: numbers, and NaNs of both kinds with any payload.
-    fn pattern(&mut self) -> u32 {
+    pub fn pattern(&mut self) -> u32 {
         let sign = (self.random.next() as u32) & 0x8000_0000;
         let payload = self.random.within(1, 0x7F_FFFF) as u32;
         match self.random.below(8) {
@@ -1053,6 +1054,14 @@ pub mod speed {
         let contents = (0..1_500).map(|_| mixed(random)).collect();
         shapes.push(("a mixture", Shape { textures: names(random, 3_000), ..of(contents) }));
         shapes
+    }
+
+    /// One info of 255 extended data, and nothing else: the way to the last goes over all.
+    pub fn one_extended_info() -> Vec<u8> {
+        let random = &mut Random(20_261_116);
+        let infos = vec![extended(random, 255, 2)];
+        let contents = vec![content(random, 2, infos)];
+        written(&Shape { contents, ..Shape::default() })
     }
 
     /// The sections, as the writer writes them.

@@ -1,18 +1,25 @@
-//! Compares the proved code with the Rust. Usage: differential [texts|sections] [SEED] [MILLIONS]; without a part, both.
+//! Compares the proved code with the Rust. Usage: differential [texts|sections] [SEED] [MILLIONS], or differential edits
+//! [SEED] [CALLS]; without a part, all.
 //!
 //! texts: the decoding with `String::from_utf8_lossy` and `std::str::from_utf8`: every text of up to three bytes, and some
 //! millions of longer ones. sections: reading with the reference's `BflanSections::parse`, on some millions of sections.
+//! edits: edits and undos with document 01's plain machine and the reference's writing and reading of its record, and as
+//! many calls on sections, journals and counts of any kind.
 use std::process::ExitCode;
 
 use compare::chars::{WORDS, boundary_pieces, char_of_len, damage, push, push_char};
 use compare::comparison::Comparison;
-use compare::proved;
+use compare::proved::{self, Proved};
 use compare::random::Random;
+use compare::trials::Trials;
 
 /// What stands in an output before a call, and must still stand where the call may not write.
 const GUARD: u8 = 0xA5;
 /// How many bytes of it stand on each side of an output.
 const MARGIN: usize = 40;
+
+/// The edits and undos that are tried beside the machine, without a number of them.
+const CALLS: u64 = 1_000_000;
 
 /// One kind of text: how many were looked at, and what they held.
 #[derive(Default)]
@@ -237,12 +244,16 @@ fn main() -> ExitCode {
     let part = args.next_if(|a| a.parse::<u64>().is_err());
     let mut number = |otherwise: u64| args.next().map_or(otherwise, |a| a.parse().expect("a number"));
     let seed = number(20_261_031);
-    let millions = number(5);
+    let mut millions = || number(5);
     let differences = match part.as_deref() {
-        None => texts(seed, millions) + sections(seed, millions),
-        Some("texts") => texts(seed, millions),
-        Some("sections") => sections(seed, millions),
-        Some(part) => panic!("{part}: neither texts nor sections"),
+        None => {
+            let millions = millions();
+            texts(seed, millions) + sections(seed, millions) + changes(seed, CALLS)
+        }
+        Some("texts") => texts(seed, millions()),
+        Some("sections") => sections(seed, millions()),
+        Some("edits") => changes(seed, number(CALLS)),
+        Some(part) => panic!("{part}: neither texts nor sections nor edits"),
     };
     if differences == 0 { ExitCode::SUCCESS } else { ExitCode::FAILURE }
 }
@@ -255,6 +266,16 @@ fn sections(seed: u64, millions: u64) -> u64 {
     comparison.shrink();
     comparison.print();
     comparison.differences
+}
+
+/// Edits and undos beside document 01.
+fn changes(seed: u64, calls: u64) -> u64 {
+    println!("seed {seed}, {calls} calls beside the machine, and as many on any bytes");
+    let mut trials = Trials::new(&Proved, seed);
+    trials.run(seed, calls);
+    trials.shrink();
+    trials.print();
+    trials.differences
 }
 
 fn texts(seed: u64, millions: u64) -> u64 {
