@@ -5,7 +5,7 @@
 //! is unsafe to call, and no argument has to be checked before.
 //!
 //! - [`read`] gives a section's [`Record`], and [`text`] one of its texts alone.
-//! - [`write`] gives a record's section. A record that is written is read back bit for bit.
+//! - [`write()`] gives a record's section. A record that is written is read back bit for bit.
 //! - [`edit`] changes a field of a finished section in place, and [`undo`] takes the last edit back by its [`Journal`].
 //!   A [`Section`] has the bytes and the journal together.
 //!
