@@ -50,6 +50,7 @@ pub mod guarded;
 pub mod journal;
 pub mod layout;
 pub mod machine;
+pub mod pages;
 pub mod proved;
 pub mod random;
 pub mod reader;
