@@ -9,7 +9,7 @@ use std::collections::BTreeMap;
 use std::ffi::{c_int, c_void};
 use std::process::ExitCode;
 use std::sync::atomic::{AtomicU64, Ordering};
-use std::time::{Duration, Instant};
+use std::time::Instant;
 
 use compare::calls;
 use compare::change::{Call, Change, NewKey};
@@ -111,7 +111,6 @@ struct Run {
     texts: Pages<u8>,
     answer: Pages<usize>,
     outcomes: BTreeMap<(usize, usize), u64>,
-    longest: [Duration; CALLS.len()],
     differences: u64,
 }
 
@@ -126,7 +125,6 @@ impl Run {
             texts: Pages::new(most, Access::ReadWrite),
             answer: Pages::new(8, Access::ReadWrite),
             outcomes: BTreeMap::new(),
-            longest: [Duration::ZERO; CALLS.len()],
             differences: 0,
         }
     }
@@ -145,13 +143,10 @@ impl Run {
         }
     }
 
-    /// Makes a call, and notes its time.
-    fn timed<R>(&mut self, call: usize, make: impl FnOnce(&mut Run) -> R) -> R {
+    /// Makes a call, and notes which it is.
+    fn make<R>(&mut self, call: usize, make: impl FnOnce(&mut Run) -> R) -> R {
         CALL.store(call as u64, Ordering::Relaxed);
-        let start = Instant::now();
-        let result = make(self);
-        self.longest[call] = self.longest[call].max(start.elapsed());
-        result
+        make(self)
     }
 
     fn count(&mut self, call: usize, outcome: usize) {
@@ -199,13 +194,13 @@ impl Run {
         let mut first = None;
         for ends in [0, 1] {
             self.bytes_in.place(text, ends == 1);
-            let len = self.timed(0, |run| raw::decoded_len(run.bytes_in.given()));
+            let len = self.make(0, |run| raw::decoded_len(run.bytes_in.given()));
             let mut decoded = Vec::new();
             for (call, decode) in
                 [(1, raw::decode_into as fn(&[u8], &mut [u8], usize) -> usize), (2, raw::decode_plain)]
             {
                 self.bytes.place(&out, ends == 1);
-                let said = self.timed(call, |run| {
+                let said = self.make(call, |run| {
                     let Run { bytes_in, bytes, .. } = run;
                     decode(bytes_in.given(), bytes.given_mut(), at)
                 });
@@ -219,10 +214,10 @@ impl Run {
                 self.count(call, 0);
             }
             self.must(2, decoded[0] == decoded[1], "the two decodings differ");
-            let formed = self.timed(3, |run| raw::well_formed(run.bytes_in.given()));
-            let ill = self.timed(4, |run| raw::first_ill(run.bytes_in.given()));
-            let zero = self.timed(5, |run| raw::first_zero(run.bytes_in.given()));
-            let fault = self.timed(6, |run| raw::first_fault(run.bytes_in.given()));
+            let formed = self.make(3, |run| raw::well_formed(run.bytes_in.given()));
+            let ill = self.make(4, |run| raw::first_ill(run.bytes_in.given()));
+            let zero = self.make(5, |run| raw::first_zero(run.bytes_in.given()));
+            let fault = self.make(6, |run| raw::first_fault(run.bytes_in.given()));
             self.must(3, formed == (ill == text.len()), "well-formed and ill-formed");
             self.must(6, fault == ill.min(zero) && ill.max(zero) <= text.len(), "not the first fault");
             for call in [0, 3, 4, 5, 6] {
@@ -254,7 +249,7 @@ impl Run {
             self.words.place(&words, ends & 2 != 0);
             self.texts.place(&texts, ends & 4 != 0);
             self.answer.place(&answer, ends & 8 != 0);
-            self.timed(READING, |run| {
+            self.make(READING, |run| {
                 let Run { bytes_in, words, texts, answer, .. } = run;
                 raw::read(bytes_in.given(), words.given_mut(), texts.given_mut(), answer.given_mut());
             });
@@ -276,7 +271,7 @@ impl Run {
             self.bytes_in.place(section, ends & 1 != 0);
             self.texts.place(&scratch, ends & 2 != 0);
             self.answer.place(&answer, ends & 4 != 0);
-            self.timed(FINDING, |run| {
+            self.make(FINDING, |run| {
                 let Run { bytes_in, texts, answer, .. } = run;
                 raw::find_text(bytes_in.given(), text, texts.given_mut(), answer.given_mut());
             });
@@ -304,7 +299,7 @@ impl Run {
             self.bytes_in.place(texts, ends & 2 != 0);
             self.bytes.place(&out, ends & 4 != 0);
             self.answer.place(&answer, ends & 8 != 0);
-            self.timed(WRITING, |run| {
+            self.make(WRITING, |run| {
                 let Run { words_in, bytes_in, bytes, answer, .. } = run;
                 raw::write(words_in.given(), bytes_in.given(), bytes.given_mut(), answer.given_mut());
             });
@@ -330,7 +325,7 @@ impl Run {
             self.words.place(journal, ends & 2 != 0);
             self.words_in.place(journal, ends & 2 != 0);
             self.answer.place(&answer, ends & 4 != 0);
-            self.timed(number, |run| {
+            self.make(number, |run| {
                 let Run { bytes, words, words_in, answer, .. } = run;
                 match call {
                     Call::Edit(change) => edit(bytes.given_mut(), words.given_mut(), count, change, answer.given_mut()),
@@ -540,14 +535,14 @@ fn main() -> ExitCode {
         println!("| {kind} | {count} |");
     }
     println!("| all | {} |", kinds.values().sum::<u64>());
-    println!("\n| call | calls | by outcome | longest |\n|---|---|---|---|");
+    println!("\n| call | calls | by outcome |\n|---|---|---|");
     for (call, name) in CALLS.iter().enumerate() {
         let of = run.outcomes.range((call, 0)..=(call, usize::MAX));
         let outcome = |(&(_, outcome), count): (&(usize, usize), &u64)| format!("{outcome}: {count}");
         let calls: u64 = of.clone().map(|(_, count)| count).sum();
         let outcomes: Vec<String> = of.map(outcome).collect();
         let outcomes = if call < READING { "-".to_owned() } else { outcomes.join(", ") };
-        println!("| {name} | {calls} | {outcomes} | {:?} |", run.longest[call]);
+        println!("| {name} | {calls} | {outcomes} |");
     }
     println!("\n{} calls, {} differences", run.outcomes.values().sum::<u64>(), run.differences);
     if run.differences == 0 { ExitCode::SUCCESS } else { ExitCode::FAILURE }
