@@ -1,16 +1,16 @@
--- `values::target_fits` meets its contract.
+-- `letters::target_fits` meets its contract.
 -- Assumes nothing.
 use borrow.Author.Needs.{needs}
-use Rattle.edit.proofs.values.target_fits.Statement.{statement}
-use Rattle.edit.proofs.values.target_fits.Tie as tie
+use Rattle.bflan.proofs.letters.target_fits.Statement.{statement}
+use Rattle.bflan.proofs.letters.target_fits.Tie as tie
 use mathlib.Core.Path.{sym, _∙_}
 use Rattle.bflan.proofs.Codes.{target-fits-by}
 
 kind-of-requires : tie.Need-kind-of-requires
 kind-of-requires c κs = search needs
 
-enum-known-n : tie.Need-enum-known-n
-enum-known-n c = search needs
+enum-known-count : tie.Need-enum-known-count
+enum-known-count c = search needs
 
 cast-result : tie.Need-cast-result
 cast-result c = search needs
@@ -22,7 +22,7 @@ enum-told-2 : tie.Need-enum-told-2
 enum-told-2 c = search needs
 
 returns : tie.Need-returns
-returns c = sym (target-fits-by _ _ (sym (c .before .before .before .kind-of .ensures) ∙ c .before .n .given .1))
+returns c = sym (target-fits-by _ _ (sym (c .before .before .before .kind-of .ensures) ∙ c .before .count .given .1))
 
 returns-2 : tie.Need-returns-2
 returns-2 c = sym (target-fits-by _ _ (sym (c .before .before .kind-of .ensures) ∙ c .enum-told .given .1))
@@ -35,7 +35,7 @@ target-fits-spec =
     tie.close
     (tie.spec
     kind-of-requires
-    enum-known-n
+    enum-known-count
     cast-result
     enum-told
     enum-told-2
