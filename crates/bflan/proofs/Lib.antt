@@ -16,6 +16,7 @@ pub mod Locating
 pub mod MeasureParts
 pub mod Measures
 pub mod ReadBack
+pub mod ReadTree
 pub mod Replacing
 pub mod RoundTrip
 pub mod SectionParts
