@@ -369,7 +369,7 @@ ends-law : (w x : List ℕ) (i j : ℕ) → length w ≤ i → length x ≤ j �
 unfolding ends
 ends-law w x i j h k = rw (le-ltb i (length w) h, le-ltb j (length x) k)
 
--- a name that is too long is refused at its length
+-- a text whose length fails its test is refused at its length, and so is a content whose name is too long
 text-long : {w x : List ℕ} {i j : ℕ} {t : List ℕ} {cs : List Cell} (test : ℕ → Bool) → test (length t) ≡ false → Place w x i j (charsCell t ∷ cs)
     → text test w x i j ≡ badWord i
 unfolding text word
@@ -382,10 +382,11 @@ unfolding content contentCells
 content-long c q h = rw (text-long (λ n. leb n 28) q h)
 
 module _ (most : ℕ) where
+  -- a content whose name is not too long is within the limits
   short-fine : (c : AnimContent) → FineNamed most c → leb (length (c .name)) 28 ≡ true → FineContent c
   short-fine c q e = record { short = leb-true (length (c .name)) 28 e; name = q .name; type = q .type; count = q .count; infos = q .infos }
 
-  -- where no name is too long the contents are within the limits
+  -- and so are contents and records of which no name is
   names-fine : (cs : List AnimContent) → All (FineNamed most) cs → namesFit cs ≡ true → All FineContent cs
   unfolding namesFit
   names-fine [] q e = tt
@@ -404,7 +405,7 @@ module _ (most : ℕ) where
         contents = names-fine (r .contents) (q .contents) e;
       }
 
-  -- else the walk over them stops at the length of the first that is
+  -- else the walk over the contents stops at the length of the first that is
   names-long : (w x : List ℕ) (i j : ℕ) (cs : List AnimContent) → All (FineNamed most) cs → namesFit cs ≡ false → Place w x i j (each contentCells cs)
       → times (length cs) content w x i j ≡ badWord (i + untilLong cs)
   unfolding times each namesFit untilLong
@@ -462,12 +463,13 @@ judge-flat r q =
     )
     (fine-at (omega (arith, n)) (omega (arith, m)))
 
+-- a texture is one word
 texture-words : (ts : List (List ℕ)) → wordCount (each textureCells ts) ≡ length ts
 unfolding each textureCells wordsIn
 texture-words [] = refl
 texture-words (t ∷ ts) = ap suc (texture-words ts)
 
--- the same record but for the length of names: it is refused at the length of the first that is too long
+-- a record within the limits but for the length of names is refused at the length of the first that is too long
 pub judge-long : (most : ℕ) (r : PaneAnimInfo) → FineBut most r → namesFit (r .contents) ≡ false → section (words r) (texts r) 0 0 ≡ badWord (longAt r)
 unfolding longAt
 judge-long most r q e =

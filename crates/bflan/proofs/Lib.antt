@@ -18,6 +18,7 @@ pub mod Measures
 pub mod ReadBack
 pub mod ReadTree
 pub mod Replacing
+pub mod Rewriting
 pub mod RoundTrip
 pub mod SectionParts
 pub mod StoredParts

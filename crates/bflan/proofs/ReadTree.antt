@@ -6,7 +6,7 @@ use mathlib.Core.Bool.{Bool, true, false}
 use mathlib.Core.List.{List, [], _∷_, _++_, map}
 use mathlib.Core.Logic.{⊎-elim}
 use native.Mathlib.Omega.{arith}
-use borrow.Author.Tests.{leb-true, eqb-true, eqb-false}
+use borrow.Author.Tests.{leb-true, eqb-false}
 use lib.Dec.{leb, eqb}
 use lib.ListN.{length, take, drop, length-take, length-drop}
 use lib.Seq.{slice, length-take-le, take-take}
@@ -20,13 +20,13 @@ use Rattle.core.proofs.Numbers.{Bytes}
 use Rattle.core.proofs.Zeros.{before-le, before-text, free-of, free-at, fixed-text, ended-text}
 use Rattle.core.proofs.utf8.Laws.{well-decode, decode-bound, Each, each-decode}
 use Rattle.bflan.specs.Letters.{fleu, lettersOf, targetOf}
-use Rattle.bflan.specs.Limits.{limit, All, Fits, FineText, FineTarget, FineDatum, FineStandard, FineInfo, FineNamed, Readable}
-use Rattle.bflan.specs.Reader.{Res, ok, stop, P, andThen, _>>=_, ret, given, here, Item, word, text, asText, num, seekTo, skip, fixedText, endedText, oneEnded, numbers, many, visit}
+use Rattle.bflan.specs.Limits.{limit, Fits, FineText, FineTarget, FineDatum, FineInfo, FineNamed, Readable}
+use Rattle.bflan.specs.Reader.{ok, P, andThen, _>>=_, ret, given, here, Item, word, text, asText, num, seekTo, skip, fixedText, endedText, oneEnded, numbers, many, visit}
 use Rattle.bflan.specs.Reading.{keyOf, curveOf, countOf, keys, target, datum, info, typeOf, infoTable, content, texture, pai1, flagOf, contents, body, section}
-use Rattle.bflan.specs.Record.{AnimTarget, ExtendedUserDataAnim, AnimInfo, Standard, ExtendedUserData, AnimContent, PaneAnimInfo, keyWidths, Cell, word as wordCell, chars, wordsIn, bytesIn, each, targetCells, datumCells, infoCells, contentCells, textureCells, cells, words, texts}
+use Rattle.bflan.specs.Record.{Standard, ExtendedUserData, PaneAnimInfo, keyWidths, Cell, word as wordCell, wordsIn, bytesIn, each, targetCells, datumCells, infoCells, contentCells, textureCells, cells, words, texts}
 use Rattle.bflan.specs.Walk.{shownAt, wordsOf, textsOf}
 use Rattle.bflan.proofs.Bounds.{Known, Gives, done, none, either, next, past, count-le, num-lt}
-use Rattle.bflan.proofs.Codes.{letters-fit, target-fits, target-fits-kept, letters-is, fleu-lt}
+use Rattle.bflan.proofs.Codes.{letters-fit, target-fits, target-fits-kept, letters-is}
 use Rattle.bflan.proofs.Emits.{shown-part}
 use Rattle.bflan.proofs.Judging.{free-none, AllOf}
 use Rattle.bflan.proofs.ReadBack.{shownIn, shown-append, shown-words, words-shown, texts-shown}
@@ -36,6 +36,7 @@ use Rattle.bflan.proofs.ReadBack.{shownIn, shown-append, shown-words, w
 abbrev NonZero : ℕ → Type 0
 NonZero v = v ≡ 0 → ⊥
 
+-- U+FFFD has no zero
 replacement-free : Each NonZero replacement
 replacement-free zero h e = omega arith
 replacement-free (suc zero) h e = omega arith
@@ -46,7 +47,7 @@ replacement-free (suc (suc (suc i))) h e = omega arith
 decode-free : (t : List ℕ) → beforeZero t ≡ length t → zeroFree (decode t) ≡ true
 decode-free t e = free-none (decode t) (free-of (decode t) (each-decode NonZero replacement-free t (λ i h. free-at t i (omega arith))))
 
--- a part of a section in which no zero stands is shown as a text of the record
+-- a part of a section in which no zero stands is shown as a text within the limits, of at most three bytes for each of its own
 shown-fine : (s : List ℕ) (a n : ℕ) → length s ≤ limit → beforeZero (take n (drop a s)) ≡ n → n ≤ length (drop a s)
     → FineText (shownAt s a n) × (length (shownAt s a n) ≤ 3 * n)
 shown-fine s a n short z h =
@@ -76,6 +77,7 @@ module _ (s : List ℕ) {X : Type 0} (cellsOf : X → List Cell) (Q : X → Type
   abbrev Trees : ℕ → List Item → Type 0
   Trees n is = Tree s (each cellsOf) (AllOf Q n) is
 
+  -- none, and one more
   no-trees : Trees 0 []
   unfolding each shownIn
   no-trees = record { tree = []; good = (tt, refl); shows = refl }
@@ -89,6 +91,7 @@ module _ (s : List ℕ) {X : Type 0} (cellsOf : X → List Cell) (Q : X → Type
         shows = shown-append s is js ∙ ap₂ (λ (a b : List Cell). a ++ b) (h .shows) (k .shows);
       }
 
+  -- parts read one after another, and parts at offsets
   many-tree : (p : P (List Item)) → Gives s (Tree s cellsOf Q) p → (n : ℕ) → Gives s (Trees n) (many n p)
   unfolding many
   many-tree p h zero = done s [] no-trees
@@ -101,6 +104,7 @@ module _ (s : List ℕ) {X : Type 0} (cellsOf : X → List Cell) (Q : X → Type
 
 -- ---- what single numbers read as
 
+-- a curve is 0 to 2, a type 0 to 4, looping 0 or 1
 curve-lt : (curve : ℕ) → curveOf curve < 3
 unfolding curveOf
 curve-lt curve = go (leb curve 2) refl
@@ -125,6 +129,7 @@ flag-lt b = go (eqb b 0)
     go true = omega arith
     go false = omega arith
 
+-- FLEU is not word 0
 fleu-some : fleu ≡ 0 → ⊥
 unfolding fleu val
 fleu-some e = omega arith
@@ -143,22 +148,25 @@ pub record ReadTree (s : List ℕ) (is : List Item) : Type 0 where
 -- ---- level by level
 
 module _ (s : List ℕ) (bytes : Bytes s) (short : length s ≤ limit) where
+  -- a number of k bytes
   abbrev Word : ℕ → ℕ → Type 0
   Word k v = v < 256 ^ k
 
   number : (k : ℕ) → Gives s (Word k) (num k)
   number k = num-lt s bytes short k
 
+  -- n numbers of four bytes
   numbers-tree : (n : ℕ) → Gives s (AllOf (Word 4) n) (numbers n)
   unfolding numbers
   numbers-tree zero = done s [] (tt, refl)
   numbers-tree (suc n) = next s _ (number 4) (λ v h. next s _ (numbers-tree n) (λ vs k. done s (v ∷ vs) ((h, k .0), ap suc (k .1))))
 
-  -- a text that is read: it stands there as it is shown
+  -- a text by itself
   text-tree : (a n : ℕ) → FineText (shownAt s a n) → Tree s textureCells FineText (text a n ∷ [])
   unfolding textureCells shownIn
   text-tree a n f = record { tree = shownAt s a n; good = f; shows = refl }
 
+  -- a text that ends at a zero, and a texture
   ended-tree : Gives s (Tree s textureCells FineText) oneEnded
   unfolding oneEnded endedText
   ended-tree = record { from = λ i. go i (endedOf s i) refl }
@@ -174,10 +182,11 @@ module _ (s : List ℕ) (bytes : Bytes s) (short : length s ≤ limit) where
   unfolding texture
   texture-tree base = past s (seekTo base) _ (λ at. ended-tree)
 
-  -- a name of n bytes or fewer
+  -- how a text of at most n bytes is shown
   abbrev Name : ℕ → List ℕ → Type 0
   Name n t = FineText t × (length t ≤ 3 * n)
 
+  -- a text in a field of n bytes
   fixed-fine : (n i m : ℕ) → m ≡ beforeZero (take n (drop i s)) → Name n (shownAt s i m)
   fixed-fine n i m e =
       let a : m ≤ length (take n (drop i s)) = rw e (before-le (take n (drop i s))) in
@@ -198,6 +207,7 @@ module _ (s : List ℕ) (bytes : Bytes s) (short : length s ≤ limit) where
       go i (TextPast o k) e = tt
       go i (Unended a) e = tt
 
+  -- keys
   key-tree : (c : ℕ) → Gives s (Tree s (map wordCell) (Fits (keyWidths c))) (keyOf c)
   unfolding keyWidths
   key-tree zero = next s _ (number 4) (λ value h. done s _ (record { tree = value ∷ []; good = (h, tt); shows = shown-words s (value ∷ []) }))
@@ -212,6 +222,7 @@ module _ (s : List ℕ) (bytes : Bytes s) (short : length s ≤ limit) where
   unfolding keys
   keys-tree curve n = many-tree s (map wordCell) (Fits (keyWidths (curveOf curve))) (keyOf (curveOf curve)) (key-tree (curveOf curve)) (countOf curve n)
 
+  -- a target: of the numbers that were read, and as it is read
   target-from : (letters layer raw curve n : ℕ) (ks : List Item) → Word 1 layer → Word 2 n
       → Trees s (map wordCell) (Fits (keyWidths (curveOf curve))) (countOf curve n) ks
       → Tree s targetCells (FineTarget (lettersOf letters)) (word layer ∷ word (targetOf letters raw) ∷ word (curveOf curve) ∷ word (countOf curve n) ∷ ks)
@@ -236,6 +247,7 @@ module _ (s : List ℕ) (bytes : Bytes s) (short : length s ≤ limit) where
       next s _ (number 2) (λ n k. past s (num 2) _ (λ r. past s (num 4) _ (λ offset. past s (seekTo (base + offset)) _ (λ at.
       next s _ (keys-tree curve n) (λ ks l. done s _ (target-from letters layer raw curve n ks h k l)))))))))))
 
+  -- an extended datum
   datum-from : (size one two base three : ℕ) (vs : List ℕ) (key : List Item) → Word 4 size → Word 2 one → Word 2 two → Word 4 base → Word 4 three → AllOf (Word 4) (3 * base) vs
       → Tree s textureCells FineText key
       → Tree s datumCells FineDatum (word size ∷ word one ∷ word two ∷ word base ∷ word three ∷ (map word vs ++ key))
@@ -256,6 +268,7 @@ module _ (s : List ℕ) (bytes : Bytes s) (short : length s ≤ limit) where
       next s _ (numbers-tree (3 * base)) (λ vs h6. past s here _ (λ at. past s (num 4) _ (λ offset. past s (seekTo (at + offset)) _ (λ start.
       next s _ ended-tree (λ key k. done s _ (datum-from size one two base three vs key h1 h2 h3 h4 h5 h6 k)))))))))))
 
+  -- an info of either kind
   extended-from : (n : ℕ) (is : List Item) → Word 1 n → Trees s datumCells FineDatum n is → Tree s infoCells FineInfo (word fleu ∷ word n ∷ is)
   unfolding infoCells shownIn
   extended-from n is h k =
@@ -275,7 +288,7 @@ module _ (s : List ℕ) (bytes : Bytes s) (short : length s ≤ limit) where
         shows = ap₂ (λ (m : ℕ) (cs : List Cell). wordCell (lettersOf letters) ∷ wordCell m ∷ cs) (sym (k .good .1)) (k .shows);
       }
 
-  -- by the test of the letters
+  -- the letters choose its kind
   kind-tree : (letters n base : ℕ) → Word 1 n → (t : Bool) → eqb letters fleu ≡ t
       → Gives s (Tree s infoCells FineInfo)
       (given t (_>>=_ (many n datum) (λ ds. ret (word fleu ∷ word n ∷ ds)))
@@ -291,6 +304,7 @@ module _ (s : List ℕ) (bytes : Bytes s) (short : length s ≤ limit) where
       past s (seekTo base) _ (λ at. past s (num 4) _ (λ letters. next s _ (number 1) (λ n h. past s (num 1) _ (λ r. past s (num 2) _ (λ r.
       kind-tree letters n base h (eqb letters fleu) refl)))))
 
+  -- a content: its name has at most 3 * 28 bytes
   content-from : (name : Item) (type n : ℕ) (is : List Item) → Tree s textureCells (Name 28) (name ∷ []) → Word 1 n → Trees s infoCells FineInfo n is
       → Tree s contentCells (FineNamed 84) (name ∷ word (typeOf type) ∷ word n ∷ is)
   unfolding contentCells textureCells shownIn
@@ -315,6 +329,7 @@ module _ (s : List ℕ) (bytes : Bytes s) (short : length s ≤ limit) where
   contents-tree table n =
       past s (seekTo table) _ (λ at. next s _ (numbers-tree n) (λ os c. rw (← c .1) (visit-tree s contentCells (FineNamed 84) 0 content content-tree os)))
 
+  -- the section
   section-from : (frames looping nt nc : ℕ) (ts cs : List Item) → Word 2 frames → Word 2 nt → Word 2 nc
       → Trees s textureCells FineText nt ts → Trees s contentCells (FineNamed 84) nc cs
       → Tree s cells Readable (word frames ∷ word (flagOf looping) ∷ word nt ∷ word nc ∷ (ts ++ cs))
@@ -347,8 +362,7 @@ module _ (s : List ℕ) (bytes : Bytes s) (short : length s ≤ limit) where
   unfolding section
   section-tree = past s (num 4) _ (λ letters. past s (num 4) _ (λ size. either s (eqb letters pai1) (body-tree size) (none s _)))
 
-  -- ---- the section
-
+  -- what reading gives are the words and the texts of a record within the limits but for the length of names
   pub read-tree : (is : List Item) (end : ℕ) → section s 0 ≡ ok is end → ReadTree s is
   unfolding words texts
   read-tree is end e =
