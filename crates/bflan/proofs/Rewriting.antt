@@ -1,5 +1,5 @@
--- Writing what was read: the words and the texts that a call of reading fills are accepted by a call of writing, but for names that decoding
--- made longer than 28 bytes.
+-- Writing what was read: a call of writing finds no fault in the words and the texts that a call of reading filled, unless decoding made a
+-- name longer than 28 bytes.
 -- Assumes nothing.
 use Prim.Native.Nat.{ℕ, _≤_}
 use mathlib.Core.Path.{_≡_, refl, sym, ap₂, _∙_}
