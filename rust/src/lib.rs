@@ -43,13 +43,18 @@ pub mod ui2d {
 
 pub mod chars;
 pub mod comparison;
+pub mod guarded;
+pub mod judging;
 pub mod layout;
 pub mod proved;
 pub mod random;
 pub mod reader;
 pub mod record;
+pub mod records;
 pub mod sample;
 pub mod sections;
+pub mod writer;
+pub mod writing;
 
 use crate::bflan::anim_info::PaneAnimInfo;
 use crate::bflan::file::BflanSections;

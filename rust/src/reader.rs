@@ -58,7 +58,8 @@ fn answer_text(section: &[u8], walked: &Walked, rules: &Rules, text: usize, scra
     store(&numbers, answer);
 }
 
-fn store(numbers: &[usize], answer: &mut [usize]) {
+/// Stores an answer's numbers, as many as it has places for.
+pub fn store(numbers: &[usize], answer: &mut [usize]) {
     for (place, &number) in answer.iter_mut().zip(numbers) {
         *place = number;
     }

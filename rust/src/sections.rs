@@ -377,7 +377,8 @@ pub struct Style {
 
 pub struct Maker {
     pub random: Random,
-    pieces: Vec<Vec<u8>>,
+    /// Sequences at the edges of Table 3-7.
+    pub pieces: Vec<Vec<u8>>,
 }
 
 impl Maker {
@@ -386,7 +387,7 @@ impl Maker {
     }
 
     /// A number up to `most`, the small ones somewhat likelier.
-    fn few(&mut self, most: usize) -> usize {
+    pub fn few(&mut self, most: usize) -> usize {
         let most = if self.random.below(4) == 0 { self.random.below(most + 1) } else { most };
         self.random.below(most + 1)
     }
@@ -405,7 +406,7 @@ impl Maker {
     }
 
     /// A float's pattern: numbers, and NaNs of both kinds with any payload.
-    fn pattern(&mut self) -> u32 {
+    pub fn pattern(&mut self) -> u32 {
         let sign = (self.random.next() as u32) & 0x8000_0000;
         let payload = self.random.within(1, 0x7F_FFFF) as u32;
         match self.random.below(8) {

@@ -7,7 +7,9 @@ use compare::bflan::curves::{Curve, StepKey};
 use compare::bflan::file::BflanSections;
 use compare::bflan::targets::{AnimTarget, TargetIndex};
 use compare::core::FormatError;
-use compare::{parse, proved, serialize};
+use compare::proved::Proved;
+use compare::reader::Reader;
+use compare::{parse, serialize};
 
 const LIMIT: usize = 16_777_216;
 
@@ -28,7 +30,7 @@ fn eof(section: &[u8]) -> (usize, usize) {
 /// What the reader answers, with tables of no length.
 fn here(section: &[u8]) -> [usize; 3] {
     let mut answer = [usize::MAX; 3];
-    proved::reader().1.read(section, &mut [], &mut [], &mut answer);
+    Proved.read(section, &mut [], &mut [], &mut answer);
     answer
 }
 

@@ -1,13 +1,15 @@
-//! Compares the proved code with the Rust. Usage: differential [texts|sections] [SEED] [MILLIONS]; without a part, both.
+//! Compares the proved code with the Rust. Usage: differential [texts|sections|records] [SEED] [MILLIONS]; without a part, all.
 //!
 //! texts: the decoding with `String::from_utf8_lossy` and `std::str::from_utf8`: every text of up to three bytes, and some
 //! millions of longer ones. sections: reading with the reference's `BflanSections::parse`, on some millions of sections.
+//! records: writing with the reference's `BflanSectionsRef::serialize`, on some millions of records.
 use std::process::ExitCode;
 
 use compare::chars::{WORDS, boundary_pieces, char_of_len, damage, push, push_char};
 use compare::comparison::Comparison;
-use compare::proved;
+use compare::proved::{self, Proved};
 use compare::random::Random;
+use compare::writing::Writing;
 
 /// What stands in an output before a call, and must still stand where the call may not write.
 const GUARD: u8 = 0xA5;
@@ -239,22 +241,31 @@ fn main() -> ExitCode {
     let seed = number(20_261_031);
     let millions = number(5);
     let differences = match part.as_deref() {
-        None => texts(seed, millions) + sections(seed, millions),
+        None => texts(seed, millions) + sections(seed, millions) + records(seed, millions),
         Some("texts") => texts(seed, millions),
         Some("sections") => sections(seed, millions),
-        Some(part) => panic!("{part}: neither texts nor sections"),
+        Some("records") => records(seed, millions),
+        Some(part) => panic!("{part}: none of texts, sections, records"),
     };
     if differences == 0 { ExitCode::SUCCESS } else { ExitCode::FAILURE }
 }
 
 fn sections(seed: u64, millions: u64) -> u64 {
-    let (name, reader) = proved::reader();
-    println!("seed {seed}, {millions} million sections; the reader is {name}");
-    let mut comparison = Comparison::new(reader, seed);
+    println!("seed {seed}, {millions} million sections");
+    let mut comparison = Comparison::new(&Proved, seed);
     comparison.run(seed, millions * 1_000_000);
     comparison.shrink();
     comparison.print();
     comparison.differences
+}
+
+fn records(seed: u64, millions: u64) -> u64 {
+    println!("seed {seed}, {millions} million records");
+    let mut writing = Writing::new(&Proved, &Proved, seed);
+    writing.run(seed, millions * 1_000_000);
+    writing.shrink();
+    writing.print();
+    writing.differences
 }
 
 fn texts(seed: u64, millions: u64) -> u64 {
