@@ -1,18 +1,29 @@
-// Functions of core and of bflan for a program in C or Rust. Each calls the function of the same name and has its contract. A
+// Functions of core, bflan and edit for a program in C or Rust. Each calls the function of the same name and has its contract. A
 // slice is passed as its address and its length, and an answer that is an enum comes back as numbers in a list. None asks
 // anything of the caller but that the slices are there and that no byte that a call may change is in another of its slices.
 mod answer;
+mod change;
 
 ghost use mathlib.Core.Path.{_≡_};
 ghost use lib.Seq.{sets};
 ghost use Rattle.core.specs.Text.{beforeZero, firstFault};
 ghost use Rattle.core.specs.Utf8.{decode, decodedSize, sound, wellFormed};
 ghost use Rattle.bflan.specs.Answer.{finding, reading};
+ghost use Rattle.bflan.specs.Writing.{writing};
+ghost use Rattle.bflan.specs.declared.place.Place.the-variants.{FrameCount, Looping, Layer, Target, Key, Value};
+ghost use Rattle.edit.specs.Editing.{undoing};
+ghost use Rattle.edit.specs.declared.values.Values.the-variants.{One, Two, Three};
 ghost use Rattle.capi.specs.Flat.{flat};
+ghost use Rattle.capi.specs.Changed.{changed};
 use crate::answer::of_finding;
 use crate::answer::of_reading;
+use crate::answer::of_undoing;
+use crate::answer::of_writing;
 use crate::answer::put3;
 use crate::answer::put4;
+use crate::change::change;
+use bflan::place::Place;
+use edit::values::Values;
 
 #[no_mangle]
 pub extern "C" fn nnbfl_decoded_len(text: &[u8]) -> usize
@@ -90,4 +101,214 @@ pub extern "C" fn nnbfl_find_text(
 {
     let r = bflan::find::find_text(section, text, scratch);
     put4(answer, of_finding(r));
+}
+
+#[no_mangle]
+pub extern "C" fn nnbfl_write(words: &[u32], texts: &[u8], out: &mut [u8], answer: &mut [usize])
+    ensures { λ _. ⌜ (now (out .exit) ≡ writing (now (words .entry)) (now (texts .entry)) (now (out .entry)) .1)
+        × (now (answer .exit) ≡ sets (now (answer .entry)) 0 (flat 3 (writing (now (words .entry)) (now (texts .entry)) (now (out .entry)) .0))) ⌝ }
+{
+    let r = bflan::write::write(words, texts, out);
+    put3(answer, of_writing(r));
+}
+
+// An edit is a function for each field that can be edited; a key's floats are given as their bits.
+#[no_mangle]
+pub extern "C" fn nnbfl_edit_frame_count(
+    section: &mut [u8],
+    journal: &mut [u32],
+    count: usize,
+    value: u32,
+    answer: &mut [usize],
+)
+    ensures { λ _. ⌜ (now (section .exit), now (journal .exit), now (answer .exit)) ≡ changed (now (section .entry)) (now (journal .entry)) count FrameCount (One value) (now (answer .entry)) ⌝ }
+{
+    change(
+        section,
+        journal,
+        count,
+        Place::FrameCount,
+        Values::One(value),
+        answer,
+    );
+}
+
+#[no_mangle]
+pub extern "C" fn nnbfl_edit_looping(
+    section: &mut [u8],
+    journal: &mut [u32],
+    count: usize,
+    value: u32,
+    answer: &mut [usize],
+)
+    ensures { λ _. ⌜ (now (section .exit), now (journal .exit), now (answer .exit)) ≡ changed (now (section .entry)) (now (journal .entry)) count Looping (One value) (now (answer .entry)) ⌝ }
+{
+    change(
+        section,
+        journal,
+        count,
+        Place::Looping,
+        Values::One(value),
+        answer,
+    );
+}
+
+#[no_mangle]
+pub extern "C" fn nnbfl_edit_layer(
+    section: &mut [u8],
+    journal: &mut [u32],
+    count: usize,
+    content: usize,
+    info: usize,
+    target: usize,
+    value: u32,
+    answer: &mut [usize],
+)
+    ensures { λ _. ⌜ (now (section .exit), now (journal .exit), now (answer .exit)) ≡ changed (now (section .entry)) (now (journal .entry)) count (Layer content info target) (One value) (now (answer .entry)) ⌝ }
+{
+    change(
+        section,
+        journal,
+        count,
+        Place::Layer(content, info, target),
+        Values::One(value),
+        answer,
+    );
+}
+
+#[no_mangle]
+pub extern "C" fn nnbfl_edit_target(
+    section: &mut [u8],
+    journal: &mut [u32],
+    count: usize,
+    content: usize,
+    info: usize,
+    target: usize,
+    value: u32,
+    answer: &mut [usize],
+)
+    ensures { λ _. ⌜ (now (section .exit), now (journal .exit), now (answer .exit)) ≡ changed (now (section .entry)) (now (journal .entry)) count (Target content info target) (One value) (now (answer .entry)) ⌝ }
+{
+    change(
+        section,
+        journal,
+        count,
+        Place::Target(content, info, target),
+        Values::One(value),
+        answer,
+    );
+}
+
+#[no_mangle]
+pub extern "C" fn nnbfl_edit_constant_key(
+    section: &mut [u8],
+    journal: &mut [u32],
+    count: usize,
+    content: usize,
+    info: usize,
+    target: usize,
+    key: usize,
+    value: u32,
+    answer: &mut [usize],
+)
+    ensures { λ _. ⌜ (now (section .exit), now (journal .exit), now (answer .exit)) ≡ changed (now (section .entry)) (now (journal .entry)) count (Key content info target key) (One value) (now (answer .entry)) ⌝ }
+{
+    change(
+        section,
+        journal,
+        count,
+        Place::Key(content, info, target, key),
+        Values::One(value),
+        answer,
+    );
+}
+
+#[no_mangle]
+pub extern "C" fn nnbfl_edit_step_key(
+    section: &mut [u8],
+    journal: &mut [u32],
+    count: usize,
+    content: usize,
+    info: usize,
+    target: usize,
+    key: usize,
+    frame: u32,
+    value: u32,
+    answer: &mut [usize],
+)
+    ensures { λ _. ⌜ (now (section .exit), now (journal .exit), now (answer .exit)) ≡ changed (now (section .entry)) (now (journal .entry)) count (Key content info target key) (Two frame value) (now (answer .entry)) ⌝ }
+{
+    change(
+        section,
+        journal,
+        count,
+        Place::Key(content, info, target, key),
+        Values::Two(frame, value),
+        answer,
+    );
+}
+
+#[no_mangle]
+pub extern "C" fn nnbfl_edit_hermite_key(
+    section: &mut [u8],
+    journal: &mut [u32],
+    count: usize,
+    content: usize,
+    info: usize,
+    target: usize,
+    key: usize,
+    frame: u32,
+    value: u32,
+    slope: u32,
+    answer: &mut [usize],
+)
+    ensures { λ _. ⌜ (now (section .exit), now (journal .exit), now (answer .exit)) ≡ changed (now (section .entry)) (now (journal .entry)) count (Key content info target key) (Three frame value slope) (now (answer .entry)) ⌝ }
+{
+    change(
+        section,
+        journal,
+        count,
+        Place::Key(content, info, target, key),
+        Values::Three(frame, value, slope),
+        answer,
+    );
+}
+
+#[no_mangle]
+pub extern "C" fn nnbfl_edit_value(
+    section: &mut [u8],
+    journal: &mut [u32],
+    count: usize,
+    content: usize,
+    info: usize,
+    datum: usize,
+    list: usize,
+    index: usize,
+    value: u32,
+    answer: &mut [usize],
+)
+    ensures { λ _. ⌜ (now (section .exit), now (journal .exit), now (answer .exit)) ≡ changed (now (section .entry)) (now (journal .entry)) count (Value content info datum list index) (One value) (now (answer .entry)) ⌝ }
+{
+    change(
+        section,
+        journal,
+        count,
+        Place::Value(content, info, datum, list, index),
+        Values::One(value),
+        answer,
+    );
+}
+
+#[no_mangle]
+pub extern "C" fn nnbfl_undo(
+    section: &mut [u8],
+    journal: &[u32],
+    count: usize,
+    answer: &mut [usize],
+)
+    ensures { λ _. ⌜ (now (section .exit) ≡ undoing (now (section .entry)) (now (journal .entry)) count .1)
+        × (now (answer .exit) ≡ sets (now (answer .entry)) 0 (flat 3 (undoing (now (section .entry)) (now (journal .entry)) count .0))) ⌝ }
+{
+    let r = edit::undo::undo(section, journal, count);
+    put3(answer, of_undoing(r));
 }

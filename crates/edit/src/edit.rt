@@ -25,6 +25,7 @@ use crate::values::values_of;
 use bflan::fault::Fault;
 use bflan::place::Field;
 use bflan::place::Located;
+use bflan::place::Place;
 use bflan::place::locate;
 
 // A field, its place and its new value. Places count from 0: content, info, target, key; or content, info, datum, list, value.
@@ -101,17 +102,28 @@ fn change_at(
     EditAnswer::Unfit
 }
 
-pub fn edit(section: &mut [u8], journal: &mut [u32], count: usize, change: Change) -> EditAnswer
-    ensures { λ r. ⌜ (ofEditing r, now (section .exit), now (journal .exit)) ≡ editing pai1 (now (section .entry)) (now (journal .entry)) count (placeOf change) (valuesOf change) ⌝ }
+// Puts values in the field at a place.
+pub fn edit_values(
+    section: &mut [u8],
+    journal: &mut [u32],
+    count: usize,
+    place: Place,
+    v: Values,
+) -> EditAnswer
+    ensures { λ r. ⌜ (ofEditing r, now (section .exit), now (journal .exit)) ≡ editing pai1 (now (section .entry)) (now (journal .entry)) count place (valuesIn v) ⌝ }
 {
-    let place = place_of(change);
     match locate(section, place) {
         Located::TooLong(size) => EditAnswer::TooLong(size),
         Located::Refused(f) => EditAnswer::Refused(f),
         Located::NoSuchPlace => EditAnswer::NoSuchPlace,
-        Located::At(at, f) => {
-            let v = values_of(change);
-            change_at(section, journal, count, at, f, v)
-        }
+        Located::At(at, f) => change_at(section, journal, count, at, f, v),
     }
+}
+
+pub fn edit(section: &mut [u8], journal: &mut [u32], count: usize, change: Change) -> EditAnswer
+    ensures { λ r. ⌜ (ofEditing r, now (section .exit), now (journal .exit)) ≡ editing pai1 (now (section .entry)) (now (journal .entry)) count (placeOf change) (valuesOf change) ⌝ }
+{
+    let place = place_of(change);
+    let v = values_of(change);
+    edit_values(section, journal, count, place, v)
 }

@@ -3,4 +3,4 @@ pub mod edit;
 mod journal;
 pub mod key;
 pub mod undo;
-mod values;
+pub mod values;

@@ -1,0 +1,44 @@
+-- `change::change` meets its contract.
+-- Assumes nothing.
+use borrow.Author.Needs.{needs}
+use Rattle.capi.proofs.change.change.Statement.{statement}
+use Rattle.capi.proofs.change.change.Tie as tie
+use mathlib.Core.Path.{sym}
+use Rattle.capi.specs.Changed.{changed}
+use Rattle.capi.proofs.Flats.{three-of}
+
+edit-values-requires : tie.Need-edit-values-requires
+edit-values-requires c κs = search needs
+
+of-editing-requires : tie.Need-of-editing-requires
+of-editing-requires c κs = search needs
+
+put3-requires : tie.Need-put3-requires
+put3-requires c κs = search needs
+
+same-length : tie.Need-same-length
+same-length c = search needs
+
+same-length-2 : tie.Need-same-length-2
+same-length-2 c = search needs
+
+same-length-3 : tie.Need-same-length-3
+same-length-3 c = search needs
+
+returns : tie.Need-returns
+unfolding changed
+returns c =
+    let e = c .before .before .before .before .before .before .before .before .before .edit-values .ensures in
+    rw (sym e) (rw (c .before .before .put3 .ensures, sym (three-of _ _ _ _ _ (c .before .before .before .of-editing .ensures))))
+
+pub change-spec : {M : Type 1} → statement M
+change-spec =
+    tie.close
+    (tie.spec
+    edit-values-requires
+    of-editing-requires
+    put3-requires
+    same-length
+    same-length-2
+    same-length-3
+    returns)
