@@ -8,7 +8,7 @@ use crate::layout::{FLEU, TARGET_NUMBERS};
 use crate::parse;
 use crate::random::Random;
 use crate::record::{Flat, LIMIT, flat};
-use crate::sections::{Maker, READABLE, speed};
+use crate::sections::{Maker, Placing, READABLE, Style, speed};
 
 /// What is to be written.
 #[derive(Clone, Copy)]
@@ -21,6 +21,14 @@ pub enum Given<'a> {
 
 /// Is handed each record, with the name of its kind.
 pub type See<'a> = &'a mut dyn FnMut(&str, Given);
+
+/// Kinds of record within the limits, given as the sections that the writer writes of them.
+const WITHIN: [(&str, Style); 3] = [
+    ("within the limits", KEPT),
+    ("the same, extended data", Style { extended: 7, ..KEPT }),
+    ("the same, more parts and keys", Style { most: 8, most_keys: 40, ..KEPT }),
+];
+const KEPT: Style = Style { kept: true, extended: 2, most: 4, most_keys: 4 };
 
 /// Records of at most so many words are changed at every place.
 const CHANGED: usize = 48;
@@ -313,12 +321,8 @@ fn noise(maker: &mut Maker) -> Flat {
 /// Noise that gets further: few textures and contents, and words that are mostly in range somewhere.
 fn guided_noise(maker: &mut Maker) -> Flat {
     let random = &mut maker.random;
-    let mut words = vec![
-        random.below(65_536) as u32,
-        random.below(2) as u32,
-        random.below(3) as u32,
-        random.below(4) as u32,
-    ];
+    let mut words =
+        vec![random.below(65_536) as u32, random.below(2) as u32, random.below(3) as u32, random.below(4) as u32];
     let n = random.below(60);
     words.extend((0..n).map(|_| match random.below(8) {
         0 => u32::from_le_bytes(*random.one(&TARGET_NUMBERS).0),
@@ -353,8 +357,14 @@ pub fn random_records(maker: &mut Maker, count: u64, see: See) {
         made
     };
     loop {
+        for (kind, style) in WITHIN {
+            for _ in 0..2_000 {
+                see(kind, Given::Section(&maker.section(style, Placing::Written).bytes));
+            }
+        }
         for (i, (kind, style, placing)) in READABLE.into_iter().enumerate() {
-            for _ in 0..800 {
+            // the first of them are records within the limits, as above
+            for _ in 0..if i == 0 { 0 } else { 800 } {
                 see(kind, Given::Section(&maker.section(style, placing).bytes));
             }
             let record = small(maker, i);

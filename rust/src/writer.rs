@@ -5,7 +5,8 @@ use crate::reader::store;
 /// Writes records, as document 01 says. A number that an answer has no place for is dropped, and no other place of an
 /// answer changes.
 pub trait Writer {
-    /// Writes the section of a flat record. The answer is document 01's number and one value.
+    /// Writes the section of a flat record. The answer is document 01's number and its value, and a 0 for the second value
+    /// that reading has.
     fn write(&self, words: &[u32], texts: &[u8], out: &mut [u8], answer: &mut [usize]);
 }
 
@@ -14,7 +15,7 @@ pub struct ByJudging;
 
 impl Writer for ByJudging {
     fn write(&self, words: &[u32], texts: &[u8], out: &mut [u8], answer: &mut [usize]) {
-        let numbers = match written(words, texts) {
+        let [number, value] = match written(words, texts) {
             Err(refusal) => refusal,
             Ok(section) if section.len() > out.len() => [9, section.len()],
             Ok(section) => {
@@ -22,6 +23,6 @@ impl Writer for ByJudging {
                 [0, section.len()]
             }
         };
-        store(&numbers, answer);
+        store(&[number, value, 0], answer);
     }
 }

@@ -12,8 +12,8 @@ use crate::sections::Maker;
 use crate::writer::Writer;
 use crate::{parse, serialize};
 
-/// Records of more words than this are not made smaller.
-const SHRUNK: usize = 400;
+/// Records of more bytes than this are not made smaller.
+const SHRUNK: usize = 2_000;
 /// The words and bytes of a record above which a section is left out.
 const MOST: usize = 80_000_000;
 /// The refusals that do not depend on the output.
@@ -120,7 +120,8 @@ impl<'a> Writing<'a> {
         let mut answer = [0; 3];
         self.reader.read(section, &mut record.words, &mut record.texts, &mut answer);
         if answer != [0, n, m] || record != wanted {
-            return self.differs(&wanted, format!("a section is read with the answer {answer:?}, or not as this record"));
+            return self
+                .differs(&wanted, format!("a section is read with the answer {answer:?}, or not as this record"));
         }
         self.count(|kind| kind.read += 1);
 
@@ -188,18 +189,19 @@ impl<'a> Writing<'a> {
 
     /// Writes into an output of `room` bytes.
     fn write(&mut self, record: &Flat, lists: (&[u32], &[u8]), room: usize, wanted: [usize; 2], stored: &[u8]) {
+        let wanted = [wanted[0], wanted[1], 0];
         let salt = self.random.next();
         // mostly as many places as the answer has numbers
         let places = match self.random.below(16) {
-            0 => self.random.below(2),
-            1 => 3 + self.random.below(4),
-            _ => 2,
+            0 => self.random.below(3),
+            1 => 4 + self.random.below(4),
+            _ => 3,
         };
         let out = self.out.list(salt, room);
         let answer = self.answer.list(salt, places);
         self.writer.write(lists.0, lists.1, out, answer);
         let found =
-            self.answer.differs("answer", &wanted[..places.min(2)]).or_else(|| self.out.differs("output", stored));
+            self.answer.differs("answer", &wanted[..places.min(3)]).or_else(|| self.out.differs("output", stored));
         if let Some(what) = found {
             self.differs(record, format!("written into {room} bytes, which answers {wanted:?}: {what}"));
         }
@@ -221,7 +223,7 @@ impl<'a> Writing<'a> {
             }
             fresh.smallest.map(|(_, what)| what)
         };
-        let mut smaller = record.words.len() <= SHRUNK && fails(&record).is_some();
+        let mut smaller = size(&record) <= SHRUNK && fails(&record).is_some();
         while smaller {
             smaller = false;
             let mut tries: Vec<Flat> = Vec::new();

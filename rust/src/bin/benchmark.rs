@@ -6,8 +6,8 @@
 use std::hint::black_box;
 use std::time::{Duration, Instant};
 
-use compare::chars::{WORDS, char_of_len, damage, push, push_char};
 use compare::bflan::file::BflanSections;
+use compare::chars::{WORDS, char_of_len, damage, push, push_char};
 use compare::proved::{self, Proved};
 use compare::random::Random;
 use compare::reader::Reader;
@@ -192,12 +192,12 @@ fn records(budget: Duration) {
         let Ok(BflanSections::PaneAnimInfo(tree)) = parse(&section) else { panic!("{name}") };
         let record = flat(&tree);
         let mut out = vec![1u8; section.len()];
-        let mut answer = [0; 2];
+        let mut answer = [0; 3];
         let write = best(budget, || {
             Proved.write(black_box(&record.words), black_box(&record.texts), &mut out, &mut answer);
             black_box(&out);
         });
-        assert!(answer == [0, section.len()] && out == section, "{name}");
+        assert!(answer == [0, section.len(), 0] && out == section, "{name}");
         let whole = best(budget, || drop(black_box(serialize(black_box(&tree)))));
         let serialized = best_of(budget, || {
             let start = Instant::now();
