@@ -52,6 +52,7 @@ pub mod reader;
 pub mod record;
 pub mod records;
 pub mod sample;
+pub mod sample_records;
 pub mod sections;
 pub mod writer;
 pub mod writing;
