@@ -3,7 +3,7 @@
 use crate::bflan::anim_info::{AnimInfo, PaneAnimInfo};
 use crate::bflan::curves::Curve;
 use crate::bflan::file::BflanSections;
-use crate::judging::judge;
+use crate::judging::{Fault, judge};
 use crate::layout::{FLEU, TARGET_NUMBERS};
 use crate::parse;
 use crate::random::Random;
@@ -100,10 +100,17 @@ pub fn fixed_records(see: See) {
     for record in &exercises {
         see("document 01's exercises", record);
         for at in 0..record.words.len() {
-            let mut copy = record.clone();
+            let with = |word: u32| {
+                let mut copy = record.clone();
+                copy.words[at] = word;
+                copy
+            };
             for edge in EDGES {
-                copy.words[at] = edge;
-                see("every edge at every word", &copy);
+                see("every edge at every word", &with(edge));
+            }
+            let beyond = |word: &u32| judge(&with(*word).words, &record.texts).err() == Some(Fault::Word(at));
+            if let Some(word) = (0..=65_536).find(beyond) {
+                see("the first out of range at every word", &with(word));
             }
         }
     }
@@ -126,6 +133,14 @@ pub fn fixed_records(see: See) {
 
     let mut codes: Vec<u32> = TARGET_NUMBERS.iter().map(|(code, _)| u32::from_le_bytes(**code)).collect();
     codes.extend([0, 1, FLEU, u32::from_le_bytes(*b"XXXX"), u32::from_le_bytes(*b"flvi"), u32::MAX]);
+    for (code, numbers) in TARGET_NUMBERS {
+        for target in [numbers - 1, numbers] {
+            see("targets around their number", &one_target(u32::from_le_bytes(*code), target as u32, 0));
+        }
+    }
+    for target in [0, 254, 255, 256] {
+        see("targets around their number", &one_target(0, target, 0));
+    }
     for letters in codes {
         for target in (0..=260).chain([65_535, 65_536, u32::MAX]) {
             see("every target number", &one_target(letters, target, 0));

@@ -3,9 +3,12 @@
 use compare::bflan::anim_info::{AnimInfo, AnimType, PaneAnimInfo};
 use compare::judging::{Fault, judge, written};
 use compare::layout::Rules;
+use compare::proved::Proved;
 use compare::reader::ByLayout;
 use compare::record::{Flat, LIMIT, flat};
 use compare::records::{Given, content_p, fixed_records, named, random_records, user_k};
+use compare::sample::sample;
+use compare::sample_records::{self, replay};
 use compare::sections::Maker;
 use compare::writer::{ByJudging, Writer};
 use compare::writing::Writing;
@@ -125,13 +128,13 @@ impl Writer for Slipping {
             }
             Slip::WordsOver if number == 6 && value < words.len() => {
                 ByJudging.write(&words[..value], texts, out, answer);
-                if answer[0] != 0 && answer[0] != 9 {
+                if !matches!(answer[0], 0 | 9) {
                     answer.copy_from_slice(&[6, value, 0]);
                 }
             }
             Slip::BytesOver if number == 7 => {
                 ByJudging.write(words, &texts[..value], out, answer);
-                if answer[0] != 0 && answer[0] != 9 {
+                if !matches!(answer[0], 0 | 9) {
                     answer.copy_from_slice(&[7, value, 0]);
                 }
             }
@@ -144,19 +147,19 @@ impl Writer for Slipping {
             }
             Slip::TargetNotBounded if number == 6 && words.get(value).is_some_and(|&word| word == 1) => {
                 with_words(words, texts, |copy| copy[value] = 0, out, answer);
-                if answer[0] != 0 {
+                if !matches!(answer[0], 0 | 9) {
                     answer.copy_from_slice(&[6, value, 0]);
                 }
             }
             Slip::InvalidTargetFree if number == 6 && words.get(value) == Some(&0) => {
                 with_words(words, texts, |copy| copy[value] = 255, out, answer);
-                if answer[0] != 0 {
+                if !matches!(answer[0], 0 | 9) {
                     answer.copy_from_slice(&[6, value, 0]);
                 }
             }
             Slip::UnlistedLetters if number == 6 && words.get(value).is_some_and(|&word| word > 0x4000_0000) => {
                 with_words(words, texts, |copy| copy[value] = 0, out, answer);
-                if answer[0] != 0 {
+                if !matches!(answer[0], 0 | 9) {
                     answer.copy_from_slice(&[6, value, 0]);
                 }
             }
@@ -214,42 +217,58 @@ impl Writer for Slipping {
     }
 }
 
+use Slip::*;
+
+/// The slips that show on small records, within the output.
+const SMALL: [Slip; 24] = [
+    PaddingInTotalSize,
+    KeysInTotalSize,
+    LoopingRaw,
+    SizeUnpadded,
+    WordsOver,
+    BytesOver,
+    CountsCut,
+    LongNameCut,
+    TargetNotBounded,
+    InvalidTargetFree,
+    UnlistedLetters,
+    ZeroLetThrough,
+    IllFormedLetThrough,
+    IllFormedAtItsEnd,
+    IllFormedBeforeMissing,
+    TextsAfterWords,
+    BytesOverBeforeWords,
+    TextIndexWithinItsText,
+    MissingWordAtTheFirst,
+    RoomBeforeTheRecord,
+    ExactRoomRefused,
+    NeedsOneByteMore,
+    StoresBeforeRefusing,
+    StoresPastTheSection,
+];
+
 #[test]
 fn slips_are_caught() {
-    use Slip::*;
-    for slip in [
-        PaddingInTotalSize,
-        KeysInTotalSize,
-        LoopingRaw,
-        SizeUnpadded,
-        WordsOver,
-        BytesOver,
-        CountsCut,
-        LongNameCut,
-        TargetNotBounded,
-        InvalidTargetFree,
-        UnlistedLetters,
-        ZeroLetThrough,
-        IllFormedLetThrough,
-        IllFormedAtItsEnd,
-        IllFormedBeforeMissing,
-        TextsAfterWords,
-        BytesOverBeforeWords,
-        TextIndexWithinItsText,
-        MissingWordAtTheFirst,
-        RoomBeforeTheLimit,
-        RoomBeforeTheRecord,
-        LimitIsLess,
-        ExactRoomRefused,
-        NeedsOneByteMore,
-        StoresBeforeRefusing,
-        StoresPastTheSection,
-        StoresPastTheOutput,
-        AnswersFourNumbers,
-    ] {
+    for slip in SMALL.into_iter().chain([RoomBeforeTheLimit, LimitIsLess, StoresPastTheOutput, AnswersFourNumbers]) {
         let writer = Slipping(slip);
         assert!(compared(&writer).differences > 0, "{slip:?}");
     }
+}
+
+/// The sample holds every outcome but the limit's, is what the writer answers, catches the mistaken writers too, and is the one
+/// that is stored.
+#[test]
+fn the_sample_is_replayed() {
+    let records = sample_records::sample();
+    assert!(records.cases > 500);
+    assert!([0, 6, 7, 9].iter().all(|&number| records.numbers[number] > 50), "{:?}", records.numbers);
+    assert_eq!(replay(&records.bytes, &ByJudging), (records.cases, None));
+    assert_eq!(replay(&records.bytes, &Proved), (records.cases, None));
+    for slip in SMALL {
+        assert!(replay(&records.bytes, &Slipping(slip)).1.is_some(), "{slip:?}");
+    }
+    let stored = std::fs::read(concat!(env!("CARGO_MANIFEST_DIR"), "/../crates/replay_sections/stdin")).unwrap();
+    assert!(stored == [sample().bytes, records.bytes].concat());
 }
 
 /// The record that is shown of a difference is the smallest that shows it.
