@@ -51,6 +51,7 @@ pub mod random;
 pub mod reader;
 pub mod record;
 pub mod records;
+pub mod round_trips;
 pub mod sample;
 pub mod sample_records;
 pub mod sections;
