@@ -47,6 +47,11 @@ impl<T: Guard> Guarded<T> {
         &mut self.held[MARGIN..MARGIN + len]
     }
 
+    /// The list as it stands now.
+    pub fn now(&self) -> &[T] {
+        &self.held[MARGIN..self.held.len() - MARGIN]
+    }
+
     /// What differs from a list that begins with `stored` and is otherwise as it was.
     pub fn differs(&self, what: &str, stored: &[T]) -> Option<String> {
         let end = MARGIN + stored.len();

@@ -1,6 +1,9 @@
 //! Document 01's layout of a section, walked by positions and apart from the reference. It says what the reference
-//! cannot be asked: where each text lies, how much a reading asks for, and the answer where the reference would ask for
-//! more memory than there is (docs/DIFFERENCES.md, 8). Wherever the reference is asked too, the two are compared.
+//! cannot be asked: where each text and each field lies, how much a reading asks for, and the answer where the reference
+//! would ask for more memory than there is (docs/DIFFERENCES.md, 8). Wherever the reference is asked too, the two are
+//! compared.
+use std::ops::Range;
+
 use crate::record::{Flat, LIMIT, Outcome, PAI1, Refusal};
 
 /// The letters of standard infos with how many target numbers they have.
@@ -24,6 +27,15 @@ pub const TARGET_NUMBERS: [(&[u8; 4], u8); 18] = [
     (b"FTBR", 7),
     (b"FVGA", 1),
 ];
+
+/// The numbers that a target of a record may have under these letters, or under word 0.
+pub fn targets_of(letters: u32) -> Range<u32> {
+    match TARGET_NUMBERS.iter().find(|(code, _)| u32::from_le_bytes(**code) == letters) {
+        Some(&(_, numbers)) => 0..numbers as u32,
+        None => 255..256,
+    }
+}
+
 /// The letters of extended data.
 pub const FLEU: u32 = u32::from_le_bytes(*b"FLEU");
 
@@ -53,12 +65,45 @@ pub struct Place {
     pub len: usize,
 }
 
+/// Where the fields of a target lie: its layer at `start`, its number behind that, its keys from `keys` on.
+#[derive(Clone, Copy, Debug)]
+pub struct TargetAt {
+    pub start: usize,
+    /// 0 to 2; a curve above has no key.
+    pub curve: usize,
+    pub key_count: usize,
+    pub keys: usize,
+}
+
+/// Where the three lists of an extended datum lie, one behind another.
+#[derive(Clone, Copy, Debug)]
+pub struct DatumAt {
+    pub base_count: usize,
+    pub values: usize,
+}
+
+/// An info's letters, as the record has them, and where its fields lie.
+#[derive(Clone, Debug)]
+pub struct InfoAt {
+    pub letters: u32,
+    pub of: PartsAt,
+}
+
+/// The parts of an info, as many as were met.
+#[derive(Clone, Debug)]
+pub enum PartsAt {
+    Targets(Vec<TargetAt>),
+    Data(Vec<DatumAt>),
+}
+
 /// What a walk over a section gives.
 pub struct Walked {
     /// The record, or why there is none.
     pub outcome: Outcome,
     /// Where the texts lie, as many as were met.
     pub places: Vec<Place>,
+    /// The infos of each content, as many as were met.
+    pub contents: Vec<Vec<InfoAt>>,
     /// The most bytes that the reference asks for at once for a list that does not fit the section.
     pub asked: usize,
 }
@@ -70,13 +115,14 @@ enum Stop {
 
 /// Walks over a section. None if the record's words and its texts' bytes, before decoding, are more than `most`.
 pub fn walk(section: &[u8], rules: &Rules, most: usize) -> Option<Walked> {
-    let mut walk = Walk { section, rules, left: most, flat: Flat::default(), places: Vec::new(), asked: 0 };
+    let mut walk =
+        Walk { section, rules, left: most, flat: Flat::default(), places: Vec::new(), contents: Vec::new(), asked: 0 };
     let outcome = match walk.section() {
         Ok(()) => Ok(walk.flat),
         Err(Stop::Refused(refusal)) => Err(refusal),
         Err(Stop::TooLong) => return None,
     };
-    Some(Walked { outcome, places: walk.places, asked: walk.asked })
+    Some(Walked { outcome, places: walk.places, contents: walk.contents, asked: walk.asked })
 }
 
 /// The decoding of a text.
@@ -98,6 +144,7 @@ struct Walk<'a> {
     left: usize,
     flat: Flat,
     places: Vec<Place>,
+    contents: Vec<Vec<InfoAt>>,
     asked: usize,
 }
 
@@ -205,6 +252,7 @@ impl Walk<'_> {
         self.text(start, len)?;
         self.word(sort)?;
         self.word(info_count)?;
+        self.contents.push(Vec::new());
         for offset in self.table(table, info_count)? {
             self.info(start + offset)?;
         }
@@ -218,8 +266,11 @@ impl Walk<'_> {
         self.number(start + 5, 1)?;
         self.number(start + 6, 2)?;
         let listed = TARGET_NUMBERS.iter().find(|(code, _)| u32::from_le_bytes(**code) == letters);
-        self.word(if letters == FLEU || listed.is_some() { letters as usize } else { 0 })?;
+        let known = if letters == FLEU || listed.is_some() { letters } else { 0 };
+        self.word(known as usize)?;
         self.word(count)?;
+        let of = if letters == FLEU { PartsAt::Data(Vec::new()) } else { PartsAt::Targets(Vec::new()) };
+        self.contents.last_mut().unwrap().push(InfoAt { letters: known, of });
         if letters == FLEU {
             let mut at = start + 8;
             for _ in 0..count {
@@ -232,6 +283,11 @@ impl Walk<'_> {
             self.target(start + offset, numbers)?;
         }
         Ok(())
+    }
+
+    /// Notes a part of the info that is walked over.
+    fn met(&mut self, note: impl FnOnce(&mut PartsAt)) {
+        note(&mut self.contents.last_mut().unwrap().last_mut().unwrap().of);
     }
 
     fn target(&mut self, at: usize, numbers: Option<usize>) -> Result<(), Stop> {
@@ -253,6 +309,11 @@ impl Walk<'_> {
         let (curve, key_count) = if curve > 2 { (0, 0) } else { (curve, key_count) };
         self.word(curve)?;
         self.word(key_count)?;
+        self.met(|of| {
+            if let PartsAt::Targets(targets) = of {
+                targets.push(TargetAt { start, curve, key_count, keys: at });
+            }
+        });
         for _ in 0..key_count {
             at = self.bits(at)?;
             match curve {
@@ -280,6 +341,11 @@ impl Walk<'_> {
         }
         let base_count = self.number(start + 8, 4)?;
         let mut at = start + 16;
+        self.met(|of| {
+            if let PartsAt::Data(data) = of {
+                data.push(DatumAt { base_count, values: at });
+            }
+        });
         if at + 12 * base_count > self.section.len() {
             self.asked = self.asked.max(4 * base_count);
         }

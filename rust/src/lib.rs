@@ -41,11 +41,16 @@ pub mod ui2d {
     }
 }
 
+pub mod calls;
+pub mod change;
 pub mod chars;
 pub mod comparison;
+pub mod editor;
 pub mod guarded;
+pub mod journal;
 pub mod judging;
 pub mod layout;
+pub mod machine;
 pub mod proved;
 pub mod random;
 pub mod reader;
@@ -55,6 +60,7 @@ pub mod round_trips;
 pub mod sample;
 pub mod sample_records;
 pub mod sections;
+pub mod trials;
 pub mod writer;
 pub mod writing;
 

@@ -3,6 +3,8 @@
 use crate::reader::Reader;
 use crate::writer::Writer;
 
+mod edits;
+
 unsafe extern "C" {
     fn nnbfl_decoded_len(text: *const u8, text_len: usize) -> usize;
     fn nnbfl_decode_into(text: *const u8, text_len: usize, out: *mut u8, out_len: usize, at: usize) -> usize;

@@ -392,7 +392,8 @@ impl Maker {
         self.random.below(most + 1)
     }
 
-    fn half(&mut self) -> u16 {
+    /// A number of two bytes, those at the edges likelier.
+    pub fn half(&mut self) -> u16 {
         match self.random.below(4) {
             0 => 0,
             1 => self.random.below(300) as u16,
@@ -1054,6 +1055,14 @@ pub mod speed {
         let contents = (0..1_500).map(|_| mixed(random)).collect();
         shapes.push(("a mixture", Shape { textures: names(random, 3_000), ..of(contents) }));
         shapes
+    }
+
+    /// One info of 255 extended data, and nothing else: the way to the last goes over all.
+    pub fn one_extended_info() -> Vec<u8> {
+        let random = &mut Random(20_261_116);
+        let infos = vec![extended(random, 255, 2)];
+        let contents = vec![content(random, 2, infos)];
+        written(&Shape { contents, ..Shape::default() })
     }
 
     /// The sections, as the writer writes them.

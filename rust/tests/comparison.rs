@@ -173,7 +173,7 @@ fn placed_as_the_writer_writes() {
     }
 }
 
-/// Every NaN comes through the reference's `f32` with its bits, as do the patterns around them.
+/// Every NaN comes through the reference's `f32` with its bits, as do the patterns around them, in reading and in writing.
 #[test]
 fn every_nan_keeps_its_bits() {
     let mut patterns = (0x7F7F_FFF0..=0x7FFF_FFFF).chain(0xFF7F_FFF0..=0xFFFF_FFFF).peekable();
@@ -187,6 +187,8 @@ fn every_nan_keeps_its_bits() {
         let section = compare::sections::one_target(*b"FLPA", target);
         let flat = reference(&section).unwrap();
         assert!(flat.words[13..] == keys);
+        let Ok(BflanSections::PaneAnimInfo(info)) = parse(&section) else { panic!("{} keys", keys.len()) };
+        assert!(serialize(&info) == section);
     }
 }
 

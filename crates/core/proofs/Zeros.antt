@@ -10,7 +10,7 @@ use native.Mathlib.Omega.{arith}
 use borrow.Author.Tests.{eq-eqb, ne-eqb, eqb-true, eqb-false, ltb-true, ltb-false, lt-ltb, leb-true, leb-false}
 use lib.Dec.{eqb, ltb, leb}
 use lib.ListN.{length, getD, take, drop, length-append, length-take, length-drop, take-append-drop, drop-of-length-le}
-use lib.Seq.{drop-cons, drop-drop, getD-drop}
+use lib.Seq.{drop-cons, drop-drop}
 use Rattle.core.specs.Choice.{pick}
 use Rattle.core.specs.Text.{beforeZero, zeroFree, fixedOf, endedOf}
 use Rattle.core.specs.declared.text.TextAt.the-variants.{Text, Past, Unended}
@@ -179,38 +179,6 @@ zero-in-four s at true true true i j k h l m ex ey ez ei ej ek =
     let q : at + 8 + 8 ≤ beforeZero s = block-free s (at + 8) 8 p (omega arith) (sym ey) in
     let f : at + 16 + 8 ≤ beforeZero s = block-free s (at + 16) 8 (omega (arith, q)) (omega arith) (sym ez) in
     (omega (arith, a, b, c, f), omega (arith, a, b, c, m))
-
--- a turn of a loop that counts the bytes before a zero: `one` is what a byte more counts, 0 behind a zero
-counting-off : (z k n one : ℕ) → z ≤ k → n ≡ min k z → (n + 0 ≡ min (k + 1) z) × (0 ≡ min 1 (suc z - (k + 1)))
-counting-off z k n one h e = (omega arith, omega arith)
-
-counting-on : (z k n one : ℕ) → (k ≡ z → ⊥) → n ≡ min k z → one ≡ min 1 (suc z - k) → (n + one ≡ min (k + 1) z) × (one ≡ min 1 (suc z - (k + 1)))
-counting-on z k n one x en eo = go (ltb k z) refl
-  where
-    go : (t : Bool) → ltb k z ≡ t → (n + one ≡ min (k + 1) z) × (one ≡ min 1 (suc z - (k + 1)))
-    go true q = let l = ltb-true k z q in let a : one ≡ 1 = omega arith in let b : n ≡ k = omega arith in (omega (arith, a, b, l), omega (arith, a, l))
-    go false q = let l = ltb-false k z q in let m : z < k = omega arith in let a : one ≡ 0 = omega (arith, eo, m) in let b : n ≡ z = omega (arith, en, m) in (omega (arith, a, b, m), omega (arith, a, m))
-
-pub count-turn : (s : List ℕ) (at k n one m : ℕ) → at + k < length s → n ≡ min k (beforeZero (drop at s)) → one ≡ min 1 (suc (beforeZero (drop at s)) - k)
-    → m ≡ pick (eqb (getD s (at + k) 0) 0) 0 one → (n + m ≡ min (k + 1) (beforeZero (drop at s))) × (m ≡ min 1 (suc (beforeZero (drop at s)) - (k + 1)))
-count-turn s at k n one m h en eo em = by-byte (getD s (at + k) 0) zeroed other
-  where
-    zeroed : getD s (at + k) 0 ≡ 0 → (n + m ≡ min (k + 1) (beforeZero (drop at s))) × (m ≡ min 1 (suc (beforeZero (drop at s)) - (k + 1)))
-    zeroed e = go (ltb k (beforeZero (drop at s))) refl
-      where
-        w : m ≡ 0
-        w = em ∙ rw (eq-eqb (getD s (at + k) 0) 0 e)
-
-        go : (t : Bool) → ltb k (beforeZero (drop at s)) ≡ t → (n + m ≡ min (k + 1) (beforeZero (drop at s))) × (m ≡ min 1 (suc (beforeZero (drop at s)) - (k + 1)))
-        go true q = absurd (free-at (drop at s) k (ltb-true k _ q) (rw getD-drop e))
-        go false q = rw w (counting-off (beforeZero (drop at s)) k n one (ltb-false k (beforeZero (drop at s)) q) en)
-
-    other : (getD s (at + k) 0 ≡ 0 → ⊥) → (n + m ≡ min (k + 1) (beforeZero (drop at s))) × (m ≡ min 1 (suc (beforeZero (drop at s)) - (k + 1)))
-    other e =
-        let w : m ≡ one = em ∙ rw (ne-eqb (getD s (at + k) 0) 0 e) in
-        let d = length-drop at s in
-        let x : k ≡ beforeZero (drop at s) → ⊥ = λ q. e (rw (← getD-drop at s k 0, q) (zero-at (drop at s) (omega (arith, d, h, q)))) in
-        rw w (counting-on (beforeZero (drop at s)) k n one x en eo)
 
 -- a turn of a loop that tests k bytes, of which it has tested i
 pub clear-turn : (s : List ℕ) (at k i : ℕ) (t all : Bool) → at + k ≤ length s → i < k → t && zeroFree (take (k - i) (drop (at + i) s)) ≡ all

@@ -1,7 +1,6 @@
 // Texts among bytes: where the first zero or the first fault stands, a field of fixed length, a text that ends at a zero.
 ghost use mathlib.Core.Path.{_≡_};
-ghost use Prim.Native.Nat.{_+_, _≤_, _<_, min};
-ghost use lib.Dec.{eqb};
+ghost use Prim.Native.Nat.{_+_, _*_, _≤_, _<_};
 ghost use lib.ListN.{length, take, drop};
 ghost use Rattle.core.specs.Choice.{pick};
 ghost use Rattle.core.specs.Text.{beforeZero, zeroFree, firstFault, fixedOf, endedOf};
@@ -48,27 +47,23 @@ fn clear_blocks(text: &[u8], from: usize, size: usize) -> usize
     at
 }
 
-fn unless_zero(b: u8, n: usize) -> usize
-    ensures { λ r. ⌜ r ≡ pick (eqb b 0) 0 n ⌝ }
+// Which half of the `2 * n` bytes from `at` on has the first zero: where it starts. Nothing branches on the answer: where a name ends is nothing
+// that a processor could foresee.
+fn half(text: &[u8], at: usize, n: usize) -> usize
+    requires { ⌜ (at + 2 * n ≤ length (now text)) × (at ≤ beforeZero (now text)) × (beforeZero (now text) < at + 2 * n) ⌝ }
+    ensures { λ r. ⌜ (r ≤ beforeZero (now (text .entry))) × (beforeZero (now (text .entry)) < r + n) × (r + n ≤ length (now (text .entry))) ⌝ }
 {
-    if b == 0 { 0 } else { n }
+    if clear_in(text, at, n) { at + n } else { at }
 }
 
-// How many of the 8 bytes from `at` on stand before the first zero among them. It is counted, with no test on the way: where a name ends
-// is nothing that a processor could foresee.
-fn clear_bytes(text: &[u8], at: usize) -> usize
-    requires { ⌜ at + 8 ≤ length (now text) ⌝ }
-    ensures { λ r. ⌜ r ≡ min 8 (beforeZero (drop at (now (text .entry)))) ⌝ }
+// The first zero, where it is among the 8 bytes from `at` on.
+fn zero_in(text: &[u8], at: usize) -> usize
+    requires { ⌜ (at ≤ beforeZero (now text)) × (beforeZero (now text) < at + 8) × (at + 8 ≤ length (now text)) ⌝ }
+    ensures { λ r. ⌜ r ≡ beforeZero (now (text .entry)) ⌝ }
 {
-    let mut n: usize = 0;
-    let mut one: usize = 1;
-    let mut k: usize = 0;
-    while k < 8 {
-        one = unless_zero(text[at + k], one);
-        n += one;
-        k += 1;
-    }
-    n
+    let a = half(text, at, 4);
+    let b = half(text, a, 2);
+    half(text, b, 1)
 }
 
 fn eight_if(test: bool) -> usize
@@ -78,7 +73,7 @@ fn eight_if(test: bool) -> usize
 }
 
 // Where the 8 of the 32 bytes from `at` on start that have the first zero. The blocks are tested side by side and those before it added up,
-// again with no test on the way.
+// again with no branch.
 fn zero_block(text: &[u8], at: usize) -> usize
     requires { ⌜ (at + 32 ≤ length (now text)) × (at ≤ beforeZero (now text)) × (beforeZero (now text) < at + 32) ⌝ }
     ensures { λ r. ⌜ (r ≤ beforeZero (now (text .entry))) × (beforeZero (now (text .entry)) < r + 8) × (r + 8 ≤ length (now (text .entry))) ⌝ }
@@ -108,21 +103,15 @@ fn zero_from(text: &[u8], at: usize) -> usize
 pub fn first_zero(text: &[u8]) -> usize
     ensures { λ r. ⌜ r ≡ beforeZero (now (text .entry)) ⌝ }
 {
-    let n = text.len();
-    if n < 8 {
-        return zero_from(text, 0);
-    }
     let far = clear_blocks(text, 0, 32);
-    if 32 <= n - far {
-        let block = zero_block(text, far);
-        return block + clear_bytes(text, block);
+    if 32 <= text.len() - far {
+        return zero_in(text, zero_block(text, far));
     }
     let near = clear_blocks(text, far, 8);
-    let last = n - 8;
-    if near < last {
-        return near + clear_bytes(text, near);
+    if 8 <= text.len() - near {
+        return zero_in(text, near);
     }
-    last + clear_bytes(text, last)
+    zero_from(text, near)
 }
 
 // Where the first zero or the first ill-formed subpart stands, whichever is earlier; the length, where there is neither.

@@ -12,6 +12,7 @@ use crate::fill::copy_on;
 use crate::utf8::class::CLASSES;
 use crate::utf8::class::class_in;
 use crate::utf8::flow::ROWS;
+use crate::utf8::flow::flow_over;
 use crate::utf8::scan::is_ascii;
 use crate::utf8::scan::next_run;
 use crate::utf8::step::Step;
@@ -132,12 +133,36 @@ fn decode_runs(
     }
 }
 
+// Whether a short text is well-formed, by one way through the automaton.
+fn short_sound(text: &[u8], classes: &[u8; 256], rows: &[u64; 16]) -> bool
+    requires { ⌜ Classes (now classes) × Rows (now rows) ⌝ }
+    ensures { λ r. ⌜ (r ≡ true → sound (now (text .entry)) ≡ length (now (text .entry))) ⌝ }
+{
+    let n = text.len();
+    if 64 < n {
+        return false;
+    }
+    flow_over(text, 0, n, 0, classes, rows) % 64 == 0
+}
+
+// A short text is looked at as a whole first: names are well-formed.
+fn decode_by(text: &[u8], out: &mut [u8], at: usize, classes: &[u8; 256], rows: &[u64; 16]) -> usize
+    requires { ⌜ Classes (now classes) × Rows (now rows) ⌝ }
+    ensures { λ r. ⌜ (r ≡ decodedSize (now (text .entry))) × (now (out .exit) ≡ sets (now (out .entry)) at (decode (now (text .entry)))) ⌝ }
+{
+    if short_sound(text, classes, rows) {
+        copy(text, out, at);
+        return text.len();
+    }
+    decode_runs(text, out, at, classes, rows)
+}
+
 fn decode_mixed(text: &[u8], out: &mut [u8], at: usize) -> usize
     ensures { λ r. ⌜ (r ≡ decodedSize (now (text .entry))) × (now (out .exit) ≡ sets (now (out .entry)) at (decode (now (text .entry)))) ⌝ }
 {
     let classes = CLASSES;
     let rows = ROWS;
-    decode_runs(text, out, at, &classes, &rows)
+    decode_by(text, out, at, &classes, &rows)
 }
 
 // How many bytes the text decodes to: it is decoded into nothing.

@@ -1,18 +1,23 @@
 //! Times the proved code beside the Rust, on the same bytes in the same program: the best of many repetitions, in bytes of
-//! input a second. Usage: benchmark [texts|sections|records] [SECONDS a cell]; without a part, all.
+//! input a second. Usage: benchmark [texts|sections|records|edits] [SECONDS a cell]; without a part, all.
 //!
 //! texts: the decoding beside Rust's own. sections: reading beside the reference's `BflanSections::parse`. records: writing
-//! beside the reference's `BflanSectionsRef::serialize`, in bytes of the section.
+//! beside the reference's `BflanSectionsRef::serialize`, in bytes of the section. edits: an edit beside a reading of the same
+//! section, and an undo.
 use std::hint::black_box;
 use std::time::{Duration, Instant};
 
 use compare::bflan::file::BflanSections;
+use compare::change::{Change, NewKey};
 use compare::chars::{WORDS, char_of_len, damage, push, push_char};
+use compare::editor::Editor;
+use compare::journal::ENTRY_WORDS;
+use compare::layout::{InfoAt, PartsAt, Rules, walk};
 use compare::proved::{self, Proved};
 use compare::random::Random;
 use compare::reader::Reader;
-use compare::record::flat;
-use compare::sections::speed;
+use compare::record::{LIMIT, flat};
+use compare::sections::{content_p, speed};
 use compare::writer::Writer;
 use compare::{parse, serialize};
 
@@ -118,6 +123,12 @@ fn best_of(budget: Duration, mut pass: impl FnMut() -> Duration) -> f64 {
     least
 }
 
+/// The shortest time of one call, by passes of as many as are worth timing.
+fn best_call(budget: Duration, mut call: impl FnMut()) -> f64 {
+    let calls = (2e-4 / best(Duration::ZERO, &mut call).max(1e-9)).ceil();
+    best(budget, || (0..calls as usize).for_each(|_| call())) / calls
+}
+
 fn main() {
     let mut args = std::env::args().skip(1).peekable();
     let part = args.next_if(|a| a.parse::<f64>().is_err());
@@ -133,11 +144,13 @@ fn main() {
             texts(budget);
             sections(budget);
             records(budget);
+            edits(budget);
         }
         Some("texts") => texts(budget),
         Some("sections") => sections(budget),
         Some("records") => records(budget),
-        Some(part) => panic!("{part}: none of texts, sections, records"),
+        Some("edits") => edits(budget),
+        Some(part) => panic!("{part}: none of texts, sections, records, edits"),
     }
 }
 
@@ -216,6 +229,83 @@ fn records(budget: Duration) {
             size / serialized,
             serialized / write
         );
+    }
+    println!();
+}
+
+/// The change of a key or an extended value: of one in the middle of the section, or of its last.
+fn change_at(contents: &[Vec<InfoAt>], last: bool) -> Option<Change> {
+    let place = |count: usize| if last { count - 1 } else { count / 2 };
+    let filled: Vec<usize> = (0..contents.len()).filter(|&c| !contents[c].is_empty()).collect();
+    if filled.is_empty() {
+        return None;
+    }
+    let content = filled[place(filled.len())];
+    let info = place(contents[content].len());
+    let pi = std::f32::consts::PI.to_bits();
+    match &contents[content][info].of {
+        PartsAt::Targets(targets) => {
+            let at = place(targets.len());
+            let new = match targets[at].curve {
+                0 => NewKey::Constant(pi),
+                1 => NewKey::Step { frame: pi, value: 1 },
+                _ => NewKey::Hermite { frame: pi, value: pi, slope: pi },
+            };
+            Some(Change::Key([content, info, at, place(targets[at].key_count)], new))
+        }
+        PartsAt::Data(data) => {
+            let at = place(data.len());
+            Some(Change::Value([content, info, at, place(3), place(data[at].base_count)], pi))
+        }
+    }
+}
+
+/// Edits each section beside reading it, into tables that fit and into none; and takes an edit back.
+fn edits(budget: Duration) {
+    println!(
+        "Times in microseconds, of an undo in nanoseconds. \"measured\" is a read into empty tables, which is refused"
+    );
+    println!("with what it needs. A ratio is the edit's time divided by the read's and by the measured one's.\n");
+    println!(
+        "| one section | MB | read | measured | last key | ratios | key in the middle | ratios | frame count | ratios | undo |"
+    );
+    println!("|---|---|---|---|---|---|---|---|---|---|---|");
+    let mut sections = speed::sections();
+    sections.insert(0, ("content `P`", content_p()));
+    sections.push(("one info of 255 extended data", speed::one_extended_info()));
+    let mut longest = content_p();
+    longest.resize(LIMIT, 0);
+    sections.push(("content `P`, with zeros to the limit", longest));
+    for (name, mut section) in sections {
+        let mut answer = [0; 3];
+        let measured = best_call(budget, || Proved.read(black_box(&section), &mut [], &mut [], &mut answer));
+        let [5, words, texts] = answer else { panic!("{name}: {answer:?}") };
+        let (mut words, mut texts) = (vec![1u32; words], vec![1u8; texts]);
+        let read = best_call(budget, || {
+            Proved.read(black_box(&section), &mut words, &mut texts, &mut answer);
+            black_box((&words, &texts));
+        });
+        assert_eq!(answer[0], 0);
+        let contents = walk(&section, &Rules::DOCUMENT, usize::MAX).unwrap().contents;
+        let mut journal = [0; ENTRY_WORDS];
+        let mut cells = vec![format!("{:.1}", section.len() as f64 / 1e6)];
+        cells.extend([read, measured].map(|time| format!("{:.3}", time * 1e6)));
+        let frame_count = Some(Change::FrameCount(7));
+        for change in [change_at(&contents, true), change_at(&contents, false), frame_count] {
+            let Some(change) = change else {
+                cells.extend(["-".to_owned(), "-".to_owned()]);
+                continue;
+            };
+            let time =
+                best_call(budget, || Proved.edit(black_box(&mut section), &mut journal, 0, &change, &mut answer));
+            assert_eq!(answer, [0, 1, 0], "{name}: {change:?}");
+            cells.push(format!("{:.3}", time * 1e6));
+            cells.push(format!("{:.2}, {:.2}", time / read, time / measured));
+        }
+        let undo = best_call(budget, || Proved.undo(black_box(&mut section), &mut journal, 1, &mut answer));
+        assert_eq!(answer, [0, 0, 0]);
+        cells.push(format!("{:.1}", undo * 1e9));
+        println!("| {name} | {} |", cells.join(" | "));
     }
     println!();
 }

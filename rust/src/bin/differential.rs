@@ -1,20 +1,27 @@
-//! Compares the proved code with the Rust. Usage: differential [texts|sections|records] [SEED] [MILLIONS]; without a part, all.
+//! Compares the proved code with the Rust. Usage: differential [texts|sections|records] [SEED] [MILLIONS], or differential edits
+//! [SEED] [CALLS]; without a part, all.
 //!
 //! texts: the decoding with `String::from_utf8_lossy` and `std::str::from_utf8`: every text of up to three bytes, and some
 //! millions of longer ones. sections: reading with the reference's `BflanSections::parse`, on some millions of sections.
-//! records: writing with the reference's `BflanSectionsRef::serialize`, on some millions of records.
+//! records: writing with the reference's `BflanSectionsRef::serialize`, on some millions of records. edits: edits and undos
+//! with document 01's plain machine and the reference's writing and reading of its record, and as many calls on sections,
+//! journals and counts of any kind.
 use std::process::ExitCode;
 
 use compare::chars::{WORDS, boundary_pieces, char_of_len, damage, push, push_char};
 use compare::comparison::Comparison;
 use compare::proved::{self, Proved};
 use compare::random::Random;
+use compare::trials::Trials;
 use compare::writing::Writing;
 
 /// What stands in an output before a call, and must still stand where the call may not write.
 const GUARD: u8 = 0xA5;
 /// How many bytes of it stand on each side of an output.
 const MARGIN: usize = 40;
+
+/// The edits and undos that are tried beside the machine, without a number of them.
+const CALLS: u64 = 1_000_000;
 
 /// One kind of text: how many were looked at, and what they held.
 #[derive(Default)]
@@ -239,13 +246,17 @@ fn main() -> ExitCode {
     let part = args.next_if(|a| a.parse::<u64>().is_err());
     let mut number = |otherwise: u64| args.next().map_or(otherwise, |a| a.parse().expect("a number"));
     let seed = number(20_261_031);
-    let millions = number(5);
+    let mut millions = || number(5);
     let differences = match part.as_deref() {
-        None => texts(seed, millions) + sections(seed, millions) + records(seed, millions),
-        Some("texts") => texts(seed, millions),
-        Some("sections") => sections(seed, millions),
-        Some("records") => records(seed, millions),
-        Some(part) => panic!("{part}: none of texts, sections, records"),
+        None => {
+            let millions = millions();
+            texts(seed, millions) + sections(seed, millions) + records(seed, millions) + changes(seed, CALLS)
+        }
+        Some("texts") => texts(seed, millions()),
+        Some("sections") => sections(seed, millions()),
+        Some("records") => records(seed, millions()),
+        Some("edits") => changes(seed, number(CALLS)),
+        Some(part) => panic!("{part}: none of texts, sections, records, edits"),
     };
     if differences == 0 { ExitCode::SUCCESS } else { ExitCode::FAILURE }
 }
@@ -259,6 +270,7 @@ fn sections(seed: u64, millions: u64) -> u64 {
     comparison.differences
 }
 
+/// Records beside the reference.
 fn records(seed: u64, millions: u64) -> u64 {
     println!("seed {seed}, {millions} million records");
     let mut writing = Writing::new(&Proved, &Proved, seed);
@@ -266,6 +278,16 @@ fn records(seed: u64, millions: u64) -> u64 {
     writing.shrink();
     writing.print();
     writing.differences
+}
+
+/// Edits and undos beside document 01.
+fn changes(seed: u64, calls: u64) -> u64 {
+    println!("seed {seed}, {calls} calls beside the machine, and as many on any bytes");
+    let mut trials = Trials::new(&Proved, seed);
+    trials.run(seed, calls);
+    trials.shrink();
+    trials.print();
+    trials.differences
 }
 
 fn texts(seed: u64, millions: u64) -> u64 {

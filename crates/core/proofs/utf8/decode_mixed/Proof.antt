@@ -8,9 +8,9 @@ use borrow.Author.Needs.{needs}
 use Rattle.core.proofs.utf8.decode_mixed.Statement.{statement}
 use Rattle.core.proofs.utf8.decode_mixed.Tie as tie
 
-decode-runs-requires : tie.Need-decode-runs-requires
+decode-by-requires : tie.Need-decode-by-requires
 unfolding classTest rowTest sample byteClass classOf rows within stateAfter
-decode-runs-requires c κs = (classes-by _ refl tt, rows-by _ tt)
+decode-by-requires c κs = (classes-by _ refl tt, rows-by _ tt)
 
 same-length : tie.Need-same-length
 same-length c = search needs
@@ -19,4 +19,4 @@ returns : tie.Need-returns
 returns c = search needs
 
 pub decode-mixed-spec : {M : Type 1} → statement M
-decode-mixed-spec = tie.close (tie.spec decode-runs-requires same-length returns)
+decode-mixed-spec = tie.close (tie.spec decode-by-requires same-length returns)
