@@ -193,14 +193,19 @@ fn sections(budget: Duration) {
 }
 
 /// Writes the record of each section by both. Ours is given the flat record; what is timed is the whole call, the judging
-/// included, into an output that was made and touched before. The reference is given its tree, and what is timed is
+/// included, into an output that was made and touched before; and the judging alone, with no output. The reference is given its tree, and what is timed is
 /// `serialize` with the writer that it makes: the buffer that grows, and the name that it keeps of each part it begins. The
 /// buffer is its result, which is dropped within the time, or not.
 fn records(budget: Duration) {
-    println!("nnbfl_write judges a flat record and fills an output that was made and touched before. A ratio is the");
-    println!("reference's time divided by the writer's: above 1, the writer takes less.\n");
-    println!("| the record of | MB | write | serialize | ratio | serialize, not dropped | ratio |");
-    println!("|---|---|---|---|---|---|---|");
+    println!(
+        "nnbfl_write judges a flat record and fills an output that was made and touched before; \"judged\" is the call"
+    );
+    println!(
+        "with an output of no length, which is refused. A ratio is the reference's time divided by the writer's: above"
+    );
+    println!("1, the writer takes less.\n");
+    println!("| the record of | MB | write | of it judged | serialize | ratio | serialize, not dropped | ratio |");
+    println!("|---|---|---|---|---|---|---|---|");
     for (name, section) in speed::sections() {
         let Ok(BflanSections::PaneAnimInfo(tree)) = parse(&section) else { panic!("{name}") };
         let record = flat(&tree);
@@ -211,6 +216,10 @@ fn records(budget: Duration) {
             black_box(&out);
         });
         assert!(answer == [0, section.len(), 0] && out == section, "{name}");
+        let judged = best(budget, || {
+            Proved.write(black_box(&record.words), black_box(&record.texts), &mut [], &mut answer);
+        });
+        assert_eq!(answer, [9, section.len(), 0], "{name}");
         let whole = best(budget, || drop(black_box(serialize(black_box(&tree)))));
         let serialized = best_of(budget, || {
             let start = Instant::now();
@@ -221,9 +230,10 @@ fn records(budget: Duration) {
         });
         let size = section.len() as f64 / 1e9;
         println!(
-            "| {name} | {:.1} | {:.3} | {:.3} | {:.2} | {:.3} | {:.2} |",
+            "| {name} | {:.1} | {:.3} | {:.1} % | {:.3} | {:.2} | {:.3} | {:.2} |",
             size * 1e3,
             size / write,
+            100.0 * judged / write,
             size / whole,
             whole / write,
             size / serialized,
