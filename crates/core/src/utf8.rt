@@ -9,6 +9,7 @@ ghost use Rattle.core.specs.Flow.{Rows};
 use crate::fill::ahead;
 use crate::fill::copy;
 use crate::fill::copy_on;
+use crate::number::total;
 use crate::utf8::class::CLASSES;
 use crate::utf8::class::class_in;
 use crate::utf8::flow::ROWS;
@@ -22,18 +23,6 @@ pub mod class;
 mod flow;
 pub(crate) mod scan;
 pub mod step;
-
-const MOST: usize = 18446744073709551615;
-
-// A sum, or the largest number where that does not hold it.
-fn total(a: usize, b: usize) -> usize
-    ensures { λ r. ⌜ r ≡ min (a + b) 18446744073709551615 ⌝ }
-{
-    if b <= MOST - a {
-        return a + b;
-    }
-    MOST
-}
 
 fn put_clipped(out: &mut [u8], at: usize) -> usize
     ensures { λ r. ⌜ (now (out .exit) ≡ sets (now (out .entry)) at replacement) × (r ≡ at + min 3 (length (now (out .entry)) - at)) ⌝ }
