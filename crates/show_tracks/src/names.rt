@@ -86,8 +86,7 @@ pub(crate) fn say_letters(word: u32) {
     say_letters_name(word);
 }
 
-// The name of target n below letters.
-pub(crate) fn say_target(word: u32, n: u32) {
+fn say_target_name(word: u32, n: u32) {
     match word {
         letters::FLCC => say_name(
             b"TranslateX TranslateY TranslateZ RotateX RotateY RotateZ LeftTopRed LeftTopGreen LeftTopBlue LeftTopAlpha \
@@ -153,4 +152,10 @@ pub(crate) fn say_target(word: u32, n: u32) {
         letters::FVGA => say_name(b"Time", n),
         _ => say(b"Invalid"),
     }
+}
+
+// The name of target n below letters, behind a blank.
+pub(crate) fn say_target(word: u32, n: u32) {
+    say(b" ");
+    say_target_name(word, n);
 }

@@ -27,8 +27,9 @@ struct Walk {
 // A place: the content, the info, and the target or the extended datum.
 struct Place(usize, usize, usize);
 
-// Word i. (A record that was read has all the words that are asked for.)
-fn word(words: &[u32], i: usize) -> u32 {
+// Word k behind `at`. (A record that was read has all the words that are asked for.)
+fn word(words: &[u32], at: usize, k: usize) -> u32 {
+    let i = wrapping_add_usize(at, k);
     if i < words.len() {
         return words[i];
     }
@@ -36,8 +37,19 @@ fn word(words: &[u32], i: usize) -> u32 {
 }
 
 // The same as a count.
-fn many(words: &[u32], i: usize) -> usize {
-    word(words, i) as usize
+fn many(words: &[u32], at: usize, k: usize) -> usize {
+    word(words, at, k) as usize
+}
+
+// A text, and the word as a number behind it.
+fn say_word(before: &[u8], words: &[u32], at: usize, k: usize) {
+    say_number(before, many(words, at, k));
+}
+
+// A text, and the word as a float behind it.
+fn say_float_at(before: &[u8], words: &[u32], at: usize, k: usize) {
+    say(before);
+    say_float(word(words, at, k));
 }
 
 fn say_yes(n: u32) {
@@ -49,11 +61,11 @@ fn say_yes(n: u32) {
 }
 
 fn section_line(words: &[u32]) {
-    say_number(b"section: frames ", many(words, 0));
+    say_word(b"section: frames ", words, 0, 0);
     say(b", looping ");
-    say_yes(word(words, 1));
-    say_number(b", textures ", many(words, 2));
-    say_number(b", contents ", many(words, 3));
+    say_yes(word(words, 0, 1));
+    say_word(b", textures ", words, 0, 2);
+    say_word(b", contents ", words, 0, 3);
     say(b"\n");
 }
 
@@ -77,32 +89,24 @@ fn textures(section: &[u8], count: usize, scratch: &mut [u8]) {
     }
 }
 
-// A key's numbers behind a blank, and the place behind it.
+// A key behind a blank; gives the place behind its words.
 fn constant(words: &[u32], at: usize) -> usize {
-    say(b" (");
-    say_float(word(words, at));
+    say_float_at(b" (", words, at, 0);
     say(b")");
     wrapping_add_usize(at, 1)
 }
 
 fn step(words: &[u32], at: usize) -> usize {
-    let value = wrapping_add_usize(at, 1);
-    say(b" (");
-    say_float(word(words, at));
-    say_number(b", ", many(words, value));
+    say_float_at(b" (", words, at, 0);
+    say_word(b", ", words, at, 1);
     say(b")");
     wrapping_add_usize(at, 2)
 }
 
 fn hermite(words: &[u32], at: usize) -> usize {
-    let value = wrapping_add_usize(at, 1);
-    let slope = wrapping_add_usize(at, 2);
-    say(b" (");
-    say_float(word(words, at));
-    say(b", ");
-    say_float(word(words, value));
-    say(b", ");
-    say_float(word(words, slope));
+    say_float_at(b" (", words, at, 0);
+    say_float_at(b", ", words, at, 1);
+    say_float_at(b", ", words, at, 2);
     say(b")");
     wrapping_add_usize(at, 3)
 }
@@ -137,17 +141,17 @@ fn say_place(kind: &[u8], place: Place, name: &[u8]) {
 
 // The layer, the curve and the number of keys of the target whose words begin at `at`.
 fn say_curve_of(words: &[u32], at: usize) {
-    say_number(b", layer ", many(words, at));
+    say_word(b", layer ", words, at, 0);
     say(b", ");
-    say_curve(word(words, wrapping_add_usize(at, 2)));
-    say_number(b", keys ", many(words, wrapping_add_usize(at, 3)));
+    say_curve(word(words, at, 2));
+    say_word(b", keys ", words, at, 3);
     say(b":");
 }
 
 // A target's keys and the end of its line; gives the place behind its words.
 fn say_keys(words: &[u32], at: usize) -> usize {
-    let curve = word(words, wrapping_add_usize(at, 2));
-    let count = many(words, wrapping_add_usize(at, 3));
+    let curve = word(words, at, 2);
+    let count = many(words, at, 3);
     let end = keys(words, curve, count, wrapping_add_usize(at, 4));
     say(b"\n");
     end
@@ -156,8 +160,7 @@ fn say_keys(words: &[u32], at: usize) -> usize {
 fn target(words: &[u32], place: Place, name: &[u8], letters: u32, at: usize) -> usize {
     say_place(b"track ", place, name);
     say_letters(letters);
-    say(b" ");
-    say_target(letters, word(words, wrapping_add_usize(at, 1)));
+    say_target(letters, word(words, at, 1));
     say_curve_of(words, at);
     say_keys(words, at)
 }
@@ -181,12 +184,13 @@ fn targets(
     at
 }
 
-// A value of a list, behind the one before it.
-fn value(words: &[u32], at: usize, first: bool) {
-    if !first {
-        say(b", ");
+// Value i of a list, behind the one before it.
+fn value(words: &[u32], start: usize, i: usize) {
+    if i == 0 {
+        say_float_at(b"", words, start, i);
+    } else {
+        say_float_at(b", ", words, start, i);
     }
-    say_float(word(words, at));
 }
 
 // A list of extended data; gives the place behind it.
@@ -194,7 +198,7 @@ fn values(words: &[u32], count: usize, start: usize) -> usize {
     let mut i = 0;
     say(b" [");
     while i < count {
-        value(words, wrapping_add_usize(start, i), i == 0);
+        value(words, start, i);
         i += 1;
     }
     say(b"]");
@@ -203,18 +207,18 @@ fn values(words: &[u32], count: usize, start: usize) -> usize {
 
 // The five header fields of an extended datum, by the Rust's names.
 fn say_header(words: &[u32], at: usize) {
-    say_number(b", header_size ", many(words, at));
-    say_number(b", unk_1 ", many(words, wrapping_add_usize(at, 1)));
-    say_number(b", unk_2 ", many(words, wrapping_add_usize(at, 2)));
-    say_number(b", base_count ", many(words, wrapping_add_usize(at, 3)));
-    say_number(b", unk_3 ", many(words, wrapping_add_usize(at, 4)));
+    say_word(b", header_size ", words, at, 0);
+    say_word(b", unk_1 ", words, at, 1);
+    say_word(b", unk_2 ", words, at, 2);
+    say_word(b", base_count ", words, at, 3);
+    say_word(b", unk_3 ", words, at, 4);
     say(b":");
 }
 
 // The three lists of an extended datum and the end of its line; gives the place behind its words, the last of which is the key's
 // length.
 fn say_values(words: &[u32], at: usize) -> usize {
-    let count = many(words, wrapping_add_usize(at, 3));
+    let count = many(words, at, 3);
     let second = values(words, count, wrapping_add_usize(at, 5));
     let third = values(words, count, second);
     let end = values(words, count, third);
@@ -279,9 +283,10 @@ fn info(
     walk: Walk,
     scratch: &mut [u8],
 ) -> Walk {
-    let letters = word(words, walk.at);
-    let count = many(words, wrapping_add_usize(walk.at, 1));
-    let at = wrapping_add_usize(walk.at, 2);
+    let start = walk.at;
+    let letters = word(words, start, 0);
+    let count = many(words, start, 1);
+    let at = wrapping_add_usize(start, 2);
     let text = walk.text;
     if letters == FLEU {
         info_line(content, number, letters, b", data ", count);
@@ -325,8 +330,8 @@ fn content_line(words: &[u32], number: usize, name: &[u8], source: usize, at: us
     say(b": ");
     say_found(name, source);
     say(b", ");
-    say_type(word(words, wrapping_add_usize(at, 1)));
-    say_number(b", infos ", many(words, wrapping_add_usize(at, 2)));
+    say_type(word(words, at, 1));
+    say_word(b", infos ", words, at, 2);
     say(b"\n");
 }
 
@@ -343,7 +348,7 @@ fn named(
     let at = walk.at;
     let text = walk.text;
     content_line(words, number, name, source, at);
-    let count = many(words, wrapping_add_usize(at, 2));
+    let count = many(words, at, 2);
     let next = Walk {
         at: wrapping_add_usize(at, 3),
         text: wrapping_add_usize(text, 1),
@@ -370,11 +375,11 @@ fn contents(section: &[u8], words: &[u32], count: usize, start: Walk, scratch: &
 // The lines of a section whose record is in the words. The scratch has room for each of its texts.
 pub(crate) fn show(section: &[u8], words: &[u32], scratch: &mut [u8]) {
     section_line(words);
-    let names = many(words, 2);
+    let names = many(words, 0, 2);
     textures(section, names, scratch);
     let start = Walk {
         at: wrapping_add_usize(names, 4),
         text: names,
     };
-    contents(section, words, many(words, 3), start, scratch);
+    contents(section, words, many(words, 0, 3), start, scratch);
 }

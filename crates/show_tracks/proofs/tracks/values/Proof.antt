@@ -21,9 +21,6 @@ say-requires c κs = search needs
 loop-holds : tie.Need-loop-holds Inv-loop μ-loop
 loop-holds c = search needs
 
-wrapping-add-usize-requires : tie.Need-wrapping-add-usize-requires Inv-loop μ-loop
-wrapping-add-usize-requires c κs = search needs
-
 value-requires : tie.Need-value-requires Inv-loop μ-loop
 value-requires c κs = search needs
 
@@ -42,8 +39,8 @@ slice-aggregate-say-2 c = search needs
 say-requires-2 : tie.Need-say-requires-2 Inv-loop μ-loop
 say-requires-2 c κs = search needs
 
-wrapping-add-usize-requires-2 : tie.Need-wrapping-add-usize-requires-2 Inv-loop μ-loop
-wrapping-add-usize-requires-2 c κs = search needs
+wrapping-add-usize-requires : tie.Need-wrapping-add-usize-requires Inv-loop μ-loop
+wrapping-add-usize-requires c κs = search needs
 
 returns : tie.Need-returns Inv-loop μ-loop
 returns c = search needs
@@ -57,12 +54,11 @@ values-spec =
     slice-aggregate-say
     say-requires
     loop-holds
-    wrapping-add-usize-requires
     value-requires
     add-i
     loop-less
     loop-again
     slice-aggregate-say-2
     say-requires-2
-    wrapping-add-usize-requires-2
+    wrapping-add-usize-requires
     returns)
