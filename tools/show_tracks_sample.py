@@ -435,21 +435,34 @@ def float_sections():
 
 
 def edge_sections():
-    """Inputs of the longest length and one more, and records that fill the tables or have a word or a byte more."""
+    """Inputs of the longest length and one more, and records that fill a table or have a word or a byte more."""
     small = section(1, 0, [], [])
     for n in (LONGEST, LONGEST + 1, 3 * LONGEST):
         yield small + bytes(n - len(small))
-    # a record of 4 + 3 + 2 + 4 words and a word for each key
-    for n in (WORDS - 13, WORDS - 12):
-        yield section(1, 0, [], [content(b'F', 0, [info(b'FLAC', [target(0, 0, 0, [bits(k) for k in range(n)])])])])
-    # three textures at one text of bytes that each become U+FFFD
-    for n in (TEXT_BYTES // 9, TEXT_BYTES // 9 + 1):
-        yield b'pai1' + struct.pack('<IHBBHHIIII', 32 + n + 1, 1, 0, 0, 3, 0, 32, 12, 12, 12) + b'\xFF' * n + b'\0'
+    # two targets of one info at the same place: 4 + 3 + 2 + 2 * (4 + keys) words, and one for each texture
+    keys = target(0, 0, 0, [floats(k) for k in range(8183)])
+    twice = b'FLAC' + bytes([2, 0, 0, 0]) + struct.pack('<II', 16, 16) + keys
+    for textures in ([b'a'], [b'a', b'b']):
+        yield section(1, 0, textures, [content(b'F', 0, [twice])])
+    # two textures at one text of half the room, and a third at its last byte or its end
+    half = TEXT_BYTES // 2
+    for third in (half, half - 1):
+        yield (
+            b'pai1' + struct.pack('<IHBBHHIIII', 32 + half + 1, 1, 0, 0, 3, 0, 32, 12, 12, 12 + third) + b'x' * half + b'\0'
+        )
+    # many short texts, each of which is found by itself
+    yield section(1, 0, [b'\xFF'] * 10000, [])
+
+
+def names_section():
+    """A target of every number below every letters, and the numbers above."""
+    infos = [info(k.encode(), [target(0, n, 0, []) for n in range(len(names) + 2)]) for k, (_, names) in INFOS.items() if names]
+    return section(0, 1, [], [content(b'N', kind, infos) for kind in range(7)])
 
 
 def compare(program, count, seed):
     rng = random.Random(seed)
-    cases = [sample(), *float_sections(), *edge_sections()]
+    cases = [sample(), names_section(), *float_sections(), *edge_sections()]
     cases += [damaged(rng, random_section(rng)) for _ in range(count)]
     tally, wrong = {}, 0
     for n, data in enumerate(cases):

@@ -86,48 +86,76 @@ pub(crate) fn say_letters(word: u32) {
     say_letters_name(word);
 }
 
+// The longer lists have a function each.
+
+fn say_per_character_transform_curve(n: u32) {
+    say_name(
+        b"TranslateX TranslateY TranslateZ RotateX RotateY RotateZ LeftTopRed LeftTopGreen LeftTopBlue LeftTopAlpha \
+          LeftBottomRed LeftBottomGreen LeftBottomBlue LeftBottomAlpha ScaleX ScaleY",
+        n,
+    );
+}
+
+fn say_vertex_color(n: u32) {
+    say_name(
+        b"LeftTopRed LeftTopGreen LeftTopBlue LeftTopAlpha RightTopRed RightTopGreen RightTopBlue RightTopAlpha \
+          LeftBottomRed LeftBottomGreen LeftBottomBlue LeftBottomAlpha RightBottomRed RightBottomGreen RightBottomBlue \
+          RightBottomAlpha PaneAlpha",
+        n,
+    );
+}
+
+fn say_drop_shadow(n: u32) {
+    say_name(
+        b"StrokeSize StrokeColorRed StrokeColorGreen StrokeColorBlue StrokeColorAlpha OuterGlowColorRed \
+          OuterGlowColorGreen OuterGlowColorBlue OuterGlowColorAlpha OuterGlowSpread OuterGlowSize DropShadowColorRed \
+          DropShadowColorGreen DropShadowColorBlue DropShadowColorAlpha DropShadowAngle DropShadowDistance \
+          DropShadowSpread DropShadowSize",
+        n,
+    );
+}
+
+fn say_procedural_shape(n: u32) {
+    say_name(
+        b"ExpLeftTop ExpRightTop ExpLeftBottom ExpRightBottom RadiusLeftTop RadiusRightTop RadiusLeftBottom \
+          RadiusRightBottom InnerStrokeSize InnerStrokeColorRed InnerStrokeColorGreen InnerStrokeColorBlue \
+          InnerStrokeColorAlpha InnerShadowColorRed InnerShadowColorGreen InnerShadowColorBlue InnerShadowColorAlpha \
+          InnerShadowAngle InnerShadowDistance InnerShadowSize ColorOverlayColorRed ColorOverlayColorGreen \
+          ColorOverlayColorBlue ColorOverlayColorAlpha GradationOverlayControl0 GradationOverlayControl1 \
+          GradationOverlayControl2 GradationOverlayControl3 GradationOverlayColor0Red GradationOverlayColor0Green \
+          GradationOverlayColor0Blue GradationOverlayColor0Alpha GradationOverlayColor1Red GradationOverlayColor1Green \
+          GradationOverlayColor1Blue GradationOverlayColor1Alpha GradationOverlayColor2Red GradationOverlayColor2Green \
+          GradationOverlayColor2Blue GradationOverlayColor2Alpha GradationOverlayColor3Red GradationOverlayColor3Green \
+          GradationOverlayColor3Blue GradationOverlayColor3Alpha GradationOverlayAngle OuterShadowColorRed \
+          OuterShadowColorGreen OuterShadowColorBlue OuterShadowColorAlpha OuterShadowAngle OuterShadowDistance \
+          OuterShadowSize",
+        n,
+    );
+}
+
+fn say_material_color(n: u32) {
+    say_name(
+        b"BufferRed BufferGreen BufferBlue BufferAlpha Constant0Red Constant0Green Constant0Blue Constant0Alpha \
+          Color0Red Color0Green Color0Blue Color0Alpha Color1Red Color1Green Color1Blue Color1Alpha Color2Red \
+          Color2Green Color2Blue Color2Alpha Color3Red Color3Green Color3Blue Color3Alpha Color4Red Color4Green \
+          Color4Blue Color4Alpha",
+        n,
+    );
+}
+
 fn say_target_name(word: u32, n: u32) {
     match word {
-        letters::FLCC => say_name(
-            b"TranslateX TranslateY TranslateZ RotateX RotateY RotateZ LeftTopRed LeftTopGreen LeftTopBlue LeftTopAlpha \
-              LeftBottomRed LeftBottomGreen LeftBottomBlue LeftBottomAlpha ScaleX ScaleY",
-            n,
-        ),
+        letters::FLCC => say_per_character_transform_curve(n),
         letters::FLCT => say_name(b"EvalTimeOffset EvalTimeWidth", n),
         letters::FLPA => say_name(
             b"TranslateX TranslateY TranslateZ RotateX RotateY RotateZ ScaleX ScaleY SizeX SizeY",
             n,
         ),
-        letters::FLVC => say_name(
-            b"LeftTopRed LeftTopGreen LeftTopBlue LeftTopAlpha RightTopRed RightTopGreen RightTopBlue RightTopAlpha \
-              LeftBottomRed LeftBottomGreen LeftBottomBlue LeftBottomAlpha RightBottomRed RightBottomGreen RightBottomBlue \
-              RightBottomAlpha PaneAlpha",
-            n,
-        ),
+        letters::FLVC => say_vertex_color(n),
         letters::FLVI => say_name(b"Visibility", n),
-        letters::FLDS => say_name(
-            b"StrokeSize StrokeColorRed StrokeColorGreen StrokeColorBlue StrokeColorAlpha OuterGlowColorRed \
-              OuterGlowColorGreen OuterGlowColorBlue OuterGlowColorAlpha OuterGlowSpread OuterGlowSize DropShadowColorRed \
-              DropShadowColorGreen DropShadowColorBlue DropShadowColorAlpha DropShadowAngle DropShadowDistance \
-              DropShadowSpread DropShadowSize",
-            n,
-        ),
+        letters::FLDS => say_drop_shadow(n),
         letters::FLMT => say_name(b"TranslateX TranslateY Rotate ScaleX ScaleY", n),
-        letters::FLPS => say_name(
-            b"ExpLeftTop ExpRightTop ExpLeftBottom ExpRightBottom RadiusLeftTop RadiusRightTop RadiusLeftBottom \
-              RadiusRightBottom InnerStrokeSize InnerStrokeColorRed InnerStrokeColorGreen InnerStrokeColorBlue \
-              InnerStrokeColorAlpha InnerShadowColorRed InnerShadowColorGreen InnerShadowColorBlue InnerShadowColorAlpha \
-              InnerShadowAngle InnerShadowDistance InnerShadowSize ColorOverlayColorRed ColorOverlayColorGreen \
-              ColorOverlayColorBlue ColorOverlayColorAlpha GradationOverlayControl0 GradationOverlayControl1 \
-              GradationOverlayControl2 GradationOverlayControl3 GradationOverlayColor0Red GradationOverlayColor0Green \
-              GradationOverlayColor0Blue GradationOverlayColor0Alpha GradationOverlayColor1Red GradationOverlayColor1Green \
-              GradationOverlayColor1Blue GradationOverlayColor1Alpha GradationOverlayColor2Red GradationOverlayColor2Green \
-              GradationOverlayColor2Blue GradationOverlayColor2Alpha GradationOverlayColor3Red GradationOverlayColor3Green \
-              GradationOverlayColor3Blue GradationOverlayColor3Alpha GradationOverlayAngle OuterShadowColorRed \
-              OuterShadowColorGreen OuterShadowColorBlue OuterShadowColorAlpha OuterShadowAngle OuterShadowDistance \
-              OuterShadowSize",
-            n,
-        ),
+        letters::FLPS => say_procedural_shape(n),
         letters::FLWN => say_name(b"Top Bottom Left Right", n),
         letters::FSMA => say_name(b"PostToChild", n),
         letters::FLAC => say_name(b"CompareReference", n),
@@ -136,13 +164,7 @@ fn say_target_name(word: u32, n: u32) {
             n,
         ),
         letters::FLIM => say_name(b"Rotate ScaleU ScaleV", n),
-        letters::FLMC => say_name(
-            b"BufferRed BufferGreen BufferBlue BufferAlpha Constant0Red Constant0Green Constant0Blue Constant0Alpha \
-              Color0Red Color0Green Color0Blue Color0Alpha Color1Red Color1Green Color1Blue Color1Alpha Color2Red \
-              Color2Green Color2Blue Color2Alpha Color3Red Color3Green Color3Blue Color3Alpha Color4Red Color4Green \
-              Color4Blue Color4Alpha",
-            n,
-        ),
+        letters::FLMC => say_material_color(n),
         letters::FLTS => say_name(b"TranslateU TranslateV Rotate ScaleU ScaleV", n),
         letters::FLTP => say_name(b"Image", n),
         letters::FTBR => say_name(

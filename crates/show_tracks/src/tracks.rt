@@ -265,13 +265,51 @@ fn data(
     walk
 }
 
-fn info_line(content: usize, info: usize, letters: u32, kind: &[u8], count: usize) {
+// The line of the info whose words begin at `at`.
+fn info_line(words: &[u32], content: usize, info: usize, at: usize, parts: &[u8]) {
     say_number(b"info ", content);
     say_number(b" ", info);
     say(b": ");
-    say_letters(letters);
-    say_number(kind, count);
+    say_letters(word(words, at, 0));
+    say_word(parts, words, at, 1);
     say(b"\n");
+}
+
+// An info with targets; gives the place behind its words.
+fn standard(words: &[u32], content: usize, info: usize, name: &[u8], at: usize) -> usize {
+    info_line(words, content, info, at, b", targets ");
+    let letters = word(words, at, 0);
+    let count = many(words, at, 1);
+    targets(
+        words,
+        content,
+        info,
+        name,
+        letters,
+        count,
+        wrapping_add_usize(at, 2),
+    )
+}
+
+// An info with extended data.
+fn extended(
+    section: &[u8],
+    words: &[u32],
+    content: usize,
+    info: usize,
+    name: &[u8],
+    walk: Walk,
+    scratch: &mut [u8],
+) -> Walk {
+    let at = walk.at;
+    let text = walk.text;
+    info_line(words, content, info, at, b", data ");
+    let count = many(words, at, 1);
+    let start = Walk {
+        at: wrapping_add_usize(at, 2),
+        text,
+    };
+    data(section, words, content, info, name, count, start, scratch)
 }
 
 fn info(
@@ -283,27 +321,15 @@ fn info(
     walk: Walk,
     scratch: &mut [u8],
 ) -> Walk {
-    let start = walk.at;
-    let letters = word(words, start, 0);
-    let count = many(words, start, 1);
-    let at = wrapping_add_usize(start, 2);
-    let text = walk.text;
-    if letters == FLEU {
-        info_line(content, number, letters, b", data ", count);
-        return data(
-            section,
-            words,
-            content,
-            number,
-            name,
-            count,
-            Walk { at, text },
-            scratch,
-        );
+    let at = walk.at;
+    if word(words, at, 0) == FLEU {
+        return extended(section, words, content, number, name, walk, scratch);
     }
-    info_line(content, number, letters, b", targets ", count);
-    let end = targets(words, content, number, name, letters, count, at);
-    Walk { at: end, text }
+    let end = standard(words, content, number, name, at);
+    Walk {
+        at: end,
+        text: walk.text,
+    }
 }
 
 fn infos(
