@@ -51,6 +51,7 @@ pub mod journal;
 pub mod judging;
 pub mod layout;
 pub mod machine;
+pub mod pages;
 pub mod proved;
 pub mod random;
 pub mod reader;

@@ -1,0 +1,95 @@
+//! Prints a section's tracks by name, edits a key and takes the edit back. Usage: tracks [FILE]; without one, the section
+//! is read from standard input.
+use std::error::Error;
+use std::io::Read;
+
+use pai1::{AnimInfo, Change, HermiteKey, Key, Record, Refusal, Section, StepKey, TargetPlace};
+
+/// The most words and text bytes that a record may need: what a section of a stranger may ask for is not bounded by its
+/// length.
+const MOST: usize = 1 << 26;
+
+fn main() -> Result<(), Box<dyn Error>> {
+    let mut bytes = Vec::new();
+    match std::env::args_os().nth(1) {
+        Some(file) => bytes = std::fs::read(file)?,
+        None => drop(std::io::stdin().read_to_end(&mut bytes)?),
+    }
+    let record = match pai1::read_within(&bytes, MOST, MOST) {
+        Ok(record) => record,
+        Err(refusal) => {
+            println!("refused {}: {refusal}", refusal.number());
+            return Ok(());
+        }
+    };
+    print(&record);
+    change_a_key(bytes, &record)?;
+    Ok(())
+}
+
+/// Prints what a record holds. Names are quoted, since they may hold anything.
+fn print(record: &Record) {
+    let looping = if record.is_looping() { ", looping" } else { "" };
+    println!("{} frames{looping}", record.frame_count());
+    for (i, texture) in record.textures().enumerate() {
+        println!("texture {i}: {texture:?}");
+    }
+    for (i, content) in record.contents().enumerate() {
+        println!("content {i}: {:?}, {}", content.name, content.anim_type);
+        for (j, info) in content.infos.enumerate() {
+            println!("  info {j}: {}", info.anim_type());
+            match info {
+                AnimInfo::Standard { targets, .. } => {
+                    for (k, target) in targets.enumerate() {
+                        println!("    target {k}: {}, layer {}, {:?}", target.target, target.layer, target.curve);
+                    }
+                }
+                AnimInfo::ExtendedUserData { data } => {
+                    for (k, datum) in data.enumerate() {
+                        println!("    datum {k}: {:?}, {:?}", datum.key, datum.values);
+                    }
+                }
+            }
+        }
+    }
+}
+
+/// The first key of a record, with its place.
+fn first_key(record: &Record) -> Option<(TargetPlace, Key)> {
+    for (content, parts) in record.contents().enumerate() {
+        for (info, parts) in parts.infos.enumerate() {
+            let AnimInfo::Standard { targets, .. } = parts else { continue };
+            for (target, parts) in targets.enumerate() {
+                if let Some(key) = parts.curve.get(0) {
+                    return Some((TargetPlace { content, info, target }, key));
+                }
+            }
+        }
+    }
+    None
+}
+
+/// Adds 1 to the value of the first key, and takes that back.
+fn change_a_key(bytes: Vec<u8>, record: &Record) -> Result<(), Refusal> {
+    let Some((place, key)) = first_key(record) else {
+        println!("no key to edit");
+        return Ok(());
+    };
+    let new = match key {
+        Key::Constant(value) => Key::Constant(value + 1.0),
+        Key::Step(key) => Key::Step(StepKey { value: key.value.wrapping_add(1), ..key }),
+        Key::Hermite(key) => Key::Hermite(HermiteKey { value: key.value + 1.0, ..key }),
+    };
+    let mut section = Section::new(bytes)?;
+    section.edit(&Change::Key(place, 0, new))?;
+    println!("edited key 0 of {place:?}: {key:?} is now {new:?}");
+    let entry = section.journal().entries().flatten().last().expect("the entry of the edit");
+    let now = &section.bytes()[entry.offset()..][..entry.old().len()];
+    println!("bytes from {} on were {:02X?} and are {now:02X?}", entry.offset(), entry.old());
+    let left = section.undo()?;
+    println!(
+        "undone, {left} edits left; the record is {}",
+        if section.read()? == *record { "as it was" } else { "another" }
+    );
+    Ok(())
+}

@@ -1,0 +1,229 @@
+//! The exported functions of the proved library, as safe functions on slices: one for each, with the same numbers. The
+//! rest of this crate is made of them.
+//!
+//! No function asks anything of its caller but what a Rust slice is anyway. So each of these only takes its slices apart
+//! into the address and the length that C passes.
+//!
+//! A call that can be refused stores document 01's number and values in `answer`, with zeros behind them: three numbers,
+//! or four for [`find_text`]. What `answer` has no place for is dropped, and no other place of it changes.
+#![allow(unsafe_code)]
+#![allow(clippy::too_many_arguments)]
+
+unsafe extern "C" {
+    fn nnbfl_decoded_len(text: *const u8, text_len: usize) -> usize;
+    fn nnbfl_decode_into(text: *const u8, text_len: usize, out: *mut u8, out_len: usize, at: usize) -> usize;
+    fn nnbfl_decode_plain(text: *const u8, text_len: usize, out: *mut u8, out_len: usize, at: usize) -> usize;
+    fn nnbfl_well_formed(text: *const u8, text_len: usize) -> bool;
+    fn nnbfl_first_ill(text: *const u8, text_len: usize) -> usize;
+    fn nnbfl_first_zero(text: *const u8, text_len: usize) -> usize;
+    fn nnbfl_first_fault(text: *const u8, text_len: usize) -> usize;
+    fn nnbfl_read(
+        section: *const u8,
+        section_len: usize,
+        words: *mut u32,
+        words_len: usize,
+        texts: *mut u8,
+        texts_len: usize,
+        answer: *mut usize,
+        answer_len: usize,
+    );
+    fn nnbfl_find_text(
+        section: *const u8,
+        section_len: usize,
+        text: usize,
+        scratch: *mut u8,
+        scratch_len: usize,
+        answer: *mut usize,
+        answer_len: usize,
+    );
+    fn nnbfl_write(
+        words: *const u32,
+        words_len: usize,
+        texts: *const u8,
+        texts_len: usize,
+        out: *mut u8,
+        out_len: usize,
+        answer: *mut usize,
+        answer_len: usize,
+    );
+    fn nnbfl_undo(
+        section: *mut u8,
+        section_len: usize,
+        journal: *const u32,
+        journal_len: usize,
+        count: usize,
+        answer: *mut usize,
+        answer_len: usize,
+    );
+}
+
+/// The length of the decoding of `text`.
+pub fn decoded_len(text: &[u8]) -> usize {
+    unsafe { nnbfl_decoded_len(text.as_ptr(), text.len()) }
+}
+
+/// Stores the decoding of `text` in `out` from `at` on, without what would stand past the end, and returns its whole
+/// length.
+pub fn decode_into(text: &[u8], out: &mut [u8], at: usize) -> usize {
+    unsafe { nnbfl_decode_into(text.as_ptr(), text.len(), out.as_mut_ptr(), out.len(), at) }
+}
+
+/// The same, one character at a time.
+pub fn decode_plain(text: &[u8], out: &mut [u8], at: usize) -> usize {
+    unsafe { nnbfl_decode_plain(text.as_ptr(), text.len(), out.as_mut_ptr(), out.len(), at) }
+}
+
+/// Whether `text` is well-formed UTF-8.
+pub fn well_formed(text: &[u8]) -> bool {
+    unsafe { nnbfl_well_formed(text.as_ptr(), text.len()) }
+}
+
+/// Where the first ill-formed subpart starts, or the length.
+pub fn first_ill(text: &[u8]) -> usize {
+    unsafe { nnbfl_first_ill(text.as_ptr(), text.len()) }
+}
+
+/// Where the first zero byte stands, or the length.
+pub fn first_zero(text: &[u8]) -> usize {
+    unsafe { nnbfl_first_zero(text.as_ptr(), text.len()) }
+}
+
+/// The earlier of the two.
+pub fn first_fault(text: &[u8]) -> usize {
+    unsafe { nnbfl_first_fault(text.as_ptr(), text.len()) }
+}
+
+/// Fills the tables with a section's flat record. The answer is 0 with the words and the text bytes that were filled, or
+/// a refusal.
+pub fn read(section: &[u8], words: &mut [u32], texts: &mut [u8], answer: &mut [usize]) {
+    unsafe {
+        nnbfl_read(
+            section.as_ptr(),
+            section.len(),
+            words.as_mut_ptr(),
+            words.len(),
+            texts.as_mut_ptr(),
+            texts.len(),
+            answer.as_mut_ptr(),
+            answer.len(),
+        )
+    }
+}
+
+/// Finds a section's text by its number. The answer is 0 with where it lies (0 for the section, 1 for the scratch), its
+/// start there and its length, or a refusal.
+pub fn find_text(section: &[u8], text: usize, scratch: &mut [u8], answer: &mut [usize]) {
+    unsafe {
+        nnbfl_find_text(
+            section.as_ptr(),
+            section.len(),
+            text,
+            scratch.as_mut_ptr(),
+            scratch.len(),
+            answer.as_mut_ptr(),
+            answer.len(),
+        )
+    }
+}
+
+/// Writes the section of a flat record. The answer is 0 with the section's length, or a refusal.
+pub fn write(words: &[u32], texts: &[u8], out: &mut [u8], answer: &mut [usize]) {
+    unsafe {
+        nnbfl_write(
+            words.as_ptr(),
+            words.len(),
+            texts.as_ptr(),
+            texts.len(),
+            out.as_mut_ptr(),
+            out.len(),
+            answer.as_mut_ptr(),
+            answer.len(),
+        )
+    }
+}
+
+/// Takes back the last of `count` edits. The answer is 0 with the new count, or a refusal.
+pub fn undo(section: &mut [u8], journal: &[u32], count: usize, answer: &mut [usize]) {
+    unsafe {
+        nnbfl_undo(
+            section.as_mut_ptr(),
+            section.len(),
+            journal.as_ptr(),
+            journal.len(),
+            count,
+            answer.as_mut_ptr(),
+            answer.len(),
+        )
+    }
+}
+
+/// Each edit as it is exported and as a safe function: they differ only in the place and the new value.
+macro_rules! edits {
+    ($($(#[$doc:meta])* $name:ident = $exported:ident($($number:ident: $type:ty),*);)*) => {
+        unsafe extern "C" {
+            $(fn $exported(
+                section: *mut u8,
+                section_len: usize,
+                journal: *mut u32,
+                journal_len: usize,
+                count: usize,
+                $($number: $type,)*
+                answer: *mut usize,
+                answer_len: usize,
+            );)*
+        }
+        $(
+            $(#[$doc])*
+            ///
+            /// The bytes that stood there become entry `count` of the journal. The answer is 0 with the new count, or a
+            /// refusal.
+            pub fn $name(
+                section: &mut [u8],
+                journal: &mut [u32],
+                count: usize,
+                $($number: $type,)*
+                answer: &mut [usize],
+            ) {
+                unsafe {
+                    $exported(
+                        section.as_mut_ptr(),
+                        section.len(),
+                        journal.as_mut_ptr(),
+                        journal.len(),
+                        count,
+                        $($number,)*
+                        answer.as_mut_ptr(),
+                        answer.len(),
+                    )
+                }
+            }
+        )*
+    };
+}
+
+edits! {
+    /// Changes the frame count.
+    edit_frame_count = nnbfl_edit_frame_count(value: u32);
+    /// Changes whether the animation loops: 1 or 0.
+    edit_looping = nnbfl_edit_looping(value: u32);
+    /// Changes a target's layer.
+    edit_layer = nnbfl_edit_layer(content: usize, info: usize, target: usize, value: u32);
+    /// Changes a target's number.
+    edit_target = nnbfl_edit_target(content: usize, info: usize, target: usize, value: u32);
+    /// Changes a key of a Constant curve, given by its bits.
+    edit_constant_key = nnbfl_edit_constant_key(
+        content: usize, info: usize, target: usize, key: usize, value: u32
+    );
+    /// Changes a key of a Step curve, its frame given by the bits.
+    edit_step_key = nnbfl_edit_step_key(
+        content: usize, info: usize, target: usize, key: usize, frame: u32, value: u32
+    );
+    /// Changes a key of a Hermite curve, given by its bits.
+    edit_hermite_key = nnbfl_edit_hermite_key(
+        content: usize, info: usize, target: usize, key: usize, frame: u32, value: u32, slope: u32
+    );
+    /// Changes a value of extended data, given by its bits.
+    edit_value = nnbfl_edit_value(
+        content: usize, info: usize, datum: usize, list: usize, index: usize, value: u32
+    );
+}

@@ -1,0 +1,123 @@
+//! The crate pai1 beside the reference: what it reads off a record, and what it calls things.
+use compare::bflan::anim_info::{AnimInfo, AnimInfoType, PaneAnimInfo};
+use compare::bflan::curves::Curve;
+use compare::bflan::file::BflanSections;
+use compare::bflan::targets::TargetIndex;
+use compare::parse;
+use compare::sections::{Maker, READABLE};
+
+/// The name inside of, say, `PaneSrt(TranslateX)`.
+fn name(target: &TargetIndex) -> String {
+    let shown = format!("{target:?}");
+    shown.split(['(', ')']).nth(1).unwrap_or(&shown).to_owned()
+}
+
+#[test]
+fn names() {
+    for kind in pai1::AnimInfoType::ALL {
+        let letters = AnimInfoType::from(u32::from_le_bytes(kind.letters()));
+        assert_eq!(kind.to_string(), format!("{letters:?}"));
+        for number in 0..=255 {
+            let target = TargetIndex::resolve(&letters, number);
+            if target.to_raw() == number {
+                let here = pai1::TargetIndex { anim_type: *kind, number };
+                assert_eq!(here.name(), name(&target), "{kind} {number}");
+            } else {
+                assert!(number as usize >= kind.target_names().len(), "{kind} {number}");
+            }
+        }
+    }
+}
+
+fn keys(curve: &Curve) -> Vec<pai1::Key> {
+    match curve {
+        Curve::Constant(keys) => keys.iter().map(|&value| pai1::Key::Constant(value)).collect(),
+        Curve::Step(keys) => {
+            keys.iter().map(|key| pai1::Key::Step(pai1::StepKey { frame: key.frame, value: key.value })).collect()
+        }
+        Curve::Hermite(keys) => {
+            let of = |key: &compare::bflan::curves::HermiteKey| pai1::HermiteKey {
+                frame: key.frame,
+                value: key.value,
+                slope: key.slope,
+            };
+            keys.iter().map(|key| pai1::Key::Hermite(of(key))).collect()
+        }
+    }
+}
+
+fn bits(values: impl Iterator<Item = f32>) -> Vec<u32> {
+    values.map(f32::to_bits).collect()
+}
+
+/// Every part of the record under the reference's name for it. Returns how many keys and values there were.
+fn same(here: &pai1::Record, there: &PaneAnimInfo) -> usize {
+    let mut seen = 0;
+    assert_eq!((here.frame_count(), here.is_looping()), (there.frame_count, there.is_looping));
+    assert!(here.textures().eq(&there.textures));
+    assert_eq!(here.contents().len(), there.contents.len());
+    for (here, there) in here.contents().zip(&there.contents) {
+        assert_eq!(here.name, there.name);
+        assert_eq!(here.anim_type.to_string(), format!("{:?}", there.anim_type));
+        assert_eq!(here.infos.len(), there.infos.len());
+        for (here, there) in here.infos.zip(&there.infos) {
+            match (here, there) {
+                (
+                    pai1::AnimInfo::Standard { anim_type, targets },
+                    AnimInfo::Standard { anim_type: kind, targets: others },
+                ) => {
+                    assert_eq!(anim_type.to_string(), format!("{kind:?}"));
+                    assert_eq!(targets.len(), others.len());
+                    for (here, there) in targets.zip(others) {
+                        assert_eq!((here.layer, here.target.number), (there.layer, there.target.to_raw()));
+                        assert_eq!(here.target.name(), name(&there.target));
+                        let keys = keys(&there.curve);
+                        assert!(here.curve.keys().eq(keys.iter().copied()));
+                        seen += keys.len();
+                    }
+                }
+                (pai1::AnimInfo::ExtendedUserData { data }, AnimInfo::ExtendedUserData { data: others, .. }) => {
+                    assert_eq!(data.len(), others.len());
+                    for (here, there) in data.zip(others) {
+                        assert_eq!(
+                            (here.header_size, here.unk_1, here.unk_2, here.base_count, here.unk_3, here.key),
+                            (
+                                there.header_size,
+                                there.unk_1,
+                                there.unk_2,
+                                there.base_count,
+                                there.unk_3,
+                                there.key.as_str()
+                            )
+                        );
+                        for (here, there) in here.values.iter().zip(&there.values) {
+                            assert_eq!(bits(here.iter()), bits(there.iter().copied()));
+                            seen += there.len();
+                        }
+                    }
+                }
+                (here, there) => panic!("{here:?} is not {there:?}"),
+            }
+        }
+    }
+    seen
+}
+
+#[test]
+fn records() {
+    let mut maker = Maker::new(20_261_116);
+    for (kind, style, placing) in READABLE {
+        let (mut read, mut seen) = (0, 0);
+        for _ in 0..500 {
+            let section = maker.section(style, placing).bytes;
+            match (pai1::read(&section), parse(&section)) {
+                (Ok(here), Ok(BflanSections::PaneAnimInfo(there))) => {
+                    seen += same(&here, &there);
+                    read += 1;
+                }
+                (here, there) => assert!(here.is_err() && there.is_err(), "{here:?} is not {there:?}"),
+            }
+        }
+        assert!(read > 200 && seen > 500, "{kind}: {read} sections with {seen} keys and values are too few");
+    }
+}
