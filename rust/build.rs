@@ -61,14 +61,7 @@ fn link_proved(here: &Path) {
     assert!(status.success(), "rt staticlib capi: {status}");
     // a copy, since the gate removes the repository's target/
     let copy = PathBuf::from(env::var_os("OUT_DIR").unwrap());
-    let archive = fs::read(root.join("target/staticlib/libcapi.a")).unwrap();
-    fs::write(copy.join("libcapi.a"), &archive).unwrap();
-    // the archive's index has each exported name with a zero behind it
-    let exports = |name: &str| archive.windows(name.len()).any(|bytes| bytes == name.as_bytes());
-    println!("cargo::rustc-check-cfg=cfg(reader)");
-    if exports("nnbfl_read\0") && exports("nnbfl_find_text\0") {
-        println!("cargo::rustc-cfg=reader");
-    }
+    fs::copy(root.join("target/staticlib/libcapi.a"), copy.join("libcapi.a")).unwrap();
     println!("cargo::rustc-link-search=native={}", copy.display());
     println!("cargo::rustc-link-lib=static=capi");
 }

@@ -1,6 +1,7 @@
 //! The proved functions of crates/capi, as safe functions. None asks anything of its caller, so a wrapper only takes
 //! each slice apart into the address and the length that C passes.
 use crate::reader::Reader;
+use crate::writer::Writer;
 
 mod edits;
 
@@ -12,6 +13,35 @@ unsafe extern "C" {
     fn nnbfl_first_ill(text: *const u8, text_len: usize) -> usize;
     fn nnbfl_first_zero(text: *const u8, text_len: usize) -> usize;
     fn nnbfl_first_fault(text: *const u8, text_len: usize) -> usize;
+    fn nnbfl_read(
+        section: *const u8,
+        section_len: usize,
+        words: *mut u32,
+        words_len: usize,
+        texts: *mut u8,
+        texts_len: usize,
+        answer: *mut usize,
+        answer_len: usize,
+    );
+    fn nnbfl_find_text(
+        section: *const u8,
+        section_len: usize,
+        text: usize,
+        scratch: *mut u8,
+        scratch_len: usize,
+        answer: *mut usize,
+        answer_len: usize,
+    );
+    fn nnbfl_write(
+        words: *const u32,
+        words_len: usize,
+        texts: *const u8,
+        texts_len: usize,
+        out: *mut u8,
+        out_len: usize,
+        answer: *mut usize,
+        answer_len: usize,
+    );
 }
 
 /// The length of the decoding of `text`.
@@ -50,34 +80,9 @@ pub fn first_fault(text: &[u8]) -> usize {
     unsafe { nnbfl_first_fault(text.as_ptr(), text.len()) }
 }
 
-#[cfg(reader)]
-unsafe extern "C" {
-    fn nnbfl_read(
-        section: *const u8,
-        section_len: usize,
-        words: *mut u32,
-        words_len: usize,
-        texts: *mut u8,
-        texts_len: usize,
-        answer: *mut usize,
-        answer_len: usize,
-    );
-    fn nnbfl_find_text(
-        section: *const u8,
-        section_len: usize,
-        text: usize,
-        scratch: *mut u8,
-        scratch_len: usize,
-        answer: *mut usize,
-        answer_len: usize,
-    );
-}
-
-/// The proved reader.
-#[cfg(reader)]
+/// The proved reader and writer.
 pub struct Proved;
 
-#[cfg(reader)]
 impl Reader for Proved {
     fn read(&self, section: &[u8], words: &mut [u32], texts: &mut [u8], answer: &mut [usize]) {
         unsafe {
@@ -109,11 +114,19 @@ impl Reader for Proved {
     }
 }
 
-/// The reader that is compared and timed, and its name: the proved one, or the reference behind the same calls while
-/// crates/capi does not export it.
-pub fn reader() -> (&'static str, &'static dyn Reader) {
-    #[cfg(reader)]
-    return ("nnbfl_read", &Proved);
-    #[cfg(not(reader))]
-    return ("a STAND-IN, since crates/capi exports no reader", &crate::reader::ByReference);
+impl Writer for Proved {
+    fn write(&self, words: &[u32], texts: &[u8], out: &mut [u8], answer: &mut [usize]) {
+        unsafe {
+            nnbfl_write(
+                words.as_ptr(),
+                words.len(),
+                texts.as_ptr(),
+                texts.len(),
+                out.as_mut_ptr(),
+                out.len(),
+                answer.as_mut_ptr(),
+                answer.len(),
+            )
+        }
+    }
 }

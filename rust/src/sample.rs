@@ -1,9 +1,11 @@
 //! A sample of small sections with the reference's answers, for a program that has no reference beside it.
 //!
-//! The sample is cases one after another, up to its end. All numbers are little-endian. A case is
+//! The sample is cases one after another, up to its end: these, and behind them those of `sample_records.rs`. All numbers
+//! are little-endian. A case is
 //!
 //! | bytes | |
 //! |---|---|
+//! | 1 | 0: a section to read |
 //! | 2 | the section's length n |
 //! | n | the section |
 //! | 2, 2 | the tables' lengths: words, text bytes |
@@ -32,7 +34,9 @@ pub const TEXTS: usize = 320;
 
 /// The most cases of one kind with one outcome.
 const ALIKE: usize = 140;
-const SEED: u64 = 20_261_115;
+pub const SEED: u64 = 20_261_115;
+/// The first byte of a case.
+const KIND: usize = 0;
 
 #[derive(Default)]
 pub struct Sample {
@@ -80,6 +84,7 @@ pub fn sample() -> Sample {
         *alike += 1;
         out.cases += 1;
         out.numbers[answer[0]] += 1;
+        put(&mut out.bytes, KIND, 1);
         put(&mut out.bytes, section.len(), 2);
         out.bytes.extend(section);
         put(&mut out.bytes, room.0, 2);
@@ -101,12 +106,14 @@ pub fn sample() -> Sample {
     out
 }
 
-fn put(bytes: &mut Vec<u8>, number: usize, width: usize) {
+/// Appends a number of `width` bytes.
+pub fn put(bytes: &mut Vec<u8>, number: usize, width: usize) {
     assert!(number >> (8 * width) == 0);
     bytes.extend(&number.to_le_bytes()[..width]);
 }
 
-fn get(bytes: &mut &[u8], width: usize) -> usize {
+/// Takes a number of `width` bytes.
+pub fn get(bytes: &mut &[u8], width: usize) -> usize {
     let (number, rest) = bytes.split_at(width);
     *bytes = rest;
     number.iter().rev().fold(0, |n, &b| n << 8 | b as usize)
@@ -118,6 +125,7 @@ pub fn replay(mut bytes: &[u8], reader: &dyn Reader) -> (usize, Option<usize>) {
     let mut cases = 0;
     let mut first = None;
     while !bytes.is_empty() {
+        assert_eq!(get(&mut bytes, 1), KIND);
         let len = get(&mut bytes, 2);
         let (section, rest) = bytes.split_at(len);
         bytes = rest;

@@ -377,7 +377,8 @@ pub struct Style {
 
 pub struct Maker {
     pub random: Random,
-    pieces: Vec<Vec<u8>>,
+    /// Sequences at the edges of Table 3-7.
+    pub pieces: Vec<Vec<u8>>,
 }
 
 impl Maker {

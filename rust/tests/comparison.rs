@@ -3,6 +3,7 @@
 use compare::bflan::file::BflanSections;
 use compare::comparison::Comparison;
 use compare::layout::{FLEU, Rules};
+use compare::proved::Proved;
 use compare::random::Random;
 use compare::reader::{ByLayout, ByReference, Reader};
 use compare::record::{Flat, Refusal, reference};
@@ -199,8 +200,7 @@ fn the_sample_is_replayed() {
     assert!(sample.cases > 2_000);
     assert!([0, 1, 3, 4, 5].iter().all(|&number| sample.numbers[number] > 100), "{:?}", sample.numbers);
     assert_eq!(replay(&sample.bytes, &ByReference), (sample.cases, None));
-    let (name, reader) = compare::proved::reader();
-    assert_eq!(replay(&sample.bytes, reader), (sample.cases, None), "{name}");
+    assert_eq!(replay(&sample.bytes, &Proved), (sample.cases, None));
     // and it catches the mistaken readers too
     let right = Rules::DOCUMENT;
     for rules in [

@@ -1,4 +1,5 @@
-//! What the reference does on the inputs of docs/DIFFERENCES.md, and what the reader answers. Each test is one entry there.
+//! What the reference does on the inputs of docs/DIFFERENCES.md, and what the proved reader and writer answer. Each test is one
+//! entry there.
 use std::panic::{AssertUnwindSafe, catch_unwind};
 use std::process::Command;
 
@@ -7,9 +8,11 @@ use compare::bflan::curves::{Curve, StepKey};
 use compare::bflan::file::BflanSections;
 use compare::bflan::targets::{AnimTarget, TargetIndex};
 use compare::core::FormatError;
-use compare::{parse, proved, serialize};
-
-const LIMIT: usize = 16_777_216;
+use compare::proved::Proved;
+use compare::reader::Reader;
+use compare::record::{Flat, LIMIT, flat};
+use compare::writer::Writer;
+use compare::{parse, serialize};
 
 fn read(section: &[u8]) -> PaneAnimInfo {
     match parse(section) {
@@ -28,8 +31,16 @@ fn eof(section: &[u8]) -> (usize, usize) {
 /// What the reader answers, with tables of no length.
 fn here(section: &[u8]) -> [usize; 3] {
     let mut answer = [usize::MAX; 3];
-    proved::reader().1.read(section, &mut [], &mut [], &mut answer);
+    Proved.read(section, &mut [], &mut [], &mut answer);
     answer
+}
+
+/// What the writer answers for the flat record of a record, with room enough for what the reference writes.
+fn written_here(record: &PaneAnimInfo) -> (usize, usize) {
+    let Flat { words, texts } = flat(record);
+    let mut answer = [usize::MAX; 3];
+    Proved.write(&words, &texts, &mut vec![0; serialize(record).len()], &mut answer);
+    (answer[0], answer[1])
 }
 
 fn half(bytes: &[u8], at: usize) -> u16 {
@@ -72,9 +83,13 @@ fn entry_1_a_longer_slice_is_read() {
 
 #[test]
 fn entry_2_a_longer_section_is_written() {
-    let section = serialize(&with_textures(vec!["a".repeat(LIMIT)]));
+    let record = with_textures(vec!["a".repeat(LIMIT)]);
+    let section = serialize(&record);
     assert_eq!(section.len(), LIMIT + 28);
     assert_eq!(read(&section).textures[0].len(), LIMIT);
+    assert_eq!(written_here(&record), (8, LIMIT));
+    // at the limit it is written
+    assert_eq!(written_here(&with_textures(vec!["a".repeat(LIMIT - 25)])), (0, LIMIT));
 }
 
 #[test]
@@ -102,39 +117,58 @@ fn entry_3_other_letters() {
 #[test]
 fn entry_4_a_long_name_is_cut() {
     let name = "a".repeat(29);
-    let section = serialize(&with_contents(vec![content(&name, vec![])]));
-    assert_eq!(read(&section).contents[0].name, name[..28]);
+    let record = with_contents(vec![content(&name, vec![])]);
+    assert_eq!(read(&serialize(&record)).contents[0].name, name[..28]);
+    assert_eq!(written_here(&record), (6, 4));
     // inside a character, which then reads as U+FFFD
     let name = "a".repeat(27) + "é";
-    let section = serialize(&with_contents(vec![content(&name, vec![])]));
-    assert_eq!(read(&section).contents[0].name, "a".repeat(27) + "\u{FFFD}");
+    let record = with_contents(vec![content(&name, vec![])]);
+    assert_eq!(read(&serialize(&record)).contents[0].name, "a".repeat(27) + "\u{FFFD}");
+    assert_eq!(written_here(&record), (6, 4));
+    // a name that was read: 28 bytes that decode to 84, of which the Rust writes 28 again
+    let mut section = serialize(&with_contents(vec![content("", vec![])]));
+    section[24..52].fill(0x80);
+    let record = read(&section);
+    assert_eq!(record.contents[0].name, "\u{FFFD}".repeat(28));
+    assert_eq!(read(&serialize(&record)).contents[0].name, "\u{FFFD}".repeat(10));
+    assert_eq!(written_here(&record), (6, 4));
 }
 
 #[test]
 fn entry_5_counts_are_cut() {
     // 65,536 textures and 65,536 contents: both counts are written as 0
-    let section = serialize(&with_textures(vec![String::new(); 65_536]));
+    let record = with_textures(vec![String::new(); 65_536]);
+    let section = serialize(&record);
     assert_eq!((half(&section, 12), read(&section).textures.len()), (0, 0));
-    let section = serialize(&with_contents(vec![content("", vec![]); 65_536]));
+    assert_eq!(written_here(&record), (6, 2));
+    let record = with_contents(vec![content("", vec![]); 65_536]);
+    let section = serialize(&record);
     assert_eq!((half(&section, 14), read(&section).contents.len()), (0, 0));
+    assert_eq!(written_here(&record), (6, 3));
     // 256 infos in a content at 24, 256 targets in its info at 60, 65,536 keys in the target at 72
-    let section = serialize(&with_contents(vec![content("P", vec![info(vec![]); 256])]));
-    assert_eq!(section[24 + 28], 0);
+    let record = with_contents(vec![content("P", vec![info(vec![]); 256])]);
+    assert_eq!(serialize(&record)[24 + 28], 0);
+    assert_eq!(written_here(&record), (6, 6));
     let targets = vec![visible(Curve::default()); 256];
-    let section = serialize(&with_contents(vec![content("P", vec![info(targets)])]));
-    assert_eq!(section[60 + 4], 0);
+    let record = with_contents(vec![content("P", vec![info(targets)])]);
+    assert_eq!(serialize(&record)[60 + 4], 0);
+    assert_eq!(written_here(&record), (6, 8));
     let keys = Curve::Constant(vec![0.0; 65_536]);
-    let section = serialize(&with_contents(vec![content("P", vec![info(vec![visible(keys)])])]));
-    assert_eq!(half(&section, 72 + 4), 0);
+    let record = with_contents(vec![content("P", vec![info(vec![visible(keys)])])]);
+    assert_eq!(half(&serialize(&record), 72 + 4), 0);
+    assert_eq!(written_here(&record), (6, 12));
 }
 
 #[test]
 fn entry_6_a_zero_in_a_text_is_written() {
-    let section = serialize(&with_textures(vec!["a\0b".to_owned()]));
+    let record = with_textures(vec!["a\0b".to_owned()]);
+    let section = serialize(&record);
     assert_eq!(&section[24..28], b"a\0b\0");
     assert_eq!(read(&section).textures, ["a"]);
-    let section = serialize(&with_contents(vec![content("a\0b", vec![])]));
-    assert_eq!(read(&section).contents[0].name, "a");
+    assert_eq!(written_here(&record), (7, 1));
+    let record = with_contents(vec![content("a\0b", vec![])]);
+    assert_eq!(read(&serialize(&record)).contents[0].name, "a");
+    assert_eq!(written_here(&record), (7, 1));
 }
 
 /// One User content with one FLEU datum, base count 1, key `k`.
@@ -170,8 +204,10 @@ fn entry_7_records_with_no_flat_form_are_written() {
     // a target of another kind than its letters: written as 9, and read as 0
     let target =
         AnimTarget { layer: 0, target: TargetIndex::resolve(&AnimInfoType::PaneSrtAnim, 9), curve: Curve::default() };
-    let section = serialize(&with_contents(vec![content("P", vec![info(vec![target])])]));
+    let record = with_contents(vec![content("P", vec![info(vec![target])])]);
+    let section = serialize(&record);
     assert_eq!(section[72 + 1], 9);
+    assert_eq!(written_here(&record), (6, 10));
     assert_eq!(read(&section), with_contents(vec![content("P", vec![info(vec![visible(Curve::default())])])]));
 }
 

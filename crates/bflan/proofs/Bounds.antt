@@ -29,35 +29,35 @@ use Rattle.bflan.proofs.KeyRuns.{asNumbers, numbers-run}
 
 -- ---- what holds of what a reading gives, wherever it starts, unless it is stopped
 
-abbrev Known : {A : Type 0} → (A → Type 0) → Res A → Type 0
+abbrev pub Known : {A : Type 0} → (A → Type 0) → Res A → Type 0
 Known Q (ok v p) = Q v
 Known Q (stop f) = Unit
 
-record Gives (s : List ℕ) {A : Type 0} (Q : A → Type 0) (p : P A) : Type 0 where
-  from : (i : ℕ) → Known Q (p s i)
+pub record Gives (s : List ℕ) {A : Type 0} (Q : A → Type 0) (p : P A) : Type 0 where
+  pub from : (i : ℕ) → Known Q (p s i)
 
 -- a reading's last line, and a stop
 module _ (s : List ℕ) {A : Type 0} {Q : A → Type 0} where
-  done : (v : A) → Q v → Gives s Q (ret v)
+  pub done : (v : A) → Q v → Gives s Q (ret v)
   done v h = record { from = λ i. h }
 
-  none : (f : Fault) → Gives s Q (fail f)
+  pub none : (f : Fault) → Gives s Q (fail f)
   none f = record { from = λ i. tt }
 
-  either : (t : Bool) {p q : P A} → Gives s Q p → Gives s Q q → Gives s Q (given t p q)
+  pub either : (t : Bool) {p q : P A} → Gives s Q p → Gives s Q q → Gives s Q (given t p q)
   either true g h = g
   either false g h = h
 
 -- one reading after another: what follows may use what the first gives
 module _ (s : List ℕ) {A B : Type 0} {Q : B → Type 0} where
-  next : {R : A → Type 0} {p : P A} (q : A → P B) → Gives s R p → ((v : A) → R v → Gives s Q (q v)) → Gives s Q (_>>=_ p q)
+  pub next : {R : A → Type 0} {p : P A} (q : A → P B) → Gives s R p → ((v : A) → R v → Gives s Q (q v)) → Gives s Q (_>>=_ p q)
   next {R} {p} q g h = record { from = λ i. go (p s i) (g .from i) }
     where
       go : (r : Res A) → Known R r → Known Q (andThen r q s)
       go (ok v j) k = h v k .from j
       go (stop f) k = tt
 
-  past : (p : P A) (q : A → P B) → ((v : A) → Gives s Q (q v)) → Gives s Q (_>>=_ p q)
+  pub past : (p : P A) (q : A → P B) → ((v : A) → Gives s Q (q v)) → Gives s Q (_>>=_ p q)
   past p q h = record { from = λ i. go (p s i) }
     where
       go : (r : Res A) → Known Q (andThen r q s)
@@ -171,7 +171,7 @@ module _ (s : List ℕ) where
 
 -- ---- level by level: the counts fit one byte or two, and the numbers of a list are all in the section
 
-count-le : (curve n : ℕ) → countOf curve n ≤ n
+pub count-le : (curve n : ℕ) → countOf curve n ≤ n
 unfolding countOf
 count-le curve n = go (leb curve 2)
   where
@@ -187,7 +187,7 @@ wider-all s {a} {b} c d {p} g x y = record { from = λ i. go (p s i) (g .from i)
     go (stop f) k = tt
 
 module _ (s : List ℕ) (bytes : Bytes s) (fits : length s ≤ 16777216) where
-  num-lt : (k : ℕ) → Gives s (λ v. v < 256 ^ k) (num k)
+  pub num-lt : (k : ℕ) → Gives s (λ v. v < 256 ^ k) (num k)
   unfolding num
   num-lt k = record { from = λ i. go i (readOf k s i) refl }
     where

@@ -1,9 +1,9 @@
--- The walk that judges words and texts: over the two lists of a record within the limits it gives the record, and what it accepts is the
--- two lists of a record within the limits.
+-- The walk that judges words and texts: over the two lists of a record within the limits it gives the record, where names alone are too
+-- long it stops at the first of them, and what it accepts is the two lists of a record within the limits.
 -- Assumes nothing.
 use Prim.Native.Nat.{ℕ, zero, suc, _+_, _*_, _^_, _≤_, _<_}
 use mathlib.Core.Path.{_≡_, refl, sym, ap, ap₂, _∙_}
-use mathlib.Core.Bool.{Bool, true, false, _&&_}
+use mathlib.Core.Bool.{Bool, true, false, _&&_, true≢false}
 use mathlib.Core.List.{List, [], _∷_, _++_, map, append-assoc, append-nil}
 use native.Mathlib.Nat.{add-zero}
 use native.Mathlib.Omega.{arith}
@@ -16,12 +16,13 @@ use Rattle.core.specs.Number.{val}
 use Rattle.core.specs.Text.{beforeZero, zeroFree, firstFault}
 use Rattle.core.specs.Utf8.{wellFormed, sound}
 use Rattle.core.proofs.Zeros.{before-le, none-free, block-zero}
-use Rattle.core.proofs.utf8.Laws.{sound-le, well-sound}
+use Rattle.core.proofs.utf8.Laws.{sound-le, well-sound, both-true}
 use Rattle.bflan.specs.Judge.{Judged, fine, badWord, badText, J, andThen, _>>=_, ret, given, word, chars, text, times, wide, row, target, datum, info, content, ends, section}
 use Rattle.bflan.specs.Layout.{bytes, _⨾_, size, written}
 use Rattle.bflan.specs.Letters.{rows, fleu, lettersFit, targetFits}
-use Rattle.bflan.specs.Limits.{All, Fits, FineText, FineTarget, FineDatum, FineInfo, FineContent, Fine}
+use Rattle.bflan.specs.Limits.{All, Fits, FineText, FineTarget, FineDatum, FineInfo, FineNamed, FineContent, FineBut, Fine}
 use Rattle.bflan.specs.Record.{AnimTarget, ExtendedUserDataAnim, AnimInfo, Standard, ExtendedUserData, AnimContent, PaneAnimInfo, keyWidths, Cell, word as wordCell, chars as charsCell, wordsIn, bytesIn, each, targetCells, datumCells, infoCells, contentCells, textureCells, cells, words, texts}
+use Rattle.bflan.specs.Rewriting.{namesFit, untilLong, longAt}
 use Rattle.bflan.proofs.Layouts.{Stands, stands-left, stands-right}
 
 -- ---- texts
@@ -34,7 +35,7 @@ fault-none t f =
     let s = eqb-true (sound t) (length t) (sym (well-sound t) ∙ f .wellFormed) in
     rw (z, s) (omega arith)
 
-free-none : (t : List ℕ) → beforeZero t ≡ length t → zeroFree t ≡ true
+pub free-none : (t : List ℕ) → beforeZero t ≡ length t → zeroFree t ≡ true
 free-none t e = go (zeroFree t) refl
   where
     go : (b : Bool) → zeroFree t ≡ b → zeroFree t ≡ true
@@ -368,29 +369,113 @@ ends-law : (w x : List ℕ) (i j : ℕ) → length w ≤ i → length x ≤ j �
 unfolding ends
 ends-law w x i j h k = rw (le-ltb i (length w) h, le-ltb j (length x) k)
 
+-- a text whose length fails its test is refused at its length, and so is a content whose name is too long
+text-long : {w x : List ℕ} {i j : ℕ} {t : List ℕ} {cs : List Cell} (test : ℕ → Bool) → test (length t) ≡ false → Place w x i j (charsCell t ∷ cs)
+    → text test w x i j ≡ badWord i
+unfolding text word
+text-long {w} {i = i} test q h =
+    let f = text-first h in
+    rw (lt-ltb i (length w) (f .0), f .1, q)
+
+content-long : {w x : List ℕ} {i j : ℕ} (c : AnimContent) → leb (length (c .name)) 28 ≡ false → Place w x i j (contentCells c) → content w x i j ≡ badWord i
+unfolding content contentCells
+content-long c q h = rw (text-long (λ n. leb n 28) q h)
+
+module _ (most : ℕ) where
+  -- a content whose name is not too long is within the limits
+  short-fine : (c : AnimContent) → FineNamed most c → leb (length (c .name)) 28 ≡ true → FineContent c
+  short-fine c q e = record { short = leb-true (length (c .name)) 28 e; name = q .name; type = q .type; count = q .count; infos = q .infos }
+
+  -- and so are contents and records of which no name is
+  names-fine : (cs : List AnimContent) → All (FineNamed most) cs → namesFit cs ≡ true → All FineContent cs
+  unfolding namesFit
+  names-fine [] q e = tt
+  names-fine (c ∷ cs) q e =
+      let h = both-true (leb (length (c .name)) 28) (namesFit cs) e in
+      (short-fine c (q .0) (h .0), names-fine cs (q .1) (h .1))
+
+  pub names-within : (r : PaneAnimInfo) → FineBut most r → namesFit (r .contents) ≡ true → Fine r
+  names-within r q e =
+      record {
+        frames = q .frames;
+        looping = q .looping;
+        textureCount = q .textureCount;
+        contentCount = q .contentCount;
+        textures = q .textures;
+        contents = names-fine (r .contents) (q .contents) e;
+      }
+
+  -- else the walk over the contents stops at the length of the first that is
+  names-long : (w x : List ℕ) (i j : ℕ) (cs : List AnimContent) → All (FineNamed most) cs → namesFit cs ≡ false → Place w x i j (each contentCells cs)
+      → times (length cs) content w x i j ≡ badWord (i + untilLong cs)
+  unfolding times each namesFit untilLong
+  names-long w x i j [] q e h = absurd (true≢false e)
+  names-long w x i j (c ∷ cs) q e h =
+      go (leb (length (c .name)) 28) refl e
+      (λ k. names-long w x (i + wordCount (contentCells c)) (j + byteCount (contentCells c)) cs (q .1) k (place-right (contentCells c) (each contentCells cs) h))
+    where
+      first : Place w x i j (contentCells c)
+      first = place-left (contentCells c) (each contentCells cs) h
+
+      go : (t : Bool) → leb (length (c .name)) 28 ≡ t → t && namesFit cs ≡ false
+          → (namesFit cs ≡ false → times (length cs) content w x (i + wordCount (contentCells c)) (j + byteCount (contentCells c)) ≡ badWord (i + wordCount (contentCells c) + untilLong cs))
+          → _>>=_ content (λ y. _>>=_ (times (length cs) content) (λ ys. ret (y ∷ ys))) w x i j ≡ badWord (i + pick t (wordCount (contentCells c) + untilLong cs) 0)
+      go true d k law = rw (content-law w x i j c (short-fine c (q .0) d) first, law k) (ap badWord (omega arith))
+      go false d k law = rw (content-long c d first) (ap badWord (sym (add-zero i)))
+
+-- the walk over the two lists of a record, up to its contents
+module _ (most : ℕ) (r : PaneAnimInfo) (q : FineBut most r) where
+  abbrev names : List Cell
+  names = each textureCells (r .textures)
+
+  contents-there : Place (words r) (texts r) (4 + wordCount names) (0 + byteCount names) (each contentCells (r .contents))
+  unfolding words texts cells
+  contents-there = place-right names (each contentCells (r .contents)) (word-next (word-next (word-next (word-next (place-all (cells r))))))
+
+  judge-head : section (words r) (texts r) 0 0
+      ≡ andThen (times (length (r .contents)) content (words r) (texts r) (4 + wordCount names) (0 + byteCount names))
+      (λ cs. _>>=_ ends (λ u. ret (record { frames = r .frames; looping = r .looping; textures = r .textures; contents = cs }))) (words r) (texts r)
+  unfolding section words texts cells
+  judge-head =
+      let h = place-all (cells r) in
+      let h1 = word-next h in
+      let h2 = word-next h1 in
+      let h3 = word-next h2 in
+      let h4 = word-next h3 in
+      rw (
+        word-law (wide 2) (lt-ltb (r .frames) 65536 (q .frames)) h,
+        word-law (λ b. leb b 1) (le-leb (r .looping) 1 (omega (arith, q .looping))) h1,
+        word-law (wide 2) (lt-ltb (length (r .textures)) 65536 (q .textureCount)) h2,
+        word-law (wide 2) (lt-ltb (length (r .contents)) 65536 (q .contentCount)) h3,
+        times-law (text (wide 4)) textureCells FineText texture-law (wordsIn (cells r)) (bytesIn (cells r)) 4 0 (r .textures) (q .textures) (place-left names (each contentCells (r .contents)) h4),
+      )
+
 pub judge-flat : (r : PaneAnimInfo) → Fine r → section (words r) (texts r) 0 0 ≡ fine r (length (words r)) (length (texts r))
-unfolding section words texts cells
 judge-flat r q =
-    let h = place-all (cells r) in
-    let h1 = word-next h in
-    let h2 = word-next h1 in
-    let h3 = word-next h2 in
-    let h4 = word-next h3 in
     let ts = each textureCells (r .textures) in
     let cs = each contentCells (r .contents) in
-    let n = word-counts ts cs in
-    let m = byte-counts ts cs in
-    rw (
-      word-law (wide 2) (lt-ltb (r .frames) 65536 (q .frames)) h,
-      word-law (λ b. leb b 1) (le-leb (r .looping) 1 (omega (arith, q .looping))) h1,
-      word-law (wide 2) (lt-ltb (length (r .textures)) 65536 (q .textureCount)) h2,
-      word-law (wide 2) (lt-ltb (length (r .contents)) 65536 (q .contentCount)) h3,
-      times-law (text (wide 4)) textureCells FineText texture-law (wordsIn (cells r)) (bytesIn (cells r)) 4 0 (r .textures) (q .textures) (place-left ts cs h4),
-      times-law content contentCells FineContent content-law (wordsIn (cells r)) (bytesIn (cells r)) (4 + wordCount ts) (0 + byteCount ts) (r .contents) (q .contents) (place-right ts cs h4),
-      ends-law (wordsIn (cells r)) (bytesIn (cells r)) (4 + wordCount ts + wordCount cs) (0 + byteCount ts + byteCount cs)
-          (unfold wordsIn in omega (arith, n)) (unfold bytesIn in omega (arith, m)),
+    let n : length (words r) ≡ 4 + wordCount ts + wordCount cs = unfold words in section-words r in
+    let m : length (texts r) ≡ byteCount ts + byteCount cs = unfold texts in section-bytes r in
+    judge-head 28 r q
+    ∙ rw (
+      times-law content contentCells FineContent content-law (words r) (texts r) (4 + wordCount ts) (0 + byteCount ts) (r .contents) (q .contents) (contents-there 28 r q),
+      ends-law (words r) (texts r) (4 + wordCount ts + wordCount cs) (0 + byteCount ts + byteCount cs) (omega (arith, n)) (omega (arith, m)),
     )
-    (fine-at (unfold wordsIn in omega (arith, n)) (unfold bytesIn in omega (arith, m)))
+    (fine-at (omega (arith, n)) (omega (arith, m)))
+
+-- a texture is one word
+texture-words : (ts : List (List ℕ)) → wordCount (each textureCells ts) ≡ length ts
+unfolding each textureCells wordsIn
+texture-words [] = refl
+texture-words (t ∷ ts) = ap suc (texture-words ts)
+
+-- a record within the limits but for the length of names is refused at the length of the first that is too long
+pub judge-long : (most : ℕ) (r : PaneAnimInfo) → FineBut most r → namesFit (r .contents) ≡ false → section (words r) (texts r) 0 0 ≡ badWord (longAt r)
+unfolding longAt
+judge-long most r q e =
+    let n = texture-words (r .textures) in
+    judge-head most r q
+    ∙ rw (names-long most (words r) (texts r) (4 + wordCount (each textureCells (r .textures))) (0 + byteCount (each textureCells (r .textures))) (r .contents) (q .contents) e (contents-there most r q), n)
 
 -- ---- what the walk accepts stands there
 
@@ -537,7 +622,7 @@ none-there a b =
       texts = record { fits = omega arith; same = refl };
     }
 
-abbrev AllOf : {X : Type 0} → (X → Type 0) → ℕ → List X → Type 0
+abbrev pub AllOf : {X : Type 0} → (X → Type 0) → ℕ → List X → Type 0
 AllOf Q n xs = All Q xs × (length xs ≡ n)
 
 module _ {X : Type 0} (p : J X) (cellsOf : X → List Cell) (Q : X → Type 0) (sound : Sound p cellsOf Q) where

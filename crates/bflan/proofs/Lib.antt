@@ -16,7 +16,9 @@ pub mod Locating
 pub mod MeasureParts
 pub mod Measures
 pub mod ReadBack
+pub mod ReadTree
 pub mod Replacing
+pub mod Rewriting
 pub mod RoundTrip
 pub mod SectionParts
 pub mod StoredParts

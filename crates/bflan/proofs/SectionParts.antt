@@ -5,23 +5,27 @@ use mathlib.Core.Path.{_≡_, refl, ap, sym, _∙_}
 use mathlib.Core.List.{List, [], _∷_, _++_, append-nil}
 use native.Mathlib.Omega.{arith}
 use borrow.Author.Tests.{eq-eqb, ne-eqb}
+use lib.Dec.{eqb}
 use lib.ListN.{length}
 use lib.Seq.{sets}
-use Rattle.core.specs.Number.{get}
+use Rattle.core.specs.Number.{get, readOf}
 use Rattle.core.specs.Run.{numbersAt, numbersOf}
 use Rattle.core.specs.Seek.{seekOf}
+use Rattle.core.specs.declared.number.Read.the-variants.{Value, Past as ReadPast}
 use Rattle.core.specs.declared.run.Run.the-variants.{Next, Cut}
 use Rattle.core.specs.declared.seek.Sought.the-variants.{At, Past as SoughtPast}
+use Rattle.core.proofs.Numbers.{read-value}
 use Rattle.bflan.specs.declared.fault.Fault.{Fault}
 use Rattle.bflan.specs.declared.fault.Fault.the-variants.{PastEnd, NotPai1}
+use Rattle.bflan.specs.declared.section.SectionHeader.{SectionHeader}
 use Rattle.bflan.specs.declared.tally.Tally.{Tally}
 use Rattle.bflan.specs.declared.tally.Walk.{Walk}
 use Rattle.bflan.specs.declared.tally.Walk.the-variants.{On, No}
-use Rattle.bflan.specs.Reader.{Res, ok, stop, andThen, Item, word, seekTo, numbers, visit}
+use Rattle.bflan.specs.Reader.{Res, ok, stop, andThen, given, fail, Item, word, num, seekTo, numbers, visit}
 use Rattle.bflan.specs.Reading.{content, texture, contents, pai1, flagOf, body, section}
-use Rattle.bflan.specs.SectionParts.{ending, parts}
+use Rattle.bflan.specs.SectionParts.{header, ending, parts}
 use Rattle.bflan.specs.Walk.{moved, run, told}
-use Rattle.bflan.proofs.Emits.{sought-on, sought-past, four-stores}
+use Rattle.bflan.proofs.Emits.{num-on, num-past, sought-on, sought-past, four-stores}
 use Rattle.bflan.proofs.KeyRuns.{num-there, num-short, numbers-run}
 use Rattle.bflan.proofs.TargetParts.{run-words}
 use Rattle.bflan.proofs.Walks.{before, joined, put-before, turn-on, turn-no, told-stop, told-ok}
@@ -51,18 +55,6 @@ chain ws s size table n (ok ts j) = inner (contents table n s j)
 
 module _ (s : List ℕ) where
   -- ---- the first eight bytes
-
-  pub section-short4 : length s < 4 → section s 0 ≡ stop (PastEnd 0 4)
-  unfolding section
-  section-short4 h = rw (num-short 4 s 0 h)
-
-  pub section-short8 : 4 ≤ length s → length s < 8 → section s 0 ≡ stop (PastEnd 4 4)
-  unfolding section
-  section-short8 h k = rw (num-there 4 s 0 h, num-short 4 s 4 k)
-
-  pub section-letters : 8 ≤ length s → (get 4 s 0 ≡ pai1 → ⊥) → section s 0 ≡ stop (NotPai1 (get 4 s 0))
-  unfolding section
-  section-letters h e = let a : 4 ≤ length s = omega arith in rw (num-there 4 s 0 a, num-there 4 s 4 h, ne-eqb (get 4 s 0) pai1 e)
 
   pub section-body : 8 ≤ length s → get 4 s 0 ≡ pai1 → section s 0 ≡ body (get 4 s 4) s 8
   unfolding section
@@ -183,22 +175,61 @@ module _ (s : List ℕ) (size table n : ℕ) where
   chained (ok ts j) = ap (before ts) (sym (ending-is j))
 
 -- what is behind the section's first eight bytes, as the code has it
-pub body-parts : (s : List ℕ) → 20 ≤ length s → {size nt table nc q : ℕ} → size ≡ get 4 s 4 → nt ≡ get 2 s 12 → table ≡ get 4 s 16 → nc ≡ get 2 s 14 → numbersOf nt s 20 ≡ Next q
-    → body (get 4 s 4) s 8 ≡ before (headWords s size) (parts size (numbersAt nt s 20) table nc s q)
-body-parts s h {size} {nt} {table} {nc} {q} es et ea ec e =
+pub body-parts : (s : List ℕ) (size : ℕ) → 20 ≤ length s → {nt table nc q : ℕ} → nt ≡ get 2 s 12 → table ≡ get 4 s 16 → nc ≡ get 2 s 14 → numbersOf nt s 20 ≡ Next q
+    → body size s 8 ≡ before (headWords s size) (parts size (numbersAt nt s 20) table nc s q)
+body-parts s size h {nt} {table} {nc} {q} et ea ec e =
     let d : numbersOf (get 2 s 12) s 20 ≡ Next q = rw et at e in
     let ts = visit 20 texture (numbersAt (get 2 s 12) s 20) s q in
-    rw (es, et, ea, ec)
-    (body-there s (get 4 s 4) h q d
-    ∙ ap (before (headWords s (get 4 s 4))) (chained s (get 4 s 4) (get 4 s 16) (get 2 s 14) ts ∙ sym (parts-is s (get 4 s 4) (get 4 s 16) (get 2 s 14) (numbersAt (get 2 s 12) s 20) q)))
+    rw (et, ea, ec)
+    (body-there s size h q d
+    ∙ ap (before (headWords s size)) (chained s size (get 4 s 16) (get 2 s 14) ts ∙ sym (parts-is s size (get 4 s 16) (get 2 s 14) (numbersAt (get 2 s 12) s 20) q)))
 
--- the letters as the code has them
-module _ (s : List ℕ) (h : 8 ≤ length s) {letters : ℕ} (el : letters ≡ get 4 s 0) where
-  pub section-other : (letters ≡ pai1 → ⊥) → section s 0 ≡ stop (NotPai1 letters)
-  section-other e = section-letters s h (λ z. e (el ∙ z)) ∙ ap (λ (k : ℕ). stop (NotPai1 k)) (sym el)
+-- ---- the header, by core's answers: refused at its letters, at its size, or read whole
 
-  pub section-pai1 : letters ≡ pai1 → section s 0 ≡ body (get 4 s 4) s 8
-  section-pai1 e = section-body s h (sym el ∙ e)
+module _ (s : List ℕ) where
+  pub header-letters : (o k : ℕ) → readOf 4 s 0 ≡ ReadPast o k → stop (PastEnd o k) ≡ header s 0
+  unfolding header
+  header-letters o k f = rw (num-past 4 s 0 o k f)
+
+  pub header-size : {a p : ℕ} (o k : ℕ) → readOf 4 s 0 ≡ Value a p → readOf 4 s p ≡ ReadPast o k → stop (PastEnd o k) ≡ header s 0
+  unfolding header
+  header-size {a} {p} o k e f = rw (num-on 4 s 0 a p e, num-past 4 s p o k f)
+
+  pub header-whole : {a b p q : ℕ} → readOf 4 s 0 ≡ Value a p → readOf 4 s p ≡ Value b q → ok (record { magic = a; size = b }) 8 ≡ header s 0
+  unfolding header
+  header-whole {a} {b} {p} {q} e f =
+      let n : q ≡ 8 = read-value 4 s p b q f .next ∙ ap (λ (i : ℕ). i + 4) (read-value 4 s 0 a p e .next) in
+      rw (num-on 4 s 0 a p e, num-on 4 s p b q f, n)
+
+  -- a section by its header
+  behind : SectionHeader → List ℕ → ℕ → Res (List Item)
+  behind h = given (eqb (h .magic) pai1) (body (h .size)) (fail (NotPai1 (h .magic)))
+
+  section-header : section s 0 ≡ andThen (header s 0) behind s
+  unfolding section header behind
+  section-header = go (num 4 s 0)
+    where
+      go : (r : Res ℕ)
+          → andThen r (λ (a : ℕ) (s₁ : List ℕ) (i : ℕ). andThen (num 4 s₁ i) (λ (b : ℕ). given (eqb a pai1) (body b) (fail (NotPai1 a))) s₁) s
+          ≡ andThen (andThen r (λ (a : ℕ) (s₁ : List ℕ) (i : ℕ). andThen (num 4 s₁ i) (λ (b : ℕ) (s₂ : List ℕ) (j : ℕ). ok (record { magic = a; size = b }) j) s₁) s) behind s
+      go (stop f) = refl
+      go (ok a i) = inner (num 4 s i)
+        where
+          inner : (r : Res ℕ) → andThen r (λ (b : ℕ). given (eqb a pai1) (body b) (fail (NotPai1 a))) s ≡ andThen (andThen r (λ (b : ℕ) (s₂ : List ℕ) (j : ℕ). ok (record { magic = a; size = b }) j) s) behind s
+          inner (stop f) = refl
+          inner (ok b j) = refl
+
+  pub section-short : (f : Fault) → stop f ≡ header s 0 → section s 0 ≡ stop f
+  section-short f e = section-header ∙ ap (λ (r : Res SectionHeader). andThen r behind s) (sym e)
+
+  module _ (h : SectionHeader) (e : ok h 8 ≡ header s 0) where
+    pub section-other : (h .magic ≡ pai1 → ⊥) → section s 0 ≡ stop (NotPai1 (h .magic))
+    unfolding behind
+    section-other n = section-header ∙ ap (λ (r : Res SectionHeader). andThen r behind s) (sym e) ∙ rw (ne-eqb (h .magic) pai1 n)
+
+    pub section-pai1 : h .magic ≡ pai1 → section s 0 ≡ body (h .size) s 8
+    unfolding behind
+    section-pai1 n = section-header ∙ ap (λ (r : Res SectionHeader). andThen r behind s) (sym e) ∙ rw (eq-eqb (h .magic) pai1 n)
 
 -- ---- walks
 

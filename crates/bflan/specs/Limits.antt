@@ -58,21 +58,34 @@ abbrev pub FineInfo : AnimInfo → Type 0
 FineInfo (Standard letters ts) = FineStandard letters ts
 FineInfo (ExtendedUserData ds) = (length ds < 256) × All FineDatum ds
 
-pub record FineContent (c : AnimContent) : Type 0 where
-  pub short : length (c .name) ≤ 28
+-- a content whose name has at most `most` bytes
+pub record FineNamed (most : ℕ) (c : AnimContent) : Type 0 where
+  pub short : length (c .name) ≤ most
   pub name : FineText (c .name)
   pub type : c .type < 5
   pub count : length (c .infos) < 256
   pub infos : All FineInfo (c .infos)
 
--- all but the written length
-pub record Fine (r : PaneAnimInfo) : Type 0 where
+-- a name has at most 28 bytes
+abbrev pub FineContent : AnimContent → Type 0
+FineContent c = FineNamed 28 c
+
+-- all but the written length, with names of at most `most` bytes
+pub record FineBut (most : ℕ) (r : PaneAnimInfo) : Type 0 where
   pub frames : r .frames < 65536
   pub looping : r .looping < 2
   pub textureCount : length (r .textures) < 65536
   pub contentCount : length (r .contents) < 65536
   pub textures : All FineText (r .textures)
-  pub contents : All FineContent (r .contents)
+  pub contents : All (FineNamed most) (r .contents)
+
+-- all but the written length
+abbrev pub Fine : PaneAnimInfo → Type 0
+Fine r = FineBut 28 r
+
+-- the same but for the length of names: a name that is read has at most 28 bytes, of which each is shown by at most three
+abbrev pub Readable : PaneAnimInfo → Type 0
+Readable r = FineBut 84 r
 
 pub record Within (r : PaneAnimInfo) : Type 0 where
   pub fine : Fine r

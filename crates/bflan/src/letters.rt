@@ -1,6 +1,6 @@
 // The letters of an info, and what they say of the target numbers below it (document 01, 'The section', Info).
 ghost use mathlib.Core.Path.{_≡_};
-ghost use Rattle.bflan.specs.Letters.{kindOf, lettersOf, targetOf};
+ghost use Rattle.bflan.specs.Letters.{kindOf, lettersOf, targetOf, targetFits};
 
 // The codes, each the number that its four letters are in a section, the first of them its lowest byte; with the Rust's names.
 
@@ -172,5 +172,16 @@ pub fn resolve(letters: u32, raw: u8) -> u8
         },
         FLEU => INVALID_TARGET,
         _ => INVALID_TARGET,
+    }
+}
+
+// Whether a record may have this target number under these letters.
+pub fn target_fits(letters: u32, number: u32) -> bool
+    ensures { λ r. ⌜ r ≡ targetFits letters number ⌝ }
+{
+    match kind_of(letters) {
+        AnimInfoType::Standard(count) => number < (count as u32),
+        AnimInfoType::ExtendedUserData => number == 255,
+        AnimInfoType::Invalid => number == 255,
     }
 }

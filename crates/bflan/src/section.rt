@@ -8,7 +8,7 @@ ghost use Rattle.core.specs.Number.{get};
 ghost use Rattle.core.specs.Run.{numbersAt};
 ghost use Rattle.bflan.specs.Reader.{stop};
 ghost use Rattle.bflan.specs.Reading.{flagOf, body, section};
-ghost use Rattle.bflan.specs.SectionParts.{ending, parts};
+ghost use Rattle.bflan.specs.SectionParts.{header, asHeader, ending, parts};
 ghost use Rattle.bflan.specs.Walk.{moved, run, told};
 use crate::content::contents_of;
 use crate::emit::put2;
@@ -16,10 +16,11 @@ use crate::fault::Fault;
 use crate::offset::byte_at;
 use crate::offset::half_at;
 use crate::offset::offset_at;
-use crate::offset::word_at;
 use crate::tally::Tally;
 use crate::tally::Walk;
 use crate::texture::textures;
+use core::cursor::u32_at;
+use core::number::Read;
 use core::run::Run;
 use core::run::numbers_end;
 use core::seek::Sought;
@@ -27,6 +28,31 @@ use core::seek::seek;
 
 // The letters `pai1`, as the number that their four bytes are.
 pub(crate) const PAI1: u32 = 0x3169_6170;
+
+// The letters and the size that a section begins with (section.rs of the Rust).
+pub struct SectionHeader {
+    pub magic: u32,
+    pub size: u32,
+}
+
+// What the read of a header gives: both numbers, or what stopped it.
+pub enum Header {
+    Got(SectionHeader),
+    Short(Fault),
+}
+
+// The header, read through a cursor.
+fn header_at(s: &[u8]) -> Header
+    ensures { λ r. ⌜ asHeader r ≡ header (now (s .entry)) 0 ⌝ }
+{
+    match u32_at(s, 0) {
+        Read::Past(o, k) => Header::Short(Fault::PastEnd(o, k)),
+        Read::Value(magic, p) => match u32_at(s, p) {
+            Read::Past(o, k) => Header::Short(Fault::PastEnd(o, k)),
+            Read::Value(size, _q) => Header::Got(SectionHeader { magic, size }),
+        },
+    }
+}
 
 // Where the reading stops of a section that has its first eight bytes, but not the twelve behind them.
 fn short_body(s: &[u8]) -> Fault
@@ -50,24 +76,6 @@ fn short_body(s: &[u8]) -> Fault
         return Fault::PastEnd(14, 2);
     }
     Fault::PastEnd(16, 4)
-}
-
-// Where the reading stops of a section whose twenty bytes are not all there.
-fn short(s: &[u8]) -> Fault
-    requires { ⌜ length (now s) < 20 ⌝ }
-    ensures { λ r. ⌜ section (now (s .entry)) 0 ≡ stop r ⌝ }
-{
-    if s.len() < 4 {
-        return Fault::PastEnd(0, 4);
-    }
-    if s.len() < 8 {
-        return Fault::PastEnd(4, 4);
-    }
-    let letters = word_at(s, 0);
-    if letters != PAI1 {
-        return Fault::NotPai1(letters);
-    }
-    short_body(s)
 }
 
 // The word of the looping byte: any but 0 is yes.
@@ -137,15 +145,14 @@ fn parts(
 }
 
 // What is behind the section's first eight bytes, with its head there.
-fn body_at(s: &[u8], words: &mut [u32], texts: &mut [u8], t: Tally) -> Walk
+fn body_at(s: &[u8], size: usize, words: &mut [u32], texts: &mut [u8], t: Tally) -> Walk
     requires { ⌜ (length (now s) ≤ 16777216) × (20 ≤ length (now s)) ⌝ }
-    ensures { λ r. ⌜ told r (now (words .exit)) (now (texts .exit)) ≡ run (now (s .entry)) t (now (words .entry)) (now (texts .entry)) (body (get 4 (now (s .entry)) 4) (now (s .entry)) 8) ⌝ }
+    ensures { λ r. ⌜ told r (now (words .exit)) (now (texts .exit)) ≡ run (now (s .entry)) t (now (words .entry)) (now (texts .entry)) (body size (now (s .entry)) 8) ⌝ }
 {
     let nt = half_at(s, 12) as usize;
     match numbers_end(s, 20, nt) {
         Run::Cut(offset, requested) => Walk::No(Fault::PastEnd(offset, requested)),
         Run::Next(p) => {
-            let size = offset_at(s, 4);
             let nc = half_at(s, 14) as usize;
             let table = offset_at(s, 16);
             let u = put_head(s, words, t);
@@ -159,12 +166,17 @@ pub(crate) fn section_at(s: &[u8], words: &mut [u32], texts: &mut [u8], t: Tally
     requires { ⌜ length (now s) ≤ 16777216 ⌝ }
     ensures { λ r. ⌜ told r (now (words .exit)) (now (texts .exit)) ≡ run (now (s .entry)) t (now (words .entry)) (now (texts .entry)) (section (now (s .entry)) 0) ⌝ }
 {
-    if s.len() < 20 {
-        return Walk::No(short(s));
+    match header_at(s) {
+        Header::Short(f) => Walk::No(f),
+        Header::Got(h) => {
+            let magic = h.magic;
+            if magic != PAI1 {
+                return Walk::No(Fault::NotPai1(magic));
+            }
+            if s.len() < 20 {
+                return Walk::No(short_body(s));
+            }
+            body_at(s, h.size as usize, words, texts, t)
+        }
     }
-    let letters = word_at(s, 0);
-    if letters != PAI1 {
-        return Walk::No(Fault::NotPai1(letters));
-    }
-    body_at(s, words, texts, t)
 }

@@ -1,4 +1,5 @@
 pub mod Apart
+pub mod Cursors
 pub mod Exercises
 pub mod Filling
 pub mod Floats

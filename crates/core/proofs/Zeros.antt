@@ -36,6 +36,11 @@ free-other : (b : ℕ) (bs : List ℕ) → (b ≡ 0 → ⊥) → zeroFree (b ∷
 unfolding zeroFree
 free-other b bs e = rw (ne-eqb _ _ e)
 
+-- a byte that passes the test is above zero
+pub byte-some : (b : ℕ) → not (eqb b 0) ≡ true → 0 < b
+byte-some zero e = absurd (true≢false (sym e))
+byte-some (suc b) e = omega arith
+
 -- ---- lists
 
 -- a byte is zero or not

@@ -1,4 +1,5 @@
 // Bytes and text: what every layer above is made of. No function that another crate can call asks anything of its caller.
+pub mod cursor;
 pub mod fill;
 pub mod float;
 pub mod number;

@@ -1,6 +1,6 @@
 // Little-endian numbers of one, two and four bytes at a position of a slice.
 ghost use mathlib.Core.Path.{_≡_};
-ghost use Prim.Native.Nat.{_+_, _<_, _≤_};
+ghost use Prim.Native.Nat.{_+_, _<_, _≤_, min};
 ghost use lib.ListN.{length};
 ghost use Rattle.core.specs.Number.{get, put, readOf};
 use crate::fill::ahead;
@@ -12,6 +12,18 @@ pub enum Read {
     Value(u32, usize),
     // The slice ends first: the position, and how many bytes were asked for.
     Past(usize, usize),
+}
+
+const MOST: usize = 18446744073709551615;
+
+// A sum, or the largest number where that does not hold it.
+pub(crate) fn total(a: usize, b: usize) -> usize
+    ensures { λ r. ⌜ r ≡ min (a + b) 18446744073709551615 ⌝ }
+{
+    if b <= MOST - a {
+        return a + b;
+    }
+    MOST
 }
 
 fn wide(b: u8) -> u32

@@ -5,6 +5,7 @@ ghost use lib.ListN.{length, take, drop};
 ghost use Rattle.core.specs.Choice.{pick};
 ghost use Rattle.core.specs.Text.{beforeZero, zeroFree, firstFault, fixedOf, endedOf};
 use crate::utf8::first_ill;
+use crate::utf8::scan::is_plain;
 
 // Where a text was looked for, what is there.
 pub enum TextAt {
@@ -99,6 +100,21 @@ fn zero_from(text: &[u8], at: usize) -> usize
     i
 }
 
+// The same where fewer than 8 bytes are left, and no zero stands before them: the last 8 bytes are tested together.
+fn zero_behind(text: &[u8], at: usize) -> usize
+    requires { ⌜ (at ≤ beforeZero (now text)) × (length (now text) < at + 8) ⌝ }
+    ensures { λ r. ⌜ r ≡ beforeZero (now (text .entry)) ⌝ }
+{
+    let n = text.len();
+    if n < 8 {
+        return zero_from(text, at);
+    }
+    if clear_in(text, n - 8, 8) {
+        return n;
+    }
+    zero_from(text, at)
+}
+
 // How many bytes stand before the first zero; all, where there is none.
 pub fn first_zero(text: &[u8]) -> usize
     ensures { λ r. ⌜ r ≡ beforeZero (now (text .entry)) ⌝ }
@@ -111,13 +127,16 @@ pub fn first_zero(text: &[u8]) -> usize
     if 8 <= text.len() - near {
         return zero_in(text, near);
     }
-    zero_from(text, near)
+    zero_behind(text, near)
 }
 
 // Where the first zero or the first ill-formed subpart stands, whichever is earlier; the length, where there is neither.
 pub fn first_fault(text: &[u8]) -> usize
     ensures { λ r. ⌜ r ≡ firstFault (now (text .entry)) ⌝ }
 {
+    if is_plain(text) {
+        return text.len();
+    }
     let zero = first_zero(text);
     let ill = first_ill(text);
     if zero < ill { zero } else { ill }

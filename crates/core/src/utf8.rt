@@ -9,6 +9,7 @@ ghost use Rattle.core.specs.Flow.{Rows};
 use crate::fill::ahead;
 use crate::fill::copy;
 use crate::fill::copy_on;
+use crate::number::total;
 use crate::utf8::class::CLASSES;
 use crate::utf8::class::class_in;
 use crate::utf8::flow::ROWS;
@@ -20,20 +21,8 @@ use crate::utf8::step::step_at;
 
 pub mod class;
 mod flow;
-mod scan;
+pub(crate) mod scan;
 pub mod step;
-
-const MOST: usize = 18446744073709551615;
-
-// A sum, or the largest number where that does not hold it.
-fn total(a: usize, b: usize) -> usize
-    ensures { λ r. ⌜ r ≡ min (a + b) 18446744073709551615 ⌝ }
-{
-    if b <= MOST - a {
-        return a + b;
-    }
-    MOST
-}
 
 fn put_clipped(out: &mut [u8], at: usize) -> usize
     ensures { λ r. ⌜ (now (out .exit) ≡ sets (now (out .entry)) at replacement) × (r ≡ at + min 3 (length (now (out .entry)) - at)) ⌝ }
@@ -55,14 +44,37 @@ fn put_replacement(out: &mut [u8], at: usize) -> usize
     at + 3
 }
 
-// Where the first ill-formed subpart starts, or the length: in a text that is not all ASCII,
+// Whether a short text is well-formed, by one way through the automaton.
+fn short_sound(text: &[u8], classes: &[u8; 256], rows: &[u64; 16]) -> bool
+    requires { ⌜ Classes (now classes) × Rows (now rows) ⌝ }
+    ensures { λ r. ⌜ (r ≡ true → sound (now (text .entry)) ≡ length (now (text .entry))) ⌝ }
+{
+    let n = text.len();
+    if 64 < n {
+        return false;
+    }
+    flow_over(text, 0, n, 0, classes, rows) % 64 == 0
+}
+
+// Where the first ill-formed subpart starts, or the length. A short text is looked at as a whole first: names are well-formed.
+fn ill_by(text: &[u8], classes: &[u8; 256], rows: &[u64; 16]) -> usize
+    requires { ⌜ Classes (now classes) × Rows (now rows) ⌝ }
+    ensures { λ r. ⌜ r ≡ sound (now (text .entry)) ⌝ }
+{
+    if short_sound(text, classes, rows) {
+        return text.len();
+    }
+    let run = next_run(text, 0, classes, rows);
+    run.end
+}
+
+// The same in a text that is not all ASCII,
 fn ill_mixed(text: &[u8]) -> usize
     ensures { λ r. ⌜ r ≡ sound (now (text .entry)) ⌝ }
 {
     let classes = CLASSES;
     let rows = ROWS;
-    let run = next_run(text, 0, &classes, &rows);
-    run.end
+    ill_by(text, &classes, &rows)
 }
 
 // and in any.
@@ -133,19 +145,7 @@ fn decode_runs(
     }
 }
 
-// Whether a short text is well-formed, by one way through the automaton.
-fn short_sound(text: &[u8], classes: &[u8; 256], rows: &[u64; 16]) -> bool
-    requires { ⌜ Classes (now classes) × Rows (now rows) ⌝ }
-    ensures { λ r. ⌜ (r ≡ true → sound (now (text .entry)) ≡ length (now (text .entry))) ⌝ }
-{
-    let n = text.len();
-    if 64 < n {
-        return false;
-    }
-    flow_over(text, 0, n, 0, classes, rows) % 64 == 0
-}
-
-// A short text is looked at as a whole first: names are well-formed.
+// A short text as a whole first here too.
 fn decode_by(text: &[u8], out: &mut [u8], at: usize, classes: &[u8; 256], rows: &[u64; 16]) -> usize
     requires { ⌜ Classes (now classes) × Rows (now rows) ⌝ }
     ensures { λ r. ⌜ (r ≡ decodedSize (now (text .entry))) × (now (out .exit) ≡ sets (now (out .entry)) at (decode (now (text .entry)))) ⌝ }

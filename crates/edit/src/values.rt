@@ -1,7 +1,6 @@
 // The words of a change's new value, and which of them a field takes.
 ghost use mathlib.Core.Path.{_≡_};
 ghost use mathlib.Core.List.{[], _∷_};
-ghost use Rattle.bflan.specs.Letters.{targetFits};
 ghost use Rattle.bflan.specs.Places.{widths, total, fitWidths, fit};
 ghost use Rattle.bflan.specs.declared.place.Field.the-variants.{Target, Key};
 ghost use Rattle.edit.specs.Editing.{placeOf, keyWords, valuesOf};
@@ -9,8 +8,7 @@ ghost use Rattle.edit.specs.Packing.{valuesIn, packedOf, oneMost};
 use crate::edit::Change;
 use crate::journal::Packed;
 use crate::key::NewKey;
-use bflan::letters::AnimInfoType;
-use bflan::letters::kind_of;
+use bflan::letters::target_fits;
 use bflan::place::Field;
 use bflan::place::Place;
 use core::float::hermite_to_bits;
@@ -119,17 +117,6 @@ fn fits_hermite(v: Values) -> bool
         Values::One(_a) => false,
         Values::Two(_a, _b) => false,
         Values::Three(_a, _b, _c) => true,
-    }
-}
-
-// Whether a target's number is one that the record's limits allow under these letters.
-fn target_fits(letters: u32, t: u32) -> bool
-    ensures { λ r. ⌜ r ≡ targetFits letters t ⌝ }
-{
-    match kind_of(letters) {
-        AnimInfoType::Standard(n) => t < n as u32,
-        AnimInfoType::ExtendedUserData => t == 255,
-        AnimInfoType::Invalid => t == 255,
     }
 }
 

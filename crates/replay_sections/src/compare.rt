@@ -6,6 +6,12 @@ use core::number::read_u32;
 // The longest table of words.
 pub(crate) const WORDS: usize = 256;
 
+// The longest table of text bytes.
+pub(crate) const TEXTS: usize = 320;
+
+// The places before a table, and at least as many are behind it.
+pub(crate) const BEFORE: usize = 8;
+
 // The mark of a place: no two places near each other have the same.
 fn word_mark(i: usize) -> u32 {
     2779054080 + (i % 65536) as u32
@@ -104,4 +110,15 @@ pub(crate) fn same_bytes(t: &[u8], from: usize, bytes: &[u8]) -> bool {
         i += 1;
     }
     true
+}
+
+// Whether the table among these places begins with `bytes`, and all other places have their marks.
+pub(crate) fn bytes_right(places: &[u8], bytes: &[u8]) -> bool {
+    let n = bytes.len();
+    if n > places.len() {
+        return false;
+    }
+    bytes_marked(places, 0, BEFORE)
+        && same_bytes(places, BEFORE, bytes)
+        && bytes_marked(places, n + BEFORE, places.len())
 }

@@ -1,6 +1,7 @@
 // Finding the texts of a section that is read, into a scratch that stands among marked places.
 ghost use Prim.Native.Nat.{_≤_};
 ghost use lib.ListN.{length};
+use crate::compare::BEFORE;
 use crate::compare::bytes_marked;
 use crate::compare::mark_bytes;
 use crate::compare::same_bytes;
@@ -23,10 +24,8 @@ use bflan::find::find_text;
 use bflan::find::text_part;
 use core::part::part;
 
-// The scratch, the places before it, where it ends, and all places.
+// The scratch, where it ends, and all places.
 const SCRATCH: usize = 320;
-
-const BEFORE: usize = 8;
 
 const END: usize = 328;
 

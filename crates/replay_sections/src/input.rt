@@ -1,4 +1,4 @@
-// The cases of a sample.
+// The cases of a sample: sections to read, and records to write.
 ghost use Prim.Native.Nat.{_+_, _≤_};
 ghost use lib.ListN.{length};
 use core::number::Read;
@@ -23,9 +23,21 @@ pub(crate) struct Case {
     pub(crate) record_texts: Span,
 }
 
+pub(crate) struct Record {
+    pub(crate) words: Span,
+    pub(crate) texts: Span,
+    // the output's length
+    pub(crate) room: usize,
+    pub(crate) answer: Answer,
+    // the bytes that the output then begins with: none where the record is not written
+    pub(crate) section: Span,
+}
+
 pub(crate) enum Next {
-    // A case, and the position behind it.
+    // A section to read, and the position behind it.
     Case(Case, usize),
+    // A record to write, and the position behind it.
+    Record(Record, usize),
     // No whole case stands here.
     Bad,
 }
@@ -43,8 +55,8 @@ fn value(r: Read) -> usize {
     }
 }
 
-// A value that the record has if the section is read, and else 0.
-fn if_read(answer: Answer, v: usize) -> usize {
+// A value that is a length if the call is accepted, and else 0.
+fn if_accepted(answer: Answer, v: usize) -> usize {
     if answer.0 == 0 {
         return v;
     }
@@ -62,8 +74,8 @@ fn with_record(
 ) -> Next
     requires { ⌜ at + left ≤ 18446744073709551615 ⌝ }
 {
-    let n = if_read(answer, answer.1);
-    let m = if_read(answer, answer.2);
+    let n = if_accepted(answer, answer.1);
+    let m = if_accepted(answer, answer.2);
     if left / 4 < n {
         return Next::Bad;
     }
@@ -107,19 +119,86 @@ fn with_section(s: &[u8], start: usize, len: usize) -> Next
     )
 }
 
-// The case at a position.
-pub(crate) fn next_case(s: &[u8], at: usize) -> Next {
-    let size = s.len();
-    if at >= size {
-        return Next::Bad;
-    }
-    if size - at < 2 {
+// The case of a section that begins at a position.
+fn section_case(s: &[u8], at: usize) -> Next
+    requires { ⌜ at ≤ length (now s) ⌝ }
+{
+    if s.len() - at < 2 {
         return Next::Bad;
     }
     let len = value(read_u16(s, at));
     let start = at + 2;
-    if size - start < len {
+    if s.len() - start < len {
         return Next::Bad;
     }
     with_section(s, start, len)
+}
+
+// The case of a record whose lists end at a position.
+fn with_answer(s: &[u8], words: Span, texts: Span, room: usize, at: usize) -> Next
+    requires { ⌜ at ≤ length (now s) ⌝ }
+{
+    if s.len() - at < 8 {
+        return Next::Bad;
+    }
+    let number = value(read_u32(s, at));
+    let a = value(read_u32(s, at + 4));
+    let answer = Answer(number, a, 0);
+    let start = at + 8;
+    let len = if_accepted(answer, a);
+    if s.len() - start < len {
+        return Next::Bad;
+    }
+    let r = Record {
+        words,
+        texts,
+        room,
+        answer,
+        section: Span(start, len),
+    };
+    Next::Record(r, start + len)
+}
+
+// The case of a record whose n words begin at a position, with m text bytes behind them.
+fn with_lists(s: &[u8], at: usize, n: usize, m: usize, room: usize) -> Next
+    requires { ⌜ at ≤ length (now s) ⌝ }
+{
+    let left = s.len() - at;
+    if left / 4 < n {
+        return Next::Bad;
+    }
+    let size = 4 * n;
+    if left - size < m {
+        return Next::Bad;
+    }
+    let middle = at + size;
+    with_answer(s, Span(at, size), Span(middle, m), room, middle + m)
+}
+
+// The case of a record that begins at a position.
+fn record_case(s: &[u8], at: usize) -> Next
+    requires { ⌜ at ≤ length (now s) ⌝ }
+{
+    if s.len() - at < 6 {
+        return Next::Bad;
+    }
+    let n = value(read_u16(s, at));
+    let m = value(read_u16(s, at + 2));
+    let room = value(read_u16(s, at + 4));
+    with_lists(s, at + 6, n, m, room)
+}
+
+// The case at a position: its first byte says which kind it is.
+pub(crate) fn next_case(s: &[u8], at: usize) -> Next {
+    if at >= s.len() {
+        return Next::Bad;
+    }
+    let kind = s[at];
+    if kind == 0 {
+        return section_case(s, at + 1);
+    }
+    if kind == 1 {
+        return record_case(s, at + 1);
+    }
+    Next::Bad
 }

@@ -1,32 +1,36 @@
-// Replays a sample of sections, read from standard input, that has the Rust reference's answers (rust/src/sample.rs has its
-// format). Each section is read into tables that stand among marked places, and each text of a section that is read is looked
-// up: answers, tables, and every place around them must be as the sample says.
+// Replays a sample of sections and records, read from standard input, that has the Rust reference's answers (rust/src/sample.rs
+// and sample_records.rs have its format). Each section is read into tables that stand among marked places, and each text of a
+// section that is read is looked up; each record is written into an output that stands among them. Answers, tables, the output
+// and every place around them must be as the sample says.
 mod compare;
 mod finding;
 mod input;
 mod reading;
 mod record;
 mod report;
+mod writing;
 
 ghost use mathlib.Core.Path.{_≡_};
 ghost use lib.ListN.{length};
 use crate::finding::find_texts;
 use crate::input::Case;
 use crate::input::Next;
+use crate::input::Record;
 use crate::input::next_case;
 use crate::reading::read_section;
 use crate::report::COUNTS;
 use crate::report::count_case;
 use crate::report::malformed;
 use crate::report::report;
+use crate::writing::write_record;
 use core::part::part;
 use libc::STDIN_FILENO;
 
 // The room for the sample.
 const ROOM: usize = 1048576;
 
-// Replays a case. False if it is none that the program is made for.
-fn replay_case(sample: &[u8], c: Case, counts: &mut [u64]) -> bool {
+// Replays the case of a section. False if it is none that the program is made for.
+fn replay_section(sample: &[u8], c: Case, counts: &mut [u64]) -> bool {
     let answer = c.answer;
     if !count_case(counts, answer.0) {
         return false;
@@ -38,17 +42,27 @@ fn replay_case(sample: &[u8], c: Case, counts: &mut [u64]) -> bool {
     true
 }
 
+// The same for a record.
+fn replay_record(sample: &[u8], r: Record, counts: &mut [u64]) -> bool {
+    let answer = r.answer;
+    if !count_case(counts, answer.0) {
+        return false;
+    }
+    write_record(sample, r, counts)
+}
+
+// The position behind a case that was replayed, or the same position.
+fn behind(right: bool, at: usize, end: usize) -> usize {
+    if right { end } else { at }
+}
+
 // Replays the case at a position and gives the position behind it; where there is no case, the same position.
 fn step(sample: &[u8], at: usize, counts: &mut [u64]) -> usize {
     let next = next_case(sample, at);
     match next {
         Next::Bad => at,
-        Next::Case(c, end) => {
-            if replay_case(sample, c, counts) {
-                return end;
-            }
-            at
-        }
+        Next::Case(c, end) => behind(replay_section(sample, c, counts), at, end),
+        Next::Record(r, end) => behind(replay_record(sample, r, counts), at, end),
     }
 }
 

@@ -1,11 +1,12 @@
 // Reading the section of a case into tables that stand among marked places.
 ghost use Prim.Native.Nat.{_+_, _≤_};
 ghost use lib.ListN.{length};
+use crate::compare::BEFORE;
+use crate::compare::TEXTS;
 use crate::compare::WORDS;
-use crate::compare::bytes_marked;
+use crate::compare::bytes_right;
 use crate::compare::mark_bytes;
 use crate::compare::mark_words;
-use crate::compare::same_bytes;
 use crate::compare::same_words;
 use crate::compare::words_marked;
 use crate::input::Answer;
@@ -15,10 +16,6 @@ use crate::report::note;
 use bflan::fault::Fault;
 use bflan::read::ReadAnswer;
 
-// The longest table of text bytes.
-const TEXTS: usize = 320;
-// The places before a table, and at least as many are behind it.
-const BEFORE: usize = 8;
 // All places.
 const ALL_WORDS: usize = 272;
 
@@ -67,16 +64,6 @@ fn words_right(words: &[u32], record: &[u8]) -> bool {
         && words_marked(words, n + BEFORE, ALL_WORDS)
 }
 
-fn texts_right(texts: &[u8], record: &[u8]) -> bool {
-    let m = record.len();
-    if m > TEXTS {
-        return false;
-    }
-    bytes_marked(texts, 0, BEFORE)
-        && same_bytes(texts, BEFORE, record)
-        && bytes_marked(texts, m + BEFORE, ALL_TEXTS)
-}
-
 // Reads the section of a case, whose tables are of n words and m bytes.
 fn read_case(sample: &[u8], c: Case, n: usize, m: usize, counts: &mut [u64])
     requires { ⌜ (n ≤ 256) × (m ≤ 320) ⌝ }
@@ -94,7 +81,7 @@ fn read_case(sample: &[u8], c: Case, n: usize, m: usize, counts: &mut [u64])
     );
     note(
         counts,
-        texts_right(&texts, bytes_of(sample, c.record_texts)),
+        bytes_right(&texts, bytes_of(sample, c.record_texts)),
         b"text bytes",
     );
 }

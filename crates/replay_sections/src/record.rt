@@ -46,14 +46,18 @@ fn less(n: usize) -> usize {
 }
 
 // Word i, or 0 behind the last.
-fn word(words: &[u8], i: usize) -> usize {
+pub(crate) fn word_at(words: &[u8], i: usize) -> u32 {
     if i > FAR {
         return 0;
     }
     match read_u32(words, 4 * i) {
-        Read::Value(v, _next) => v as usize,
+        Read::Value(v, _next) => v,
         Read::Past(_at, _asked) => 0,
     }
+}
+
+fn word(words: &[u8], i: usize) -> usize {
+    word_at(words, i) as usize
 }
 
 pub(crate) fn first(words: &[u8]) -> Place {

@@ -2,17 +2,19 @@
 use libc::STDOUT_FILENO;
 
 // The counts: first those of the answers with each number, then these.
-const ANSWERS: usize = 6;
+const ANSWERS: usize = 10;
 
-pub(crate) const IN_SECTION: usize = 6;
+pub(crate) const IN_SECTION: usize = 10;
 
-pub(crate) const DECODED: usize = 7;
+pub(crate) const DECODED: usize = 11;
 
-const CASES: usize = 8;
+pub(crate) const RECORDS: usize = 12;
 
-const DIFFERENCES: usize = 9;
+const CASES: usize = 13;
 
-pub(crate) const COUNTS: usize = 10;
+const DIFFERENCES: usize = 14;
+
+pub(crate) const COUNTS: usize = 15;
 
 // One more at a place.
 pub(crate) fn bump(counts: &mut [u64], place: usize) {
@@ -73,7 +75,8 @@ fn answers(counts: &[u64]) {
 }
 
 pub(crate) fn report(counts: &[u64]) {
-    line(b"cases ", count(counts, CASES), b"\n");
+    line(b"cases ", count(counts, CASES), b", of these ");
+    line(b"", count(counts, RECORDS), b" records\n");
     answers(counts);
     line(b"texts ", count(counts, IN_SECTION), b" in the section, ");
     line(b"", count(counts, DECODED), b" decoded\n");

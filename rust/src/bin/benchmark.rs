@@ -1,22 +1,25 @@
 //! Times the proved code beside the Rust, on the same bytes in the same program: the best of many repetitions, in bytes of
-//! input a second. Usage: benchmark [texts|sections|edits] [SECONDS a cell]; without a part, all.
+//! input a second. Usage: benchmark [texts|sections|records|edits] [SECONDS a cell]; without a part, all.
 //!
-//! texts: the decoding beside Rust's own. sections: reading beside the reference's `BflanSections::parse`. edits: an edit
-//! beside a reading of the same section, and an undo.
+//! texts: the decoding beside Rust's own. sections: reading beside the reference's `BflanSections::parse`. records: writing
+//! beside the reference's `BflanSectionsRef::serialize`, in bytes of the section. edits: an edit beside a reading of the same
+//! section, and an undo.
 use std::hint::black_box;
 use std::time::{Duration, Instant};
 
+use compare::bflan::file::BflanSections;
 use compare::change::{Change, NewKey};
 use compare::chars::{WORDS, char_of_len, damage, push, push_char};
 use compare::editor::Editor;
 use compare::journal::ENTRY_WORDS;
 use compare::layout::{InfoAt, PartsAt, Rules, walk};
-use compare::parse;
 use compare::proved::{self, Proved};
 use compare::random::Random;
 use compare::reader::Reader;
-use compare::record::LIMIT;
+use compare::record::{LIMIT, flat};
 use compare::sections::{content_p, speed};
+use compare::writer::Writer;
+use compare::{parse, serialize};
 
 /// The input of one line: texts one after another, each given by where it ends.
 struct Input {
@@ -140,31 +143,30 @@ fn main() {
         None => {
             texts(budget);
             sections(budget);
+            records(budget);
             edits(budget);
         }
         Some("texts") => texts(budget),
         Some("sections") => sections(budget),
+        Some("records") => records(budget),
         Some("edits") => edits(budget),
-        Some(part) => panic!("{part}: neither texts nor sections nor edits"),
+        Some(part) => panic!("{part}: none of texts, sections, records, edits"),
     }
 }
 
 /// Reads each section by both, the reference with what it makes dropped within the time and without.
 fn sections(budget: Duration) {
-    let (name, reader) = proved::reader();
-    println!(
-        "The reader is {name}. It fills tables that were made and touched before. A ratio is the reference's time"
-    );
-    println!("divided by the reader's: above 1, the reader takes less.\n");
+    println!("nnbfl_read fills tables that were made and touched before. A ratio is the reference's time divided by");
+    println!("the reader's: above 1, the reader takes less.\n");
     println!("| one section | MB | read | parse | ratio | parse, not dropped | ratio |");
     println!("|---|---|---|---|---|---|---|");
     for (name, section) in speed::sections() {
         let mut answer = [0; 3];
-        reader.read(&section, &mut [], &mut [], &mut answer);
+        Proved.read(&section, &mut [], &mut [], &mut answer);
         let [5, words, texts] = answer else { panic!("{name}: {answer:?}") };
         let (mut words, mut texts) = (vec![1u32; words], vec![1u8; texts]);
         let read = best(budget, || {
-            reader.read(black_box(&section), &mut words, &mut texts, &mut answer);
+            Proved.read(black_box(&section), &mut words, &mut texts, &mut answer);
             black_box((&words, &texts));
         });
         assert_eq!(answer, [0, words.len(), texts.len()]);
@@ -185,6 +187,57 @@ fn sections(budget: Duration) {
             whole / read,
             size / parsed,
             parsed / read
+        );
+    }
+    println!();
+}
+
+/// Writes the record of each section by both. Ours is given the flat record; what is timed is the whole call, the judging
+/// included, into an output that was made and touched before; and the judging alone, with no output. The reference is given its tree, and what is timed is
+/// `serialize` with the writer that it makes: the buffer that grows, and the name that it keeps of each part it begins. The
+/// buffer is its result, which is dropped within the time, or not.
+fn records(budget: Duration) {
+    println!(
+        "nnbfl_write judges a flat record and fills an output that was made and touched before; \"judged\" is the call"
+    );
+    println!(
+        "with an output of no length, which is refused. A ratio is the reference's time divided by the writer's: above"
+    );
+    println!("1, the writer takes less.\n");
+    println!("| the record of | MB | write | of it judged | serialize | ratio | serialize, not dropped | ratio |");
+    println!("|---|---|---|---|---|---|---|---|");
+    for (name, section) in speed::sections() {
+        let Ok(BflanSections::PaneAnimInfo(tree)) = parse(&section) else { panic!("{name}") };
+        let record = flat(&tree);
+        let mut out = vec![1u8; section.len()];
+        let mut answer = [0; 3];
+        let write = best(budget, || {
+            Proved.write(black_box(&record.words), black_box(&record.texts), &mut out, &mut answer);
+            black_box(&out);
+        });
+        assert!(answer == [0, section.len(), 0] && out == section, "{name}");
+        let judged = best(budget, || {
+            Proved.write(black_box(&record.words), black_box(&record.texts), &mut [], &mut answer);
+        });
+        assert_eq!(answer, [9, section.len(), 0], "{name}");
+        let whole = best(budget, || drop(black_box(serialize(black_box(&tree)))));
+        let serialized = best_of(budget, || {
+            let start = Instant::now();
+            let bytes = black_box(serialize(black_box(&tree)));
+            let time = start.elapsed();
+            drop(bytes);
+            time
+        });
+        let size = section.len() as f64 / 1e9;
+        println!(
+            "| {name} | {:.1} | {:.3} | {:.1} % | {:.3} | {:.2} | {:.3} | {:.2} |",
+            size * 1e3,
+            size / write,
+            100.0 * judged / write,
+            size / whole,
+            whole / write,
+            size / serialized,
+            serialized / write
         );
     }
     println!();

@@ -1,10 +1,11 @@
-//! Compares the proved code with the Rust. Usage: differential [texts|sections] [SEED] [MILLIONS], or differential edits
+//! Compares the proved code with the Rust. Usage: differential [texts|sections|records] [SEED] [MILLIONS], or differential edits
 //! [SEED] [CALLS]; without a part, all.
 //!
 //! texts: the decoding with `String::from_utf8_lossy` and `std::str::from_utf8`: every text of up to three bytes, and some
 //! millions of longer ones. sections: reading with the reference's `BflanSections::parse`, on some millions of sections.
-//! edits: edits and undos with document 01's plain machine and the reference's writing and reading of its record, and as
-//! many calls on sections, journals and counts of any kind.
+//! records: writing with the reference's `BflanSectionsRef::serialize`, on some millions of records. edits: edits and undos
+//! with document 01's plain machine and the reference's writing and reading of its record, and as many calls on sections,
+//! journals and counts of any kind.
 use std::process::ExitCode;
 
 use compare::chars::{WORDS, boundary_pieces, char_of_len, damage, push, push_char};
@@ -12,6 +13,7 @@ use compare::comparison::Comparison;
 use compare::proved::{self, Proved};
 use compare::random::Random;
 use compare::trials::Trials;
+use compare::writing::Writing;
 
 /// What stands in an output before a call, and must still stand where the call may not write.
 const GUARD: u8 = 0xA5;
@@ -248,24 +250,34 @@ fn main() -> ExitCode {
     let differences = match part.as_deref() {
         None => {
             let millions = millions();
-            texts(seed, millions) + sections(seed, millions) + changes(seed, CALLS)
+            texts(seed, millions) + sections(seed, millions) + records(seed, millions) + changes(seed, CALLS)
         }
         Some("texts") => texts(seed, millions()),
         Some("sections") => sections(seed, millions()),
+        Some("records") => records(seed, millions()),
         Some("edits") => changes(seed, number(CALLS)),
-        Some(part) => panic!("{part}: neither texts nor sections nor edits"),
+        Some(part) => panic!("{part}: none of texts, sections, records, edits"),
     };
     if differences == 0 { ExitCode::SUCCESS } else { ExitCode::FAILURE }
 }
 
 fn sections(seed: u64, millions: u64) -> u64 {
-    let (name, reader) = proved::reader();
-    println!("seed {seed}, {millions} million sections; the reader is {name}");
-    let mut comparison = Comparison::new(reader, seed);
+    println!("seed {seed}, {millions} million sections");
+    let mut comparison = Comparison::new(&Proved, seed);
     comparison.run(seed, millions * 1_000_000);
     comparison.shrink();
     comparison.print();
     comparison.differences
+}
+
+/// Records beside the reference.
+fn records(seed: u64, millions: u64) -> u64 {
+    println!("seed {seed}, {millions} million records");
+    let mut writing = Writing::new(&Proved, &Proved, seed);
+    writing.run(seed, millions * 1_000_000);
+    writing.shrink();
+    writing.print();
+    writing.differences
 }
 
 /// Edits and undos beside document 01.

@@ -39,17 +39,6 @@ fn listed(letters: u32) -> bool
     }
 }
 
-// Whether a record may have this target under these letters.
-fn resolved(letters: u32, number: u32) -> bool
-    ensures { λ r. ⌜ r ≡ targetFits letters number ⌝ }
-{
-    match kind_of(letters) {
-        AnimInfoType::Standard(count) => number < (count as u32),
-        AnimInfoType::ExtendedUserData => number == 255,
-        AnimInfoType::Invalid => number == 255,
-    }
-}
-
 // Whether the word at `i` is there and letters that a record may have.
 pub(crate) fn letters_fit(words: &[u32], i: usize) -> bool
     ensures { λ r. ⌜ r ≡ fits lettersFit (now (words .entry)) i ⌝ }
@@ -65,7 +54,7 @@ pub(crate) fn target_fits(words: &[u32], letters: u32, i: usize) -> bool
     ensures { λ r. ⌜ r ≡ fits (targetFits letters) (now (words .entry)) i ⌝ }
 {
     if i < words.len() {
-        return resolved(letters, words[i]);
+        return crate::letters::target_fits(letters, words[i]);
     }
     false
 }

@@ -14,7 +14,9 @@ use lib.Seq.{sets, slice, slice-empty, length-slice, drop-cons, drop-drop, take-
 use Rattle.core.specs.declared.utf8.step.Step.{Step}
 use Rattle.core.specs.declared.utf8.step.Step.the-variants.{Good, Bad}
 use Rattle.core.specs.Utf8.{rows, classOf, laterOf, matched, more, good, stepOf, replacement, decode, decodedSize, sound, illSize}
+use Rattle.core.specs.Text.{firstFault}
 use Rattle.core.proofs.Stores.{sets-on}
+use Rattle.core.proofs.Zeros.{free-of}
 use Rattle.core.proofs.utf8.Steps.{matched-none, ascii-class, step-none}
 use Rattle.core.proofs.utf8.Pieces.{more-within, step-good, step-bad, decode-nil, decode-good, sound-nil, sound-good, sound-bad, ill-nil, ill-bad}
 use Rattle.core.proofs.utf8.Laws.{good-from, whole-well, decode-well, sound-le, decode-front, ill-short, ill-within, ill-or-end, decode-ill}
@@ -115,28 +117,29 @@ ascii-run s i (suc m) h f =
     let w : sound (drop (i + suc m) s) ≡ sound (drop (i + 1 + m) s) = rw p in
     omega (arith, a, d, g .1)
 
--- bytes below 128, by parts of a text
-pub ascii-on : (s : List ℕ) (i m : ℕ) → ((k : ℕ) → k < i → getD s k 0 < 128) → ((k : ℕ) → k < m → getD s (i + k) 0 < 128) → (k : ℕ) → k < i + m → getD s k 0 < 128
-ascii-on s i m f g k h = go (leb i k) refl
-  where
-    go : (b : Bool) → leb i k ≡ b → getD s k 0 < 128
-    go true e =
-        let l = leb-true i k e in
-        let q : i + (k - i) ≡ k = omega arith in
-        rw q at (g (k - i) (omega arith))
-    go false e = f k (leb-false i k e)
+-- what holds of every byte of a text, by its parts
+module _ (P : ℕ → Type 0) (s : List ℕ) where
+  pub bytes-on : (i m : ℕ) → ((k : ℕ) → k < i → P (getD s k 0)) → ((k : ℕ) → k < m → P (getD s (i + k) 0)) → (k : ℕ) → k < i + m → P (getD s k 0)
+  bytes-on i m f g k h = go (leb i k) refl
+    where
+      go : (b : Bool) → leb i k ≡ b → P (getD s k 0)
+      go true e =
+          let l = leb-true i k e in
+          let q : i + (k - i) ≡ k = omega arith in
+          rw q at (g (k - i) (omega arith))
+      go false e = f k (leb-false i k e)
 
--- the last part may overlap the one before it
-pub ascii-last : (s : List ℕ) (i m : ℕ) → m ≤ length s → length s ≤ i + m → ((k : ℕ) → k < i → getD s k 0 < 128)
-    → ((k : ℕ) → k < m → getD s (length s - m + k) 0 < 128) → (k : ℕ) → k < length s → getD s k 0 < 128
-ascii-last s i m l e f g k h = ascii-on s (length s - m) m (λ j q. f j (omega arith)) g k (omega arith)
+  -- the last part may overlap the one before it
+  pub bytes-last : (i m : ℕ) → m ≤ length s → length s ≤ i + m → ((k : ℕ) → k < i → P (getD s k 0)) → ((k : ℕ) → k < m → P (getD s (length s - m + k) 0))
+      → (k : ℕ) → k < length s → P (getD s k 0)
+  bytes-last i m l e f g k h = bytes-on (length s - m) m (λ j q. f j (omega arith)) g k (omega arith)
 
-pub ascii-four : (s : List ℕ) (b c : ℕ) → 8 ≤ length s → length s ≤ 32 → b ≡ min 8 (length s - 8) → c ≡ min 16 (length s - 8)
-    → ((k : ℕ) → k < 8 → getD s (0 + k) 0 < 128) → ((k : ℕ) → k < 8 → getD s (b + k) 0 < 128) → ((k : ℕ) → k < 8 → getD s (c + k) 0 < 128)
-    → ((k : ℕ) → k < 8 → getD s (length s - 8 + k) 0 < 128) → (k : ℕ) → k < length s → getD s k 0 < 128
-ascii-four s b c l e eb ec f g h i =
-    ascii-last s (c + 8) 8 l (omega arith)
-    (λ k x. ascii-on s c 8 (λ j y. ascii-on s b 8 (λ n z. rw zero-add at (f n (omega arith))) g j (omega arith)) h k x) i
+  pub bytes-four : (b c : ℕ) → 8 ≤ length s → length s ≤ 32 → b ≡ min 8 (length s - 8) → c ≡ min 16 (length s - 8)
+      → ((k : ℕ) → k < 8 → P (getD s (0 + k) 0)) → ((k : ℕ) → k < 8 → P (getD s (b + k) 0)) → ((k : ℕ) → k < 8 → P (getD s (c + k) 0))
+      → ((k : ℕ) → k < 8 → P (getD s (length s - 8 + k) 0)) → (k : ℕ) → k < length s → P (getD s k 0)
+  bytes-four b c l e eb ec f g h i =
+      bytes-last (c + 8) 8 l (omega arith)
+      (λ k x. bytes-on c 8 (λ j y. bytes-on b 8 (λ n z. rw zero-add at (f n (omega arith))) g j (omega arith)) h k x) i
 
 -- a text that is all ASCII is its own decoding
 pub ascii-sound : (s : List ℕ) → ((j : ℕ) → j < length s → getD s j 0 < 128) → sound s ≡ length s
@@ -144,6 +147,14 @@ ascii-sound s f =
     let r = ascii-run s 0 (length s) (omega arith) (λ j h. rw zero-add (f j h)) in
     let e = sound-end s (0 + length s) (omega arith) in
     omega (arith, r, e)
+
+-- a text of ASCII without a zero has no fault
+pub plain-fault : (s : List ℕ) → ((k : ℕ) → k < length s → (0 < getD s k 0) × (getD s k 0 < 128)) → length s ≡ firstFault s
+unfolding firstFault
+plain-fault s f =
+    let z = free-of s (λ k h e. let p = f k h .0 in omega (arith, p, e)) in
+    let a = ascii-sound s (λ k h. f k h .1) in
+    omega (arith, z, a)
 
 pub ascii-decode : (s : List ℕ) → ((j : ℕ) → j < length s → getD s j 0 < 128) → decode s ≡ s
 ascii-decode s f = decode-well s (whole-well s (ascii-sound s f))

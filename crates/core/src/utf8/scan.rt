@@ -33,7 +33,7 @@ fn ascii_in(s: &[u8], at: usize, n: usize) -> bool
 // zero has no other.
 fn plain_in(s: &[u8], at: usize, n: usize) -> bool
     requires { ⌜ at + n ≤ length (now s) ⌝ }
-    ensures { λ r. ⌜ (r ≡ true → (k : ℕ) → k < n → getD (now (s .entry)) (at + k) 0 < 128) ⌝ }
+    ensures { λ r. ⌜ (r ≡ true → (k : ℕ) → k < n → (0 < getD (now (s .entry)) (at + k) 0) × (getD (now (s .entry)) (at + k) 0 < 128)) ⌝ }
 {
     let mut all = true;
     let mut k = 0;
@@ -65,7 +65,7 @@ fn ascii_long(s: &[u8]) -> bool
 // of one that has 8 to 32: whatever its length, four blocks, so that the processor has no length to foresee,
 fn plain_four(s: &[u8]) -> bool
     requires { ⌜ (8 ≤ length (now s)) × (length (now s) ≤ 32) ⌝ }
-    ensures { λ r. ⌜ (r ≡ true → (k : ℕ) → k < length (now (s .entry)) → getD (now (s .entry)) k 0 < 128) ⌝ }
+    ensures { λ r. ⌜ (r ≡ true → (k : ℕ) → k < length (now (s .entry)) → (0 < getD (now (s .entry)) k 0) × (getD (now (s .entry)) k 0 < 128)) ⌝ }
 {
     let last = s.len() - 8;
     let a = plain_in(s, 0, 8);
@@ -87,6 +87,20 @@ pub(crate) fn is_ascii(s: &[u8]) -> bool
         return plain_four(s);
     }
     ascii_long(s)
+}
+
+// Whether a text is short, ASCII, and without a zero.
+pub(crate) fn is_plain(s: &[u8]) -> bool
+    ensures { λ r. ⌜ (r ≡ true → (k : ℕ) → k < length (now (s .entry)) → (0 < getD (now (s .entry)) k 0) × (getD (now (s .entry)) k 0 < 128)) ⌝ }
+{
+    let n = s.len();
+    if n < 8 {
+        return plain_in(s, 0, n);
+    }
+    if n < 33 {
+        return plain_four(s);
+    }
+    false
 }
 
 // Whether the 32 bytes from `at` on can be passed as they are: between two characters, where they are ASCII.

@@ -4,11 +4,10 @@ use borrow.Author.Needs.{needs}
 use Rattle.core.proofs.text.first_zero.Statement.{statement}
 use Rattle.core.proofs.text.first_zero.Tie as tie
 use Prim.Native.Nat.{_+_, _≤_}
-use mathlib.Core.Path.{sym, _∙_}
 use native.Mathlib.Omega.{arith}
 use denote.Ref.{now}
 use lib.ListN.{length}
-use Rattle.core.proofs.Zeros.{before-le, before-skip}
+use Rattle.core.proofs.Zeros.{before-le}
 
 clear-blocks-requires : tie.Need-clear-blocks-requires
 clear-blocks-requires c κs = search needs
@@ -43,11 +42,11 @@ zero-in-requires-2 c κs =
 returns-2 : tie.Need-returns-2
 returns-2 c = search needs
 
-zero-from-requires : tie.Need-zero-from-requires
-zero-from-requires c κs = omega (arith, c .before .clear-blocks2 .ensures .1, before-le (now (c .before .before .before .before .before .args .text)))
+zero-behind-requires : tie.Need-zero-behind-requires
+zero-behind-requires c κs = (c .before .clear-blocks2 .ensures .1, omega (arith, c .if2 .left, c .before .clear-blocks2 .ensures .1, before-le (now (c .before .before .before .before .before .args .text))))
 
 returns-3 : tie.Need-returns-3
-returns-3 c = c .zero-from .ensures ∙ sym (before-skip _ _ (c .before .before .clear-blocks2 .ensures .1))
+returns-3 c = search needs
 
 pub first-zero-spec : {M : Type 1} → statement M
 first-zero-spec =
@@ -62,5 +61,5 @@ first-zero-spec =
     sub-if2
     zero-in-requires-2
     returns-2
-    zero-from-requires
+    zero-behind-requires
     returns-3)

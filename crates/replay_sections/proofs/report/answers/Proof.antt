@@ -5,10 +5,10 @@ use Rattle.replay_sections.proofs.report.answers.Statement.{statement}
 use Rattle.replay_sections.proofs.report.answers.Tie as tie
 
 abbrev Inv-loop : tie.InvT-loop
-Inv-loop counts k₀ t3 t4 t5 t6 k = k ≤ 6
+Inv-loop counts k₀ t3 t4 t5 t6 k = k ≤ 10
 
 abbrev μ-loop : tie.MeasureT-loop
-μ-loop counts k₀ t3 t4 t5 t6 k = 6 - k
+μ-loop counts k₀ t3 t4 t5 t6 k = 10 - k
 
 loop-holds : tie.Need-loop-holds Inv-loop μ-loop
 loop-holds c = search needs

@@ -6,7 +6,7 @@ use mathlib.Core.Path.{sym}
 use mathlib.Core.Bool.{true≢false}
 use native.Mathlib.Omega.{arith}
 use lib.ListN.{length, getD}
-use Rattle.core.proofs.utf8.Turns.{ascii-on, ascii-last}
+use Rattle.core.proofs.utf8.Turns.{bytes-on, bytes-last}
 use Rattle.core.proofs.utf8.scan.ascii_long.Statement.{statement}
 use Rattle.core.proofs.utf8.scan.ascii_long.Tie as tie
 
@@ -32,7 +32,7 @@ loop-less : tie.Need-loop-less Inv-loop μ-loop
 loop-less c = omega arith
 
 loop-again : tie.Need-loop-again Inv-loop μ-loop
-loop-again c = (omega arith, ascii-on (now (c .before .before .before .before .before .args .s)) _ _ (c .before .before .before .loop .inv .1) (c .before .ascii-in .ensures (c .if1 .taken)))
+loop-again c = (omega arith, bytes-on (λ x. x < 128) (now (c .before .before .before .before .before .args .s)) _ _ (c .before .before .before .loop .inv .1) (c .before .ascii-in .ensures (c .if1 .taken)))
 
 returns : tie.Need-returns Inv-loop μ-loop
 returns c = λ e. absurd (true≢false (sym e))
@@ -44,7 +44,7 @@ ascii-in-requires-2 : tie.Need-ascii-in-requires-2 Inv-loop μ-loop
 ascii-in-requires-2 c κs = omega arith
 
 returns-2 : tie.Need-returns-2 Inv-loop μ-loop
-returns-2 c = λ e. ascii-last (now (c .before .before .before .before .args .s)) _ 32 (c .before .before .before .before .pre) (omega arith) (c .before .before .loop .inv .1) (c .ascii-in2 .ensures e)
+returns-2 c = λ e. bytes-last (λ x. x < 128) (now (c .before .before .before .before .args .s)) _ 32 (c .before .before .before .before .pre) (omega arith) (c .before .before .loop .inv .1) (c .ascii-in2 .ensures e)
 
 pub ascii-long-spec : {M : Type 1} → statement M
 ascii-long-spec =

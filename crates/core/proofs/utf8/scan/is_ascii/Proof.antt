@@ -15,7 +15,7 @@ plain-four-requires : tie.Need-plain-four-requires
 plain-four-requires c κs = search needs
 
 returns-2 : tie.Need-returns-2
-returns-2 c = search needs
+returns-2 c = λ e k h. c .plain-four .ensures e k h .1
 
 ascii-long-requires : tie.Need-ascii-long-requires
 ascii-long-requires c κs = search needs

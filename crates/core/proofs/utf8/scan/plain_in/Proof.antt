@@ -1,4 +1,4 @@
--- `utf8::scan::plain_in` meets its contract. The loop's invariant: while no byte failed the test, every byte passed is below 128.
+-- `utf8::scan::plain_in` meets its contract. The loop's invariant: while no byte failed the test, every byte passed is below 128, and none is zero.
 -- Assumes nothing.
 use Prim.Native.Nat.{ℕ, _+_, _-_, _≤_, _<_}
 use mathlib.Core.Path.{_≡_}
@@ -7,13 +7,14 @@ use native.Mathlib.Omega.{arith}
 use borrow.Author.Tests.{ltb-true}
 use borrow.Author.Count.{below-more}
 use lib.ListN.{getD}
+use Rattle.core.proofs.Zeros.{byte-some}
 use Rattle.core.proofs.utf8.Laws.{both-true}
 use borrow.Author.Needs.{needs}
 use Rattle.core.proofs.utf8.scan.plain_in.Statement.{statement}
 use Rattle.core.proofs.utf8.scan.plain_in.Tie as tie
 
 abbrev Inv-loop : tie.InvT-loop
-Inv-loop s at n all₀ k₀ all k = (k ≤ n) × (all ≡ true → (i : ℕ) → i < k → getD s (at + i) 0 < 128)
+Inv-loop s at n all₀ k₀ all k = (k ≤ n) × (all ≡ true → (i : ℕ) → i < k → (0 < getD s (at + i) 0) × (getD s (at + i) 0 < 128))
 
 abbrev μ-loop : tie.MeasureT-loop
 μ-loop s at n all₀ k₀ all k = n - k
@@ -34,7 +35,7 @@ loop-less : tie.Need-loop-less Inv-loop μ-loop
 loop-less c = omega arith
 
 loop-again : tie.Need-loop-again Inv-loop μ-loop
-loop-again c = (omega arith, λ e. let d = both-true _ _ e in let b = both-true _ _ (d .0) in below-more _ _ (c .before .before .loop .inv .1 (b .0)) (ltb-true _ _ (d .1)))
+loop-again c = (omega arith, λ e. let d = both-true _ _ e in let b = both-true _ _ (d .0) in below-more _ _ (c .before .before .loop .inv .1 (b .0)) (byte-some _ (b .1), ltb-true _ _ (d .1)))
 
 returns : tie.Need-returns Inv-loop μ-loop
 returns c = λ e i h. c .before .loop .inv .1 e i (omega arith)

@@ -1,0 +1,78 @@
+// Prints the tracks of a section, which is read from standard input, a line for each part:
+//
+//     section: frames 60, looping yes, textures 1, contents 2
+//     texture 0: "icon"
+//     content 0: "P_base", Pane, infos 1
+//     info 0 0: FLPA PaneSrtAnim, targets 1
+//     track 0 0 0: "P_base" FLPA PaneSrtAnim TranslateX, layer 0, Hermite, keys 2: (0, 1.5, 0) (30, 2, -0.25)
+//     content 1: "U", User, infos 1
+//     info 1 0: FLEU ExtendedUserDataAnim, data 1
+//     datum 1 0 0: "U" "key", header_size 0, unk_1 0, unk_2 0, base_count 2, unk_3 0: [1, 2] [0.5, 0x7FC00000] [0, -0]
+//
+// The numbers before the colon are the place: content, info, and target or datum. A key of a Constant curve is a value, of a Step
+// curve a frame and a value, of a Hermite curve a frame, a value and a slope. A float is printed exactly, in decimal, and as its
+// bits where it is infinite or a NaN. Letters that are not listed are `---- Invalid`, and so are their targets `Invalid`.
+//
+// A text stands in quotes. Within them `\"` and `\\` are a quote and a backslash, and `\x` with two digits is a byte of a control
+// character or of U+2028 or U+2029, so that a line stays a line. `(ill-formed)` behind a text says that the section has other
+// bytes there, which are no UTF-8; what is ill-formed is shown as U+FFFD.
+//
+// A section that is turned down is answered by document 01's number and values, and what is wrong: `refused 3 (4, 4): ..`.
+mod decimal;
+mod names;
+mod output;
+mod refusal;
+mod text;
+mod tracks;
+
+ghost use mathlib.Core.Path.{_≡_};
+ghost use lib.ListN.{length};
+use crate::refusal::say_fault;
+use crate::refusal::say_too_long;
+use crate::refusal::say_too_short;
+use crate::tracks::show;
+use bflan::read::ReadAnswer;
+use bflan::read::read;
+use core::part::part;
+use libc::STDIN_FILENO;
+
+// The longest input.
+const MOST: usize = 65536;
+// The room for it: a byte more shows that it is longer.
+const ROOM: usize = 65537;
+// The words of the table.
+const WORDS: usize = 16384;
+
+fn answer(section: &[u8], words: &mut [u32], texts: &mut [u8]) {
+    if MOST < section.len() {
+        say_too_long();
+        return;
+    }
+    match read(section, words, texts) {
+        // the texts are found in the section again, so their table is free
+        ReadAnswer::Accepted(_n, _m) => show(section, words, texts),
+        ReadAnswer::Refused(f) => say_fault(f),
+        ReadAnswer::TooLong(_size) => say_too_long(),
+        ReadAnswer::TooShort(n, m) => say_too_short(n, m),
+    }
+}
+
+fn input_room() -> [u8; ROOM]
+    ensures { λ r. ⌜ 65537 ≡ length r ⌝ }
+{
+    [0; ROOM]
+}
+
+fn words_room() -> [u32; WORDS]
+    ensures { λ r. ⌜ 16384 ≡ length r ⌝ }
+{
+    [0; WORDS]
+}
+
+fn main() {
+    let mut input = input_room();
+    let n = io::read_full(STDIN_FILENO, &mut input);
+    let mut words = words_room();
+    let mut texts = io::large_buffer();
+    answer(part(&input, 0, n), &mut words, &mut texts);
+}
