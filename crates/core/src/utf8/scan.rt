@@ -75,9 +75,10 @@ fn plain_four(s: &[u8]) -> bool
     a & b & c & d
 }
 
-// and any. A short text with a zero in it may be passed over.
+// and any. A short text with a zero in it may be passed over, and one of 8 to 32 bytes is.
 pub(crate) fn is_ascii(s: &[u8]) -> bool
-    ensures { λ r. ⌜ (r ≡ true → (k : ℕ) → k < length (now (s .entry)) → getD (now (s .entry)) k 0 < 128) ⌝ }
+    ensures { λ r. ⌜ (r ≡ true → (k : ℕ) → k < length (now (s .entry)) → getD (now (s .entry)) k 0 < 128)
+        × (r ≡ true → 8 ≤ length (now (s .entry)) → length (now (s .entry)) ≤ 32 → (k : ℕ) → k < length (now (s .entry)) → 0 < getD (now (s .entry)) k 0) ⌝ }
 {
     let n = s.len();
     if n < 8 {
@@ -89,18 +90,18 @@ pub(crate) fn is_ascii(s: &[u8]) -> bool
     ascii_long(s)
 }
 
-// Whether a text is short, ASCII, and without a zero.
+// Whether a text of 8 to 32 bytes is ASCII and without a zero; of no other it is said. It asks `is_ascii`, so that this stays one function.
 pub(crate) fn is_plain(s: &[u8]) -> bool
     ensures { λ r. ⌜ (r ≡ true → (k : ℕ) → k < length (now (s .entry)) → (0 < getD (now (s .entry)) k 0) × (getD (now (s .entry)) k 0 < 128)) ⌝ }
 {
     let n = s.len();
     if n < 8 {
-        return plain_in(s, 0, n);
+        return false;
     }
-    if n < 33 {
-        return plain_four(s);
+    if 32 < n {
+        return false;
     }
-    false
+    is_ascii(s)
 }
 
 // Whether the 32 bytes from `at` on can be passed as they are: between two characters, where they are ASCII.

@@ -10,7 +10,7 @@ is-ascii-requires : tie.Need-is-ascii-requires
 is-ascii-requires c κs = search needs
 
 returns : tie.Need-returns
-returns c = ascii-size _ (omega (arith, c .before .before .before .good)) (c .before .is-ascii .ensures (c .if1 .taken))
+returns c = ascii-size _ (omega (arith, c .before .before .before .good)) (c .before .is-ascii .ensures .0 (c .if1 .taken))
 
 slice-aggregate-decode-mixed : tie.Need-slice-aggregate-decode-mixed
 slice-aggregate-decode-mixed c = search needs

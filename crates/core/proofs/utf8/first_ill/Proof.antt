@@ -10,7 +10,7 @@ is-ascii-requires : tie.Need-is-ascii-requires
 is-ascii-requires c κs = search needs
 
 returns : tie.Need-returns
-returns c = sym (ascii-sound _ (c .before .is-ascii .ensures (c .if1 .taken)))
+returns c = sym (ascii-sound _ (c .before .is-ascii .ensures .0 (c .if1 .taken)))
 
 ill-mixed-requires : tie.Need-ill-mixed-requires
 ill-mixed-requires c κs = search needs
