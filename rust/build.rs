@@ -1,7 +1,5 @@
-//! Makes the two things that the Rust code stands on: the reference's files, copied byte for byte to where
-//! `include!` finds them, and the static library of the proved code.
+//! Copies the reference's files byte for byte to where `include!` finds them. The proved code is linked by the crate pai1.
 use std::path::{Path, PathBuf};
-use std::process::Command;
 use std::{env, fs};
 
 /// The reference's files, below nnbfl/src.
@@ -23,7 +21,6 @@ fn main() {
     println!("cargo::rerun-if-changed=build.rs");
     let here = PathBuf::from(env::var_os("CARGO_MANIFEST_DIR").unwrap());
     copy_reference(&here);
-    link_proved(&here);
 }
 
 /// Copies the reference to OUT_DIR/nnbfl. `core/mod.rs` declares a module `tests` that is not published: it is
@@ -45,23 +42,4 @@ fn copy_reference(here: &Path) {
         fs::write(copy.join(file), bytes).unwrap();
     }
     fs::write(copy.join("core/tests.rs"), "").unwrap();
-}
-
-/// Proves and builds crates/capi, and links its archive.
-fn link_proved(here: &Path) {
-    let root = here.parent().unwrap();
-    for watched in ["crates.txt", "crates"] {
-        println!("cargo::rerun-if-changed={}", root.join(watched).display());
-    }
-    let status = Command::new("rt")
-        .args(["staticlib", "capi"])
-        .current_dir(root)
-        .status()
-        .expect("rt, the kit's command, is not on the path");
-    assert!(status.success(), "rt staticlib capi: {status}");
-    // a copy, since the gate removes the repository's target/
-    let copy = PathBuf::from(env::var_os("OUT_DIR").unwrap());
-    fs::copy(root.join("target/staticlib/libcapi.a"), copy.join("libcapi.a")).unwrap();
-    println!("cargo::rustc-link-search=native={}", copy.display());
-    println!("cargo::rustc-link-lib=static=capi");
 }

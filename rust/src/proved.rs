@@ -1,132 +1,56 @@
-//! The proved functions of crates/capi, as safe functions. None asks anything of its caller, so a wrapper only takes
-//! each slice apart into the address and the length that C passes.
+//! The proved calls under the names that the drivers use. `pai1::raw` has each as a safe function, so nothing is unsafe
+//! here.
+use crate::change::{Change, NewKey};
+use crate::editor::Editor;
 use crate::reader::Reader;
 use crate::writer::Writer;
+use pai1::raw;
+use std::hint::black_box;
 
-mod edits;
+pub use pai1::raw::{decode_into, decode_plain, decoded_len, first_fault, first_ill, first_zero, well_formed};
 
-unsafe extern "C" {
-    fn nnbfl_decoded_len(text: *const u8, text_len: usize) -> usize;
-    fn nnbfl_decode_into(text: *const u8, text_len: usize, out: *mut u8, out_len: usize, at: usize) -> usize;
-    fn nnbfl_decode_plain(text: *const u8, text_len: usize, out: *mut u8, out_len: usize, at: usize) -> usize;
-    fn nnbfl_well_formed(text: *const u8, text_len: usize) -> bool;
-    fn nnbfl_first_ill(text: *const u8, text_len: usize) -> usize;
-    fn nnbfl_first_zero(text: *const u8, text_len: usize) -> usize;
-    fn nnbfl_first_fault(text: *const u8, text_len: usize) -> usize;
-    fn nnbfl_read(
-        section: *const u8,
-        section_len: usize,
-        words: *mut u32,
-        words_len: usize,
-        texts: *mut u8,
-        texts_len: usize,
-        answer: *mut usize,
-        answer_len: usize,
-    );
-    fn nnbfl_find_text(
-        section: *const u8,
-        section_len: usize,
-        text: usize,
-        scratch: *mut u8,
-        scratch_len: usize,
-        answer: *mut usize,
-        answer_len: usize,
-    );
-    fn nnbfl_write(
-        words: *const u32,
-        words_len: usize,
-        texts: *const u8,
-        texts_len: usize,
-        out: *mut u8,
-        out_len: usize,
-        answer: *mut usize,
-        answer_len: usize,
-    );
-}
-
-/// The length of the decoding of `text`.
-pub fn decoded_len(text: &[u8]) -> usize {
-    unsafe { nnbfl_decoded_len(text.as_ptr(), text.len()) }
-}
-
-/// Stores the decoding of `text` in `out` from `at` on, without what would stand past the end, and returns its
-/// whole length.
-pub fn decode_into(text: &[u8], out: &mut [u8], at: usize) -> usize {
-    unsafe { nnbfl_decode_into(text.as_ptr(), text.len(), out.as_mut_ptr(), out.len(), at) }
-}
-
-/// The same, one character at a time.
-pub fn decode_plain(text: &[u8], out: &mut [u8], at: usize) -> usize {
-    unsafe { nnbfl_decode_plain(text.as_ptr(), text.len(), out.as_mut_ptr(), out.len(), at) }
-}
-
-/// Whether `text` is well-formed UTF-8.
-pub fn well_formed(text: &[u8]) -> bool {
-    unsafe { nnbfl_well_formed(text.as_ptr(), text.len()) }
-}
-
-/// Where the first ill-formed subpart starts, or the length.
-pub fn first_ill(text: &[u8]) -> usize {
-    unsafe { nnbfl_first_ill(text.as_ptr(), text.len()) }
-}
-
-/// Where the first zero byte stands, or the length.
-pub fn first_zero(text: &[u8]) -> usize {
-    unsafe { nnbfl_first_zero(text.as_ptr(), text.len()) }
-}
-
-/// The earlier of the two.
-pub fn first_fault(text: &[u8]) -> usize {
-    unsafe { nnbfl_first_fault(text.as_ptr(), text.len()) }
-}
-
-/// The proved reader and writer.
+/// The proved reader, writer and editor.
 pub struct Proved;
 
 impl Reader for Proved {
     fn read(&self, section: &[u8], words: &mut [u32], texts: &mut [u8], answer: &mut [usize]) {
-        unsafe {
-            nnbfl_read(
-                section.as_ptr(),
-                section.len(),
-                words.as_mut_ptr(),
-                words.len(),
-                texts.as_mut_ptr(),
-                texts.len(),
-                answer.as_mut_ptr(),
-                answer.len(),
-            )
-        }
+        raw::read(section, words, texts, answer)
     }
 
     fn find_text(&self, section: &[u8], text: usize, scratch: &mut [u8], answer: &mut [usize]) {
-        unsafe {
-            nnbfl_find_text(
-                section.as_ptr(),
-                section.len(),
-                text,
-                scratch.as_mut_ptr(),
-                scratch.len(),
-                answer.as_mut_ptr(),
-                answer.len(),
-            )
-        }
+        raw::find_text(section, text, scratch, answer)
     }
 }
 
 impl Writer for Proved {
     fn write(&self, words: &[u32], texts: &[u8], out: &mut [u8], answer: &mut [usize]) {
-        unsafe {
-            nnbfl_write(
-                words.as_ptr(),
-                words.len(),
-                texts.as_ptr(),
-                texts.len(),
-                out.as_mut_ptr(),
-                out.len(),
-                answer.as_mut_ptr(),
-                answer.len(),
-            )
+        raw::write(words, texts, out, answer)
+    }
+}
+
+impl Editor for Proved {
+    fn edit(&self, s: &mut [u8], journal: &mut [u32], n: usize, change: &Change, answer: &mut [usize]) {
+        match *change {
+            Change::FrameCount(value) => raw::edit_frame_count(s, journal, n, value, answer),
+            Change::Looping(value) => raw::edit_looping(s, journal, n, value, answer),
+            Change::Layer([a, b, c], value) => raw::edit_layer(s, journal, n, a, b, c, value, answer),
+            Change::Target([a, b, c], value) => raw::edit_target(s, journal, n, a, b, c, value, answer),
+            Change::Key([a, b, c, d], NewKey::Constant(value)) => {
+                raw::edit_constant_key(s, journal, n, a, b, c, d, value, answer)
+            }
+            Change::Key([a, b, c, d], NewKey::Step { frame, value }) => {
+                raw::edit_step_key(s, journal, n, a, b, c, d, frame, value, answer)
+            }
+            Change::Key([a, b, c, d], NewKey::Hermite { frame, value, slope }) => {
+                raw::edit_hermite_key(s, journal, n, a, b, c, d, frame, value, slope, answer)
+            }
+            Change::Value([a, b, c, d, e], value) => raw::edit_value(s, journal, n, a, b, c, d, e, value, answer),
         }
+    }
+
+    fn undo(&self, section: &mut [u8], journal: &mut [u32], count: usize, answer: &mut [usize]) {
+        raw::undo(section, journal, count, answer);
+        // the journal is lent to be read: whether it is changed is to be seen, and not taken for granted
+        black_box(journal);
     }
 }

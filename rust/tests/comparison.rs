@@ -1,5 +1,7 @@
 //! The comparison of readers finds what it is there to find: the reference agrees with itself, and each of these mistaken
 //! readers is caught.
+mod slips;
+
 use compare::bflan::file::BflanSections;
 use compare::comparison::Comparison;
 use compare::layout::{FLEU, Rules};
@@ -12,6 +14,7 @@ use compare::sections::{
     Maker, Placing, READABLE, Shape, Target, content_p, fixed_sections, placed, random_sections, speed,
 };
 use compare::{parse, serialize};
+use slips::slips;
 
 fn compared(reader: &dyn Reader) -> Comparison<'_> {
     let mut comparison = Comparison::new(reader, 3);
@@ -61,22 +64,22 @@ fn a_replacement_for_each_byte_is_caught() {
     caught(&ByLayout(Rules { one_for_each_byte: true, ..Rules::DOCUMENT }));
 }
 
-/// What a reader can do wrong with the lists that it is given, or in the order of its refusals.
-#[derive(Clone, Copy, Debug)]
-enum Slip {
-    StoresBeforeRefusing,
-    StoresPastTheRecord,
-    StoresPastTheList,
-    NeedsOneWordMore,
-    NeedsOneByteMore,
-    RefusesTheRoomFirst,
-    RefusesAnExactFit,
-    AnswersLikeAnother,
-    FillsTheScratch,
-    CopiesWellFormedTexts,
-    FindsOneTextMore,
-    FindsBeforeReading,
-    FindsAnEqualText,
+slips! {
+    /// What a reader can do wrong with the lists that it is given, or in the order of its refusals.
+    READERS:
+        StoresBeforeRefusing,
+        StoresPastTheRecord,
+        StoresPastTheList,
+        NeedsOneWordMore,
+        NeedsOneByteMore,
+        RefusesTheRoomFirst,
+        RefusesAnExactFit,
+        AnswersLikeAnother,
+        FillsTheScratch,
+        CopiesWellFormedTexts,
+        FindsOneTextMore,
+        FindsBeforeReading,
+        FindsAnEqualText;
 }
 
 struct Slipping(Slip);
@@ -122,22 +125,7 @@ impl Reader for Slipping {
 
 #[test]
 fn slips_are_caught() {
-    use Slip::*;
-    for slip in [
-        StoresBeforeRefusing,
-        StoresPastTheRecord,
-        StoresPastTheList,
-        NeedsOneWordMore,
-        NeedsOneByteMore,
-        RefusesTheRoomFirst,
-        RefusesAnExactFit,
-        AnswersLikeAnother,
-        FillsTheScratch,
-        CopiesWellFormedTexts,
-        FindsOneTextMore,
-        FindsBeforeReading,
-        FindsAnEqualText,
-    ] {
+    for &slip in READERS {
         let reader = Slipping(slip);
         let comparison = compared(&reader);
         assert!(comparison.differences > 0, "{slip:?}");

@@ -1,5 +1,7 @@
 //! The trials of editors find what they are there to find: document 01's definitions agree with its plain machine, and each
 //! of these mistaken editors is caught.
+mod slips;
+
 use compare::change::{Call, Change, NewKey};
 use compare::editor::{ByLayout, Editor, edited, field, undone};
 use compare::journal::ENTRY_WORDS;
@@ -8,6 +10,7 @@ use compare::proved::Proved;
 use compare::reader::store;
 use compare::sections::{Maker, content_p, fixed_sections, random_sections};
 use compare::trials::{Kind, Trials};
+use slips::slips;
 
 const SEED: u64 = 6;
 
@@ -47,41 +50,43 @@ fn the_definitions_agree_with_the_machine() {
     }
 }
 
-/// What an editor can do wrong.
-#[derive(Clone, Copy, Debug)]
-enum Slip {
-    WritesNothing,
-    WritesTheFirstOnly,
-    SaysNothingToUndo,
-    SaysFull,
-    KeepsTheCount,
-    TakesEightBytesForAStepKey,
-    WritesAByteBehind,
-    KeepsOtherBytes,
-    KeepsTheNewBytes,
-    LeavesTheSameOut,
-    ClearsTheEntryTakenBack,
-    AllowsATargetsNumberItself,
-    QuietsNaNs,
-    TakesLoopingRaw,
-    CutsTheFrameCount,
-    CutsAStepValue,
-    CutsPlaces,
-    JudgesTheJournalFirst,
-    JudgesTheValueFirst,
-    IsFullOneEarly,
-    WritesTheJournalsEnd,
-    EditsWhatDoesNotRead,
-    UndoesTheFirst,
-    TakesAnyByteCount,
-    LeavesTheFillUntested,
-    UndoesPastTheEnd,
-    FindsTheJournalBadFirst,
-    CutsTheCount,
-    AnswersWithoutTheCapacity,
-    ChangesTheJournalWhereRefused,
-    WritesBehindTheSection,
-    AnswersAThirdNumber,
+slips! {
+    /// What document 01 throws out, and two editors that touch bytes that are not the field's.
+    THROWN_OUT:
+        WritesNothing,
+        WritesTheFirstOnly,
+        SaysNothingToUndo,
+        SaysFull,
+        KeepsTheCount,
+        TakesEightBytesForAStepKey,
+        WritesAByteBehind;
+    /// What else an editor can do wrong.
+    OTHERS:
+        KeepsOtherBytes,
+        KeepsTheNewBytes,
+        LeavesTheSameOut,
+        ClearsTheEntryTakenBack,
+        AllowsATargetsNumberItself,
+        QuietsNaNs,
+        TakesLoopingRaw,
+        CutsTheFrameCount,
+        CutsAStepValue,
+        CutsPlaces,
+        JudgesTheJournalFirst,
+        JudgesTheValueFirst,
+        IsFullOneEarly,
+        WritesTheJournalsEnd,
+        EditsWhatDoesNotRead,
+        UndoesTheFirst,
+        TakesAnyByteCount,
+        LeavesTheFillUntested,
+        UndoesPastTheEnd,
+        FindsTheJournalBadFirst,
+        CutsTheCount,
+        AnswersWithoutTheCapacity,
+        ChangesTheJournalWhereRefused,
+        WritesBehindTheSection,
+        AnswersAThirdNumber;
 }
 
 struct Slipping(Slip);
@@ -235,16 +240,7 @@ impl Editor for Slipping {
 /// machine, by at most two calls.
 #[test]
 fn what_document_01_throws_out_is_caught() {
-    use Slip::*;
-    for slip in [
-        WritesNothing,
-        WritesTheFirstOnly,
-        SaysNothingToUndo,
-        SaysFull,
-        KeepsTheCount,
-        TakesEightBytesForAStepKey,
-        WritesAByteBehind,
-    ] {
+    for &slip in THROWN_OUT {
         let editor = Slipping(slip);
         let mut trials = Trials::new(&editor, SEED);
         trials.on_written(5_000);
@@ -259,34 +255,7 @@ fn what_document_01_throws_out_is_caught() {
 /// So is everything else that can go wrong, beside the machine or on any bytes.
 #[test]
 fn slips_are_caught() {
-    use Slip::*;
-    for slip in [
-        KeepsOtherBytes,
-        KeepsTheNewBytes,
-        LeavesTheSameOut,
-        ClearsTheEntryTakenBack,
-        AllowsATargetsNumberItself,
-        QuietsNaNs,
-        TakesLoopingRaw,
-        CutsTheFrameCount,
-        CutsAStepValue,
-        CutsPlaces,
-        JudgesTheJournalFirst,
-        JudgesTheValueFirst,
-        IsFullOneEarly,
-        WritesTheJournalsEnd,
-        EditsWhatDoesNotRead,
-        UndoesTheFirst,
-        TakesAnyByteCount,
-        LeavesTheFillUntested,
-        UndoesPastTheEnd,
-        FindsTheJournalBadFirst,
-        CutsTheCount,
-        AnswersWithoutTheCapacity,
-        ChangesTheJournalWhereRefused,
-        WritesBehindTheSection,
-        AnswersAThirdNumber,
-    ] {
+    for &slip in OTHERS {
         let editor = Slipping(slip);
         let mut trials = tried(&editor);
         assert!(trials.differences > 0, "{slip:?}");

@@ -1,14 +1,11 @@
 //! The program `round_trip` on its samples, crates/round_trip/samples: NAME.in is an input, and NAME.out what it must write.
+mod programs;
+
 use std::fs;
-use std::io::Write;
 use std::path::PathBuf;
-use std::process::{Command, Stdio};
 
 use compare::round_trips::{answer, inputs};
-
-fn root() -> PathBuf {
-    PathBuf::from(env!("CARGO_MANIFEST_DIR")).join("..")
-}
+use programs::{output, program, root};
 
 fn sample(name: &str, end: &str) -> PathBuf {
     root().join("crates/round_trip/samples").join(format!("{name}.{end}"))
@@ -42,25 +39,10 @@ fn samples_of_document_01() {
     assert_eq!(fs::read(sample("step_key_cut", "out")).unwrap(), fs::read(sample("content_p", "out")).unwrap());
 }
 
-/// The program, proved and built.
-fn program() -> PathBuf {
-    let status = Command::new("rt").args(["check", "round_trip"]).current_dir(root()).stdout(Stdio::null()).status();
-    assert!(status.unwrap().success(), "rt check round_trip");
-    root().join("target/bin/round_trip")
-}
-
 #[test]
 fn the_program_writes_them() {
-    let program = program();
-    for (name, _) in inputs() {
-        let mut run = Command::new(&program).stdin(Stdio::piped()).stdout(Stdio::piped()).spawn().unwrap();
-        let input = fs::read(sample(name, "in")).unwrap();
-        let mut stdin = run.stdin.take().unwrap();
-        // the program reads all that it wants before it writes; of a longer input it may leave something
-        let _ = stdin.write_all(&input);
-        drop(stdin);
-        let output = run.wait_with_output().unwrap();
-        assert!(output.status.success(), "{name}");
-        assert!(output.stdout == fs::read(sample(name, "out")).unwrap(), "{name}");
+    let program = program("round_trip");
+    for (name, input) in inputs() {
+        assert!(output(&program, &[], &input) == fs::read(sample(name, "out")).unwrap(), "{name}");
     }
 }

@@ -1,5 +1,7 @@
 //! The comparison of writers finds what it is there to find: the judging walk with the reference agrees with itself, and
 //! each of these mistaken writers is caught.
+mod slips;
+
 use compare::bflan::anim_info::{AnimInfo, AnimType, PaneAnimInfo};
 use compare::judging::{Fault, judge, written};
 use compare::layout::Rules;
@@ -12,6 +14,7 @@ use compare::sample_records::{self, replay};
 use compare::sections::Maker;
 use compare::writer::{ByJudging, Writer};
 use compare::writing::Writing;
+use slips::slips;
 
 const READER: ByLayout = ByLayout(Rules::DOCUMENT);
 
@@ -35,38 +38,40 @@ fn the_judging_walk_agrees() {
     assert!(writing.kinds.iter().map(|kind| kind.records).sum::<u64>() > 15_000);
 }
 
-/// What a writer can do wrong: with the layout, with the limits, in the order of its refusals, or with the lists that it is
-/// given.
-#[derive(Clone, Copy, Debug)]
-enum Slip {
-    PaddingInTotalSize,
-    KeysInTotalSize,
-    LoopingRaw,
-    SizeUnpadded,
-    WordsOver,
-    BytesOver,
-    CountsCut,
-    LongNameCut,
-    TargetNotBounded,
-    InvalidTargetFree,
-    UnlistedLetters,
-    ZeroLetThrough,
-    IllFormedLetThrough,
-    IllFormedAtItsEnd,
-    IllFormedBeforeMissing,
-    TextsAfterWords,
-    BytesOverBeforeWords,
-    TextIndexWithinItsText,
-    MissingWordAtTheFirst,
-    RoomBeforeTheLimit,
-    RoomBeforeTheRecord,
-    LimitIsLess,
-    ExactRoomRefused,
-    NeedsOneByteMore,
-    StoresBeforeRefusing,
-    StoresPastTheSection,
-    StoresPastTheOutput,
-    AnswersFourNumbers,
+slips! {
+    /// What a writer can do wrong with the layout, with the limits, in the order of its refusals, or with the lists that
+    /// it is given: what shows on small records, within the output.
+    SMALL:
+        PaddingInTotalSize,
+        KeysInTotalSize,
+        LoopingRaw,
+        SizeUnpadded,
+        WordsOver,
+        BytesOver,
+        CountsCut,
+        LongNameCut,
+        TargetNotBounded,
+        InvalidTargetFree,
+        UnlistedLetters,
+        ZeroLetThrough,
+        IllFormedLetThrough,
+        IllFormedAtItsEnd,
+        IllFormedBeforeMissing,
+        TextsAfterWords,
+        BytesOverBeforeWords,
+        TextIndexWithinItsText,
+        MissingWordAtTheFirst,
+        RoomBeforeTheRecord,
+        ExactRoomRefused,
+        NeedsOneByteMore,
+        StoresBeforeRefusing,
+        StoresPastTheSection;
+    /// What shows on others.
+    LARGE:
+        RoomBeforeTheLimit,
+        LimitIsLess,
+        StoresPastTheOutput,
+        AnswersFourNumbers;
 }
 
 struct Slipping(Slip);
@@ -217,39 +222,9 @@ impl Writer for Slipping {
     }
 }
 
-use Slip::*;
-
-/// The slips that show on small records, within the output.
-const SMALL: [Slip; 24] = [
-    PaddingInTotalSize,
-    KeysInTotalSize,
-    LoopingRaw,
-    SizeUnpadded,
-    WordsOver,
-    BytesOver,
-    CountsCut,
-    LongNameCut,
-    TargetNotBounded,
-    InvalidTargetFree,
-    UnlistedLetters,
-    ZeroLetThrough,
-    IllFormedLetThrough,
-    IllFormedAtItsEnd,
-    IllFormedBeforeMissing,
-    TextsAfterWords,
-    BytesOverBeforeWords,
-    TextIndexWithinItsText,
-    MissingWordAtTheFirst,
-    RoomBeforeTheRecord,
-    ExactRoomRefused,
-    NeedsOneByteMore,
-    StoresBeforeRefusing,
-    StoresPastTheSection,
-];
-
 #[test]
 fn slips_are_caught() {
-    for slip in SMALL.into_iter().chain([RoomBeforeTheLimit, LimitIsLess, StoresPastTheOutput, AnswersFourNumbers]) {
+    for &slip in SMALL.iter().chain(LARGE) {
         let writer = Slipping(slip);
         assert!(compared(&writer).differences > 0, "{slip:?}");
     }
@@ -264,7 +239,7 @@ fn the_sample_is_replayed() {
     assert!([0, 6, 7, 9].iter().all(|&number| records.numbers[number] > 50), "{:?}", records.numbers);
     assert_eq!(replay(&records.bytes, &ByJudging), (records.cases, None));
     assert_eq!(replay(&records.bytes, &Proved), (records.cases, None));
-    for slip in SMALL {
+    for &slip in SMALL {
         assert!(replay(&records.bytes, &Slipping(slip)).1.is_some(), "{slip:?}");
     }
     let stored = std::fs::read(concat!(env!("CARGO_MANIFEST_DIR"), "/../crates/replay_sections/stdin")).unwrap();

@@ -12,11 +12,13 @@ use std::sync::atomic::{AtomicU64, Ordering};
 use std::time::Instant;
 
 use compare::calls;
-use compare::change::{Call, Change, NewKey};
+use compare::change::Call;
 use compare::chars::damage;
+use compare::editor::Editor;
 use compare::journal::ENTRY_WORDS;
 use compare::layout::{Rules, TARGET_NUMBERS, walk};
 use compare::pages::{Access, Pages};
+use compare::proved::Proved;
 use compare::random::Random;
 use compare::record::LIMIT;
 use compare::sections::{Maker, READABLE, fixed_sections, large_sections, random_sections};
@@ -328,7 +330,7 @@ impl Run {
             self.make(number, |run| {
                 let Run { bytes, words, words_in, answer, .. } = run;
                 match call {
-                    Call::Edit(change) => edit(bytes.given_mut(), words.given_mut(), count, change, answer.given_mut()),
+                    Call::Edit(change) => Proved.edit(bytes.given_mut(), words.given_mut(), count, change, answer.given_mut()),
                     Call::Undo => raw::undo(bytes.given_mut(), words_in.given(), count, answer.given_mut()),
                 }
             });
@@ -461,26 +463,6 @@ fn spoil(random: &mut Random, words: &mut Vec<u32>, texts: &mut Vec<u8>) {
             *texts = (0..random.below(30)).map(|_| b'a' + random.below(26) as u8).collect();
         }
         _ => {}
-    }
-}
-
-/// The exported function of an edit.
-fn edit(section: &mut [u8], journal: &mut [u32], count: usize, change: &Change, answer: &mut [usize]) {
-    match *change {
-        Change::FrameCount(value) => raw::edit_frame_count(section, journal, count, value, answer),
-        Change::Looping(value) => raw::edit_looping(section, journal, count, value, answer),
-        Change::Layer([a, b, c], value) => raw::edit_layer(section, journal, count, a, b, c, value, answer),
-        Change::Target([a, b, c], value) => raw::edit_target(section, journal, count, a, b, c, value, answer),
-        Change::Key([a, b, c, d], NewKey::Constant(value)) => {
-            raw::edit_constant_key(section, journal, count, a, b, c, d, value, answer)
-        }
-        Change::Key([a, b, c, d], NewKey::Step { frame, value }) => {
-            raw::edit_step_key(section, journal, count, a, b, c, d, frame, value, answer)
-        }
-        Change::Key([a, b, c, d], NewKey::Hermite { frame, value, slope }) => {
-            raw::edit_hermite_key(section, journal, count, a, b, c, d, frame, value, slope, answer)
-        }
-        Change::Value([a, b, c, d, e], value) => raw::edit_value(section, journal, count, a, b, c, d, e, value, answer),
     }
 }
 

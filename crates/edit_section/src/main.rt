@@ -1,0 +1,146 @@
+// Edits a section: reads it from standard input, makes the changes that the arguments say, one after the other, and writes what
+// they leave to standard output.
+//
+//     frames V                 the frame count
+//     looping V                0 or 1
+//     layer C I T V            a target's layer
+//     target C I T V           a target's number
+//     constant C I T K V       a key of a Constant curve: its value
+//     step C I T K F V         a key of a Step curve: its frame and its value
+//     hermite C I T K F V S    a key of a Hermite curve: its frame, its value and its slope
+//     value C I D L N V        a value of extended data: content, info, datum, list, place in the list
+//     undo                     takes back the last change that was not taken back
+//
+// Places count from 0, as show_tracks prints them: content, info, target, key. A number is decimal, or hexadecimal behind `0x`. A
+// float is given by its bits, as in 0x3F800000 for 1; the value of a Step key is no float.
+//
+// A change that is turned down ends the run: nothing but `refused N at argument A: ..` is written, with document 01's number and the
+// place of the change among the arguments.
+mod answer;
+mod change;
+mod number;
+
+ghost use mathlib.Core.Path.{_≡_};
+ghost use lib.ListN.{length};
+use crate::answer::Step;
+use crate::answer::of_edit;
+use crate::answer::of_undo;
+use crate::answer::say;
+use crate::answer::say_number;
+use crate::change::Change;
+use crate::change::edited;
+use crate::change::named;
+use crate::change::numbers_of;
+use crate::number::read_numbers;
+use core::part::part;
+use edit::undo::undo;
+use libc::STDIN_FILENO;
+use libc::STDOUT_FILENO;
+
+// The longest input.
+const MOST: usize = 65536;
+// The room for it: a byte more shows that it is longer.
+const ROOM: usize = 65537;
+// The words of the journal: a thousand entries.
+const JOURNAL: usize = 5000;
+// The most numbers behind the name of a change.
+const NUMBERS: usize = 7;
+
+fn say_usage() {
+    say(b"usage: edit_section CHANGE.. < section, where a CHANGE is one of\n");
+    say(b"  frames V, looping V, layer C I T V, target C I T V, value C I D L N V,\n");
+    say(b"  constant C I T K V, step C I T K F V, hermite C I T K F V S, undo\n");
+    say(
+        b"Content, Info, Target, Key, Datum, List and its Number count from 0. Frame, Value and Slope\n",
+    );
+    say(b"of a float are its bits. A number is decimal, or hexadecimal behind 0x.\n");
+}
+
+// Says that no change stands at argument `i`, and how changes are said.
+fn say_none(i: usize) {
+    say_number(b"argument ", i);
+    say(b" is no change with the numbers that it needs\n");
+    say_usage();
+}
+
+// Makes a change that stands at argument `i`.
+fn make(
+    section: &mut [u8],
+    journal: &mut [u32],
+    count: usize,
+    c: Change,
+    numbers: &[u32],
+    i: usize,
+) -> Step {
+    match c {
+        Change::Undo => of_undo(undo(section, journal, count), i),
+        _ => of_edit(edited(section, journal, count, c, numbers), i),
+    }
+}
+
+// Makes the changes that the arguments say, and answers whether all were made; if not, it has said why.
+fn make_all(section: &mut [u8], journal: &mut [u32], numbers: &mut [u32], room: &mut [u8]) -> bool {
+    let most = os::arg_count();
+    let mut i = 1;
+    let mut count = 0;
+    while i < most {
+        let n = os::arg(i, room);
+        let c = named(part(room, 0, n));
+        let k = numbers_of(c);
+        if most - i <= k {
+            say_none(i);
+            return false;
+        }
+        if !read_numbers(i + 1, k, numbers, room) {
+            say_none(i);
+            return false;
+        }
+        match make(section, journal, count, c, numbers, i) {
+            Step::On(next) => count = next,
+            Step::Stopped => return false,
+        }
+        i += k + 1;
+    }
+    true
+}
+
+fn run(section: &mut [u8], journal: &mut [u32], numbers: &mut [u32], room: &mut [u8]) {
+    if make_all(section, journal, numbers, room) {
+        io::write_all(STDOUT_FILENO, section);
+    }
+}
+
+fn input_room() -> [u8; ROOM]
+    ensures { λ r. ⌜ 65537 ≡ length r ⌝ }
+{
+    [0; ROOM]
+}
+
+fn journal_room() -> [u32; JOURNAL]
+    ensures { λ r. ⌜ 5000 ≡ length r ⌝ }
+{
+    [0; JOURNAL]
+}
+
+fn numbers_room() -> [u32; NUMBERS]
+    ensures { λ r. ⌜ 7 ≡ length r ⌝ }
+{
+    [0; NUMBERS]
+}
+
+fn main() {
+    if os::arg_count() < 2 {
+        say_usage();
+        return;
+    }
+    let mut input = input_room();
+    let n = io::read_full(STDIN_FILENO, &mut input);
+    if MOST < n {
+        say(b"refused 2: the input is longer than 65536 bytes\n");
+        return;
+    }
+    let mut journal = journal_room();
+    let mut numbers = numbers_room();
+    let mut room = io::buffer();
+    run(&mut input[..n], &mut journal, &mut numbers, &mut room);
+}

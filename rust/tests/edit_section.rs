@@ -1,0 +1,114 @@
+//! The program `edit_section` beside document 01's definitions of the calls that it makes.
+mod programs;
+
+use compare::calls::calls;
+use compare::change::{Call, Change, NewKey};
+use compare::editor::{ByLayout, Editor};
+use compare::layout::{Rules, walk};
+use compare::sections::{Maker, content_p, random_sections};
+use programs::{output, program};
+
+/// The words of the program's journal.
+const JOURNAL: usize = 5000;
+
+/// A call as the program is told it: a name, the place and the new value.
+fn told(call: &Call) -> (&'static str, Vec<usize>, Vec<u32>) {
+    let Call::Edit(change) = *call else { return ("undo", vec![], vec![]) };
+    match change {
+        Change::FrameCount(value) => ("frames", vec![], vec![value]),
+        Change::Looping(value) => ("looping", vec![], vec![value]),
+        Change::Layer(place, value) => ("layer", place.to_vec(), vec![value]),
+        Change::Target(place, value) => ("target", place.to_vec(), vec![value]),
+        Change::Key(place, NewKey::Constant(value)) => ("constant", place.to_vec(), vec![value]),
+        Change::Key(place, NewKey::Step { frame, value }) => ("step", place.to_vec(), vec![frame, value]),
+        Change::Key(place, NewKey::Hermite { frame, value, slope }) => {
+            ("hermite", place.to_vec(), vec![frame, value, slope])
+        }
+        Change::Value(place, value) => ("value", place.to_vec(), vec![value]),
+    }
+}
+
+/// What the program must write for these calls: the section, or how its answer begins.
+fn wanted(section: &[u8], calls: &[Call], starts: &[usize]) -> Result<Vec<u8>, String> {
+    let (mut section, mut journal, mut count) = (section.to_vec(), vec![0; JOURNAL], 0);
+    for (call, start) in calls.iter().zip(starts) {
+        let mut answer = [0; 3];
+        match call {
+            Call::Edit(change) => ByLayout.edit(&mut section, &mut journal, count, change, &mut answer),
+            Call::Undo => ByLayout.undo(&mut section, &mut journal, count, &mut answer),
+        }
+        if answer[0] != 0 {
+            return Err(format!("refused {} at argument {start}: ", answer[0]));
+        }
+        count = answer[1];
+    }
+    Ok(section)
+}
+
+/// Lists of calls on sections of every kind: the sections that they leave, and the refusals that end them.
+#[test]
+fn changes_are_made() {
+    let program = program("edit_section");
+    let mut maker = Maker::new(8);
+    let (mut number, mut made, mut refused) = (0, 0, std::collections::BTreeMap::new());
+    let mut look = |section: &[u8]| {
+        number += 1;
+        if number % 40 != 0 || section.len() > 65_536 {
+            return;
+        }
+        let Some(walked) = walk(section, &Rules::DOCUMENT, 1 << 20) else { return };
+        let len = 1 + maker.few(12);
+        let mut calls = calls(&mut maker, &walked.contents, len);
+        // a number of more than 32 bits cannot be told
+        calls.retain(|call| told(call).1.iter().all(|&number| number <= u32::MAX as usize));
+        // what is turned down ends a run, so a share of them is made without
+        if number % 80 == 0 {
+            let mut kept = Vec::new();
+            for call in calls {
+                kept.push(call);
+                if wanted(section, &kept, &vec![1; kept.len()]).is_err() {
+                    kept.pop();
+                }
+            }
+            calls = kept;
+        }
+        if calls.is_empty() {
+            return;
+        }
+        let (mut args, mut starts) = (Vec::new(), Vec::new());
+        for call in &calls {
+            let (name, place, values) = told(call);
+            starts.push(1 + args.len());
+            args.push(name.to_owned());
+            args.extend(place.iter().map(|number| number.to_string()));
+            args.extend(values.iter().map(|&bits| {
+                if bits % 2 == 0 { bits.to_string() } else { format!("0x{bits:X}") }
+            }));
+        }
+        let written = output(&program, &args, section);
+        match wanted(section, &calls, &starts) {
+            Ok(section) => {
+                made += 1;
+                assert!(written == section, "{args:?}");
+            }
+            Err(begins) => {
+                *refused.entry(begins[..10].to_owned()).or_insert(0) += 1;
+                assert!(written.starts_with(begins.as_bytes()) && written.ends_with(b"\n"), "{args:?}: {begins}");
+            }
+        }
+    };
+    random_sections(&mut Maker::new(9), 40_000, &mut |_, section| look(section));
+    println!("{made} made, {refused:?}");
+    assert!(made > 100 && refused.len() > 5, "{made} made, {refused:?}");
+}
+
+/// What is no list of changes is answered by how to say one.
+#[test]
+fn what_is_no_change_is_said() {
+    let program = program("edit_section");
+    for args in ["", "frame 1", "frames", "frames x", "frames 0x", "frames 4294967296", "undo undo 1", "layer 0 0 0"] {
+        let words: Vec<String> = args.split_whitespace().map(str::to_owned).collect();
+        let said = String::from_utf8(output(&program, &words, &content_p())).unwrap();
+        assert!(said.contains("usage: edit_section"), "{args}: {said}");
+    }
+}
