@@ -81,9 +81,11 @@ fn changes_are_made() {
             starts.push(1 + args.len());
             args.push(name.to_owned());
             args.extend(place.iter().map(|number| number.to_string()));
-            args.extend(values.iter().map(|&bits| {
-                if bits % 2 == 0 { bits.to_string() } else { format!("0x{bits:X}") }
-            }));
+            args.extend(values.iter().map(
+                |&bits| {
+                    if bits % 2 == 0 { bits.to_string() } else { format!("0x{bits:X}") }
+                },
+            ));
         }
         let written = output(&program, &args, section);
         match wanted(section, &calls, &starts) {
@@ -106,7 +108,7 @@ fn changes_are_made() {
 #[test]
 fn what_is_no_change_is_said() {
     let program = program("edit_section");
-    for args in ["", "frame 1", "frames", "frames x", "frames 0x", "frames 4294967296", "undo undo 1", "layer 0 0 0"] {
+    for args in ["", "frame 1", "frames", "frames x", "frames 0x", "frames 4294967296", "frames 1 2", "layer 0 0 0"] {
         let words: Vec<String> = args.split_whitespace().map(str::to_owned).collect();
         let said = String::from_utf8(output(&program, &words, &content_p())).unwrap();
         assert!(said.contains("usage: edit_section"), "{args}: {said}");

@@ -5,10 +5,11 @@ mod answer;
 mod change;
 
 ghost use mathlib.Core.Path.{_≡_};
+ghost use lib.ListN.{length};
 ghost use lib.Seq.{sets};
 ghost use Rattle.core.specs.Text.{beforeZero, firstFault};
 ghost use Rattle.core.specs.Utf8.{decode, decodedSize, sound, wellFormed};
-ghost use Rattle.bflan.specs.Answer.{finding, reading};
+ghost use Rattle.bflan.specs.Answer.{finding, reading, textPart};
 ghost use Rattle.bflan.specs.Writing.{writing};
 ghost use Rattle.bflan.specs.declared.place.Place.the-variants.{FrameCount, Looping, Layer, Target, Key, Value};
 ghost use Rattle.edit.specs.Editing.{undoing};
@@ -101,6 +102,25 @@ pub extern "C" fn nnbfl_find_text(
 {
     let r = bflan::find::find_text(section, text, scratch);
     put4(answer, of_finding(r));
+}
+
+// No reference goes out to C: the bytes of the part are stored from the output's start on, as far as it has places for them, and their
+// number is returned.
+#[no_mangle]
+pub extern "C" fn nnbfl_text_part<'a>(
+    section: &'a [u8],
+    scratch: &'a [u8],
+    source: usize,
+    start: usize,
+    len: usize,
+    out: &mut [u8],
+) -> usize
+    ensures { λ r. ⌜ (r ≡ length (textPart (now (section .entry)) (now (scratch .entry)) source start len))
+        × (now (out .exit) ≡ sets (now (out .entry)) 0 (textPart (now (section .entry)) (now (scratch .entry)) source start len)) ⌝ }
+{
+    let text = bflan::find::text_part(section, scratch, source, start, len);
+    core::fill::copy(text, out, 0);
+    text.len()
 }
 
 #[no_mangle]

@@ -4,6 +4,7 @@ use core::float::Hermite;
 
 pub enum NewKey {
     Constant(Binary32),
-    Step(Binary32, u16),
+    // The value has sixteen bits in a section: a larger one is unfit.
+    Step(Binary32, u32),
     Hermite(Hermite),
 }

@@ -38,7 +38,7 @@ fn key_values(new: NewKey) -> Values
 {
     match new {
         NewKey::Constant(value) => Values::One(to_bits(value)),
-        NewKey::Step(frame, value) => Values::Two(to_bits(frame), value as u32),
+        NewKey::Step(frame, value) => Values::Two(to_bits(frame), value),
         NewKey::Hermite(h) => {
             let b = hermite_to_bits(h);
             Values::Three(b.0, b.1, b.2)

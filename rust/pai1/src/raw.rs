@@ -36,6 +36,17 @@ unsafe extern "C" {
         answer: *mut usize,
         answer_len: usize,
     );
+    fn nnbfl_text_part(
+        section: *const u8,
+        section_len: usize,
+        scratch: *const u8,
+        scratch_len: usize,
+        source: usize,
+        start: usize,
+        len: usize,
+        out: *mut u8,
+        out_len: usize,
+    ) -> usize;
     fn nnbfl_write(
         words: *const u32,
         words_len: usize,
@@ -122,6 +133,25 @@ pub fn find_text(section: &[u8], text: usize, scratch: &mut [u8], answer: &mut [
             scratch.len(),
             answer.as_mut_ptr(),
             answer.len(),
+        )
+    }
+}
+
+/// Stores the part that [`find_text`]'s three numbers say, of the section or of the scratch, in `out` from its start on,
+/// without what would stand past the end, and returns its whole length. The part is empty where the numbers run past that
+/// slice or the source is neither 0 nor 1.
+pub fn text_part(section: &[u8], scratch: &[u8], source: usize, start: usize, len: usize, out: &mut [u8]) -> usize {
+    unsafe {
+        nnbfl_text_part(
+            section.as_ptr(),
+            section.len(),
+            scratch.as_ptr(),
+            scratch.len(),
+            source,
+            start,
+            len,
+            out.as_mut_ptr(),
+            out.len(),
         )
     }
 }

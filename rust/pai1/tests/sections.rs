@@ -430,3 +430,26 @@ fn names_of_letters_and_targets() {
     assert_eq!(AnimInfoType::of_letters(*b"FLEU"), AnimInfoType::ExtendedUserDataAnim);
     assert_eq!(AnimInfoType::of_letters(*b"flvi"), AnimInfoType::Invalid);
 }
+
+/// The part that three numbers say, of the section or of the scratch: every place of short lists, and the largest numbers.
+#[test]
+fn parts_of_two_lists() {
+    let (section, scratch) = (b"section", b"text");
+    let numbers: Vec<usize> = (0..10).chain([usize::MAX - 1, usize::MAX]).collect();
+    for source in [0, 1, 2, usize::MAX] {
+        let list: &[u8] = [&section[..], &scratch[..], &[]][source.min(2)];
+        for &start in &numbers {
+            for &len in &numbers {
+                let end = start.checked_add(len).filter(|&end| end <= list.len());
+                let part = end.map_or(&[][..], |end| &list[start..end]);
+                for room in 0..10 {
+                    let mut out = vec![b'.'; room];
+                    let said = pai1::raw::text_part(section, scratch, source, start, len, &mut out);
+                    let fits = room.min(part.len());
+                    let stored = [&part[..fits], &vec![b'.'; room - fits]].concat();
+                    assert_eq!((said, out), (part.len(), stored), "{source} {start} {len} {room}");
+                }
+            }
+        }
+    }
+}

@@ -39,7 +39,7 @@ static SECTION: AtomicU64 = AtomicU64::new(0);
 static CALL: AtomicU64 = AtomicU64::new(0);
 
 /// The calls, as they are counted.
-const CALLS: [&str; 19] = [
+const CALLS: [&str; 20] = [
     "decoded_len",
     "decode_into",
     "decode_plain",
@@ -49,6 +49,7 @@ const CALLS: [&str; 19] = [
     "first_fault",
     "read",
     "find_text",
+    "text_part",
     "write",
     "edit_frame_count",
     "edit_looping",
@@ -62,9 +63,10 @@ const CALLS: [&str; 19] = [
 ];
 const READING: usize = 7;
 const FINDING: usize = 8;
-const WRITING: usize = 9;
-const FIRST_EDIT: usize = 10;
-const UNDOING: usize = 18;
+const PARTING: usize = 9;
+const WRITING: usize = 10;
+const FIRST_EDIT: usize = 11;
+const UNDOING: usize = 19;
 
 /// The answers that document 01 lists for a call.
 fn listed(call: usize) -> &'static [usize] {
@@ -292,6 +294,41 @@ impl Run {
         }
     }
 
+    /// Takes a part of the section or of a scratch, into an output of any length.
+    fn part(&mut self, random: &mut Random, section: &[u8]) {
+        let scratch: Vec<u8> = (0..random.below(20)).map(|_| random.byte()).collect();
+        let source = if random.below(8) == 0 { random.next() as usize } else { random.below(3) };
+        let list = if source == 0 { section } else { &scratch };
+        let mut place = |most: usize| match random.below(8) {
+            0 => usize::MAX - random.below(4),
+            1 => most + random.below(3),
+            _ => random.below(most + 1),
+        };
+        let start = place(list.len());
+        let len = place(list.len().saturating_sub(start));
+        let wanted = match start.checked_add(len) {
+            Some(end) if source <= 1 => list.get(start..end).unwrap_or(&[]),
+            _ => &[],
+        };
+        let out: Vec<u8> = (0..near(random, wanted.len())).map(|_| random.byte()).collect();
+        let mut stored = out.clone();
+        let fits = out.len().min(wanted.len());
+        stored[..fits].copy_from_slice(&wanted[..fits]);
+        for ends in [0, 7, random.below(8)] {
+            self.bytes_in.place(section, ends & 1 != 0);
+            self.texts.place(&scratch, ends & 2 != 0);
+            self.bytes.place(&out, ends & 4 != 0);
+            let said = self.make(PARTING, |run| {
+                let Run { bytes_in, texts, bytes, .. } = run;
+                raw::text_part(bytes_in.given(), texts.given(), source, start, len, bytes.given_mut())
+            });
+            self.around(PARTING);
+            let right = said == wanted.len() && self.bytes.now() == stored && self.texts.now() == scratch;
+            self.must(PARTING, right, "another part");
+            self.count(PARTING, 0);
+        }
+    }
+
     /// Writes a record into an output of this length. Returns the length that was said to be needed.
     fn write(&mut self, random: &mut Random, words: &[u32], texts: &[u8], out: usize) -> usize {
         let out: Vec<u8> = (0..out.min(self.bytes.most())).map(|_| random.byte()).collect();
@@ -330,7 +367,9 @@ impl Run {
             self.make(number, |run| {
                 let Run { bytes, words, words_in, answer, .. } = run;
                 match call {
-                    Call::Edit(change) => Proved.edit(bytes.given_mut(), words.given_mut(), count, change, answer.given_mut()),
+                    Call::Edit(change) => {
+                        Proved.edit(bytes.given_mut(), words.given_mut(), count, change, answer.given_mut())
+                    }
                     Call::Undo => raw::undo(bytes.given_mut(), words_in.given(), count, answer.given_mut()),
                 }
             });
@@ -377,6 +416,7 @@ impl Run {
             raw::find_text(section, text, &mut [], &mut answer);
             let scratch = near(random, if answer[0] == 5 { answer[2] } else { 10 });
             self.find(random, section, text, scratch);
+            self.part(random, section);
         }
 
         // the record that is there, or another, whole and then damaged

@@ -1,6 +1,7 @@
 use std::io::Write;
 use std::path::{Path, PathBuf};
 use std::process::{Command, Stdio};
+use std::sync::Mutex;
 
 /// The repository.
 pub fn root() -> PathBuf {
@@ -9,6 +10,9 @@ pub fn root() -> PathBuf {
 
 /// A program, proved and built.
 pub fn program(name: &str) -> PathBuf {
+    // tests run beside each other, and rt has one folder to build in
+    static ALONE: Mutex<()> = Mutex::new(());
+    let _alone = ALONE.lock().unwrap();
     let status = Command::new("rt").args(["check", name]).current_dir(root()).stdout(Stdio::null()).status();
     assert!(status.unwrap().success(), "rt check {name}");
     root().join("target/bin").join(name)

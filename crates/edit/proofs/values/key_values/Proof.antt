@@ -23,9 +23,6 @@ enum-known-new-2 c = search needs
 to-bits-requires-2 : tie.Need-to-bits-requires-2
 to-bits-requires-2 c κs = search needs
 
-cast-t10 : tie.Need-cast-t10
-cast-t10 c = search needs
-
 enum-known-new-3 : tie.Need-enum-known-new-3
 enum-known-new-3 c = search needs
 
@@ -51,7 +48,6 @@ key-values-spec =
     to-bits-requires
     enum-known-new-2
     to-bits-requires-2
-    cast-t10
     enum-known-new-3
     hermite-to-bits-requires
     returns
