@@ -1,8 +1,11 @@
 // What became of a change, and document 01's refusals of one: the number, its values, and a sentence.
 use bflan::fault::Fault;
+use console::output::say;
+use console::output::say_number;
+use console::refusal::say_refused;
+use console::refusal::say_why;
 use edit::edit::EditAnswer;
 use edit::undo::UndoAnswer;
-use libc::STDOUT_FILENO;
 
 pub(crate) enum Step {
     // The new count of journal entries.
@@ -11,17 +14,7 @@ pub(crate) enum Step {
     Stopped,
 }
 
-pub(crate) fn say(text: &[u8]) {
-    io::write_all(STDOUT_FILENO, text);
-}
-
-// A text, and a number behind it.
-pub(crate) fn say_number(before: &[u8], n: usize) {
-    say(before);
-    io::print_decimal(STDOUT_FILENO, n as u64);
-}
-
-// A refusal and what it is about; `why` ends the line.
+// A refusal at argument `i`; `why` ends the line.
 fn stop(number: usize, i: usize, why: &[u8]) -> Step {
     say_number(b"refused ", number);
     say_number(b" at argument ", i);
@@ -29,34 +22,45 @@ fn stop(number: usize, i: usize, why: &[u8]) -> Step {
     Step::Stopped
 }
 
+// A refusal with a value.
+fn stop_with(number: usize, value: usize, i: usize, why: &[u8]) -> Step {
+    say_number(b"refused ", number);
+    say_number(b" (", value);
+    say_number(b") at argument ", i);
+    say(why);
+    Step::Stopped
+}
+
 fn of_fault(f: Fault, i: usize) -> Step {
-    match f {
-        Fault::NotPai1(_letters) => {
-            stop(1, i, b": the first four bytes are not the letters pai1\n")
-        }
-        Fault::PastEnd(_offset, _requested) => {
-            stop(3, i, b": the section ends within what is to be read\n")
-        }
-        Fault::NoZero(_start) => stop(4, i, b": no zero byte ends a text\n"),
-    }
+    say_refused(f);
+    say_number(b" at argument ", i);
+    say_why(f);
+    Step::Stopped
 }
 
 pub(crate) fn of_edit(a: EditAnswer, i: usize) -> Step {
     match a {
         EditAnswer::Edited(count) => Step::On(count),
-        EditAnswer::TooLong(_size) => stop(2, i, b": the section is too long\n"),
+        EditAnswer::TooLong(size) => stop_with(2, size, i, b": the section is too long\n"),
         EditAnswer::Refused(f) => of_fault(f, i),
         EditAnswer::NoSuchPlace => stop(10, i, b": the section has no such place\n"),
         EditAnswer::Unfit => stop(11, i, b": the new value does not fit there\n"),
-        EditAnswer::JournalFull(_most) => stop(12, i, b": too many changes to take back\n"),
+        EditAnswer::JournalFull(most) => {
+            stop_with(
+                12,
+                most,
+                i,
+                b": the journal has no room for one more change\n",
+            )
+        }
     }
 }
 
 pub(crate) fn of_undo(a: UndoAnswer, i: usize) -> Step {
     match a {
         UndoAnswer::Undone(count) => Step::On(count),
-        UndoAnswer::TooLong(_size) => stop(2, i, b": the section is too long\n"),
+        UndoAnswer::TooLong(size) => stop_with(2, size, i, b": the section is too long\n"),
         UndoAnswer::NothingToUndo => stop(13, i, b": there is no change to take back\n"),
-        UndoAnswer::BadJournal(_count) => stop(14, i, b": the journal is damaged\n"),
+        UndoAnswer::BadJournal(count) => stop_with(14, count, i, b": the journal is damaged\n"),
     }
 }

@@ -25,22 +25,20 @@ ghost use lib.ListN.{length};
 use crate::answer::Step;
 use crate::answer::of_edit;
 use crate::answer::of_undo;
-use crate::answer::say;
-use crate::answer::say_number;
 use crate::change::Change;
 use crate::change::edited;
 use crate::change::named;
 use crate::change::numbers_of;
 use crate::number::read_numbers;
+use console::output::say;
+use console::output::say_number;
+use console::refusal::say_too_long;
+use console::room::MOST;
+use console::room::input_room;
 use core::part::part;
 use edit::undo::undo;
 use libc::STDIN_FILENO;
-use libc::STDOUT_FILENO;
 
-// The longest input.
-const MOST: usize = 65536;
-// The room for it: a byte more shows that it is longer.
-const ROOM: usize = 65537;
 // The words of the journal: a thousand entries.
 const JOURNAL: usize = 5000;
 // The most numbers behind the name of a change.
@@ -106,14 +104,8 @@ fn make_all(section: &mut [u8], journal: &mut [u32], numbers: &mut [u32], room: 
 
 fn run(section: &mut [u8], journal: &mut [u32], numbers: &mut [u32], room: &mut [u8]) {
     if make_all(section, journal, numbers, room) {
-        io::write_all(STDOUT_FILENO, section);
+        say(section);
     }
-}
-
-fn input_room() -> [u8; ROOM]
-    ensures { λ r. ⌜ 65537 ≡ length r ⌝ }
-{
-    [0; ROOM]
 }
 
 fn journal_room() -> [u32; JOURNAL]
@@ -136,7 +128,7 @@ fn main() {
     let mut input = input_room();
     let n = io::read_full(STDIN_FILENO, &mut input);
     if MOST < n {
-        say(b"refused 2: the input is longer than 65536 bytes\n");
+        say_too_long();
         return;
     }
     let mut journal = journal_room();

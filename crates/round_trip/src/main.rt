@@ -1,36 +1,23 @@
 // Reads a section on standard input and writes it again to standard output, or only `refused N` with document 01's number.
-ghost use mathlib.Core.Path.{_≡_};
-ghost use lib.ListN.{length};
-use bflan::fault::Fault;
 use bflan::read::ReadAnswer;
 use bflan::read::read;
 use bflan::write::WriteAnswer;
 use bflan::write::write;
+use console::output::say;
+use console::output::say_number;
+use console::refusal::number_of;
+use console::room::MOST;
+use console::room::input_room;
+use console::room::words_room;
 use core::part::part;
 use libc::STDIN_FILENO;
-use libc::STDOUT_FILENO;
-
-// The longest input.
-const MOST: usize = 65536;
-// The room for it: a byte more shows that it is longer.
-const ROOM: usize = 65537;
-// The words of the table.
-const WORDS: usize = 16384;
 
 // What becomes of an input.
 enum Trip {
     // The length of the section that was written.
     Section(usize),
     // The number of a refusal.
-    Refused(u64),
-}
-
-fn of_fault(f: Fault) -> u64 {
-    match f {
-        Fault::NotPai1(_letters) => 1,
-        Fault::PastEnd(_offset, _requested) => 3,
-        Fault::NoZero(_start) => 4,
-    }
+    Refused(usize),
 }
 
 fn write_again(words: &[u32], texts: &[u8], out: &mut [u8]) -> Trip {
@@ -57,7 +44,7 @@ fn round_trip(section: &[u8], words: &mut [u32], texts: &mut [u8], out: &mut [u8
     }
     match read(section, words, texts) {
         ReadAnswer::Accepted(n, m) => write_filled(words, n, texts, m, out),
-        ReadAnswer::Refused(f) => Trip::Refused(of_fault(f)),
+        ReadAnswer::Refused(f) => Trip::Refused(number_of(f)),
         ReadAnswer::TooLong(_size) => Trip::Refused(2),
         ReadAnswer::TooShort(_words, _bytes) => Trip::Refused(5),
     }
@@ -65,27 +52,12 @@ fn round_trip(section: &[u8], words: &mut [u32], texts: &mut [u8], out: &mut [u8
 
 fn answer(t: Trip, out: &[u8]) {
     match t {
-        Trip::Section(len) => {
-            io::write_all(STDOUT_FILENO, part(out, 0, len));
-        }
+        Trip::Section(len) => say(part(out, 0, len)),
         Trip::Refused(number) => {
-            io::write_all(STDOUT_FILENO, b"refused ");
-            io::print_decimal(STDOUT_FILENO, number);
-            io::write_all(STDOUT_FILENO, b"\n");
+            say_number(b"refused ", number);
+            say(b"\n");
         }
     }
-}
-
-fn input_room() -> [u8; ROOM]
-    ensures { λ r. ⌜ 65537 ≡ length r ⌝ }
-{
-    [0; ROOM]
-}
-
-fn words_room() -> [u32; WORDS]
-    ensures { λ r. ⌜ 16384 ≡ length r ⌝ }
-{
-    [0; WORDS]
 }
 
 fn main() {

@@ -2,8 +2,8 @@
 // number: m × 5^k with the point before the last k of them, or m × 2^j.
 ghost use Prim.Native.Nat.{_≤_, _<_};
 ghost use lib.ListN.{length};
-use crate::output::say;
-use crate::output::say_hex;
+use crate::hex::say_hex;
+use console::output::say;
 use core::part::part;
 use std::num::wrapping_add_usize;
 

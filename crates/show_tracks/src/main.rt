@@ -19,29 +19,38 @@
 //
 // A section that is turned down is answered by document 01's number and values, and what is wrong: `refused 3 (4, 4): ..`.
 mod decimal;
+mod hex;
 mod names;
-mod output;
-mod refusal;
 mod text;
 mod tracks;
 
-ghost use mathlib.Core.Path.{_≡_};
-ghost use lib.ListN.{length};
-use crate::refusal::say_fault;
-use crate::refusal::say_too_long;
-use crate::refusal::say_too_short;
 use crate::tracks::show;
+use bflan::fault::Fault;
 use bflan::read::ReadAnswer;
 use bflan::read::read;
+use console::output::say;
+use console::output::say_number;
+use console::refusal::say_refused;
+use console::refusal::say_too_long;
+use console::refusal::say_why;
+use console::room::MOST;
+use console::room::input_room;
+use console::room::words_room;
 use core::part::part;
 use libc::STDIN_FILENO;
 
-// The longest input.
-const MOST: usize = 65536;
-// The room for it: a byte more shows that it is longer.
-const ROOM: usize = 65537;
-// The words of the table.
-const WORDS: usize = 16384;
+fn say_fault(f: Fault) {
+    say_refused(f);
+    say_why(f);
+}
+
+fn say_too_short(words: usize, bytes: usize) {
+    say_number(b"refused 5 (", words);
+    say_number(b", ", bytes);
+    say(
+        b"): the record has more than the 16384 words or the 65536 text bytes that there is room for\n",
+    );
+}
 
 fn answer(section: &[u8], words: &mut [u32], texts: &mut [u8]) {
     if MOST < section.len() {
@@ -55,18 +64,6 @@ fn answer(section: &[u8], words: &mut [u32], texts: &mut [u8]) {
         ReadAnswer::TooLong(_size) => say_too_long(),
         ReadAnswer::TooShort(n, m) => say_too_short(n, m),
     }
-}
-
-fn input_room() -> [u8; ROOM]
-    ensures { λ r. ⌜ 65537 ≡ length r ⌝ }
-{
-    [0; ROOM]
-}
-
-fn words_room() -> [u32; WORDS]
-    ensures { λ r. ⌜ 16384 ≡ length r ⌝ }
-{
-    [0; WORDS]
 }
 
 fn main() {

@@ -1,7 +1,7 @@
 // The Rust's names: of the types of contents (AnimType), of the letters (AnimInfoType), of the targets below each (the enums of
 // TargetIndex) and of the curves. A list has the names in the order of their numbers.
-use crate::output::say;
 use bflan::letters;
+use console::output::say;
 use core::number::write_u32;
 use core::part::part;
 

@@ -1,9 +1,9 @@
 // The texts of a section, quoted. A text can hold any characters: those that could end a line or steer a terminal are escaped.
 ghost use Prim.Native.Nat.{_≤_, _<_};
 ghost use lib.ListN.{length};
-use crate::output::say;
-use crate::output::say_hex;
+use crate::hex::say_hex;
 use bflan::find::FindAnswer;
+use console::output::say;
 use core::part::part;
 
 // Where a text is: the source, its start and its length there.

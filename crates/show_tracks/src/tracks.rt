@@ -4,8 +4,6 @@ use crate::names::say_curve;
 use crate::names::say_letters;
 use crate::names::say_target;
 use crate::names::say_type;
-use crate::output::say;
-use crate::output::say_number;
 use crate::text::Text;
 use crate::text::say_found;
 use crate::text::say_quoted;
@@ -13,6 +11,8 @@ use crate::text::text_of;
 use bflan::find::find_text;
 use bflan::find::text_part;
 use bflan::letters::FLEU;
+use console::output::say;
+use console::output::say_number;
 use std::num::wrapping_add_usize;
 
 // What 28 bytes can decode to, where each becomes U+FFFD.

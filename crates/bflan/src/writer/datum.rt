@@ -6,11 +6,11 @@ ghost use lib.Seq.{sets};
 ghost use Rattle.bflan.specs.Judge.{times, datum};
 ghost use Rattle.bflan.specs.Layout.{written, parts, datumLay};
 ghost use Rattle.bflan.specs.Stored.{Ready, laid, behind, datumHead, datumFront};
+use crate::judge::word::word_of;
 use crate::writer::Pen;
 use crate::writer::field::put_ended;
 use crate::writer::field::put_half;
 use crate::writer::field::put_offset;
-use crate::writer::field::word_of;
 use core::number::write_u32;
 use core::run::write_numbers;
 

@@ -1,28 +1,19 @@
 // Fields of the section that is written, and the words and texts that they come from. What would stand past the end is dropped.
 ghost use mathlib.Core.Path.{_≡_};
 ghost use Prim.Native.Nat.{_+_, _-_, _≤_};
-ghost use lib.ListN.{length, getD, take, drop};
+ghost use lib.ListN.{length, take, drop};
 ghost use lib.Seq.{sets};
 ghost use Rattle.core.specs.Number.{put};
 ghost use Rattle.bflan.specs.Judge.{text, wide};
 ghost use Rattle.bflan.specs.Layout.{number, _⨾_, written, ended};
 ghost use Rattle.bflan.specs.Stored.{Ready, laid, behind};
+use crate::judge::word::word_of;
 use crate::writer::Pen;
 use core::fill::copy;
 use core::number::write_u8;
 use core::number::write_u16;
 use core::placeholder::patch_u32;
 use core::placeholder::write_placeholder_u32;
-
-// A word by its index.
-pub(crate) fn word_of(words: &[u32], i: usize) -> u32
-    ensures { λ r. ⌜ r ≡ getD (now (words .entry)) i 0 ⌝ }
-{
-    if i < words.len() {
-        return words[i];
-    }
-    0
-}
 
 // The lowest byte of a word.
 pub(crate) fn put_byte(out: &mut [u8], at: usize, v: u32)

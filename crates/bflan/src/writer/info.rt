@@ -7,12 +7,12 @@ ghost use Rattle.bflan.specs.Judge.{times, info};
 ghost use Rattle.bflan.specs.Layout.{written, infoHead, infoLay};
 ghost use Rattle.bflan.specs.Letters.{fleu};
 ghost use Rattle.bflan.specs.Stored.{Ready, laid, behind, listed, outOf, outBy};
+use crate::judge::word::word_of;
 use crate::letters::FLEU;
 use crate::writer::Pen;
 use crate::writer::datum::put_data;
 use crate::writer::field::put_counts;
 use crate::writer::field::put_offset;
-use crate::writer::field::word_of;
 use crate::writer::target::put_targets;
 use core::number::write_u32;
 

@@ -8,11 +8,11 @@ ghost use Rattle.bflan.specs.Judge.{times, row, target};
 ghost use Rattle.bflan.specs.Layout.{written, parts, keyLay, targetLay};
 ghost use Rattle.bflan.specs.Record.{keyWidths};
 ghost use Rattle.bflan.specs.Stored.{Ready, laid, behind, listed, targetHead};
+use crate::judge::word::word_of;
 use crate::writer::Pen;
 use crate::writer::field::put_byte;
 use crate::writer::field::put_half;
 use crate::writer::field::put_offset;
-use crate::writer::field::word_of;
 use core::run::write_numbers;
 use core::run::write_pairs;
 

@@ -1,17 +1,7 @@
-// What the program writes, piece by piece.
+// Numbers in hexadecimal.
 ghost use Prim.Native.Nat.{_<_};
+use console::output::say;
 use core::part::part;
-use libc::STDOUT_FILENO;
-
-pub(crate) fn say(text: &[u8]) {
-    io::write_all(STDOUT_FILENO, text);
-}
-
-// A text, and a number behind it.
-pub(crate) fn say_number(before: &[u8], n: usize) {
-    say(before);
-    io::print_decimal(STDOUT_FILENO, n as u64);
-}
 
 fn glyph(n: u32) -> u8
     requires { ⌜ n < 16 ⌝ }

@@ -3,8 +3,8 @@ use Prim.Native.Nat.{_≤_}
 use mathlib.Core.Path.{_≡_}
 use lib.ListN.{length}
 use borrow.Author.Needs.{needs}
-use Rattle.show_tracks.proofs.output.say_hex.Statement.{statement}
-use Rattle.show_tracks.proofs.output.say_hex.Tie as tie
+use Rattle.show_tracks.proofs.hex.say_hex.Statement.{statement}
+use Rattle.show_tracks.proofs.hex.say_hex.Tie as tie
 
 abbrev Inv-loop : tie.InvT-loop
 Inv-loop n digits text₀ rest₀ i₀ text rest i = (length text ≡ 8) × (i ≤ 8)
