@@ -28,7 +28,7 @@ use Rattle.bflan.proofs.Codes.{fleu-lt, fit-lt, letters-own}
 use Rattle.bflan.proofs.Layouts.{size-written, Stands, stands-left, stands-right, stands-to, stands-all, stands-get, size-table, user-size}
 use Rattle.bflan.proofs.ReadBack.{Reads, reads-as, reads-none, reads-joined, ReadsPart}
 use Rattle.bflan.proofs.Replacing.{Replaces, replaces-to, replaces-left, replaces-right, replaces-whole, replaces-number, size-row, length-row, length-changed, no-element, ahead, ahead-even, table-entry, Element, element}
-use Rattle.bflan.proofs.RoundTrip.{datum-reads}
+use Rattle.bflan.proofs.RoundTrip.{datum-reads, content-stands}
 use Rattle.bflan.proofs.TargetParts.{curve-low, count-low}
 use Rattle.bflan.proofs.Walks.{many-suc}
 
@@ -326,31 +326,13 @@ module _ (s : List ℕ) (short : length s ≤ 16777216) where
     infos : Stands s (b + infosFrom c) (parts infoLay (c .infos))
 
   content-there : (b : ℕ) (c : AnimContent) → FineContent c → Stands s b (contentLay c) → Content b c
-  unfolding contentLay contentBody infosFrom size
-  content-there b c f h0 =
-      let h = stands-left h0 in
-      let h1 = stands-right h in
-      let h2 = stands-right h1 in
-      let h3 = stands-right h2 in
-      let h4 = stands-right h3 in
-      let h5 = stands-right h4 in
-      let h6 = stands-right h5 in
-      let h7 = stands-right h6 in
-      let n : ℕ = length (c .infos) in
-      let from : ℕ = tableFrom (c .type) + 4 * n in
-      let total : ℕ = from + size (parts infoLay (c .infos)) - infosOut (c .infos) in
-      let z : length (replicate {A = ℕ} (28 - length (c .name)) 0) ≡ 28 - length (c .name) = length-replicate (28 - length (c .name)) 0 in
-      let sh : length (c .name) ≤ 28 = f .short in
-      let u : 32 + size (userLay (c .type) total) ≡ tableFrom (c .type) = user-size (c .type) total in
-      let lt : size (table infoLay from (c .infos)) ≡ 4 * n = size-table infoLay from (c .infos) in
-      let g2 : Stands s (b + 28) (number 1 n) = stands-to (stands-left h2) (omega (arith, z, sh)) in
-      let g3 : Stands s (b + 29) (number 1 (c .type)) = stands-to (stands-left h3) (omega (arith, z, sh)) in
-      let g5 : Stands s (b + 32) (userLay (c .type) total) = stands-to (stands-left h5) (omega (arith, z, sh)) in
+  content-there b c f h =
+      let g = content-stands s short b c (f .short) h in
       record {
-        count = stands-get g2 (f .count);
-        start = table-in b (c .type) total (stands-get g3 (omega (arith, f .type))) g5;
-        offsets = stands-to (stands-left h6) (omega (arith, z, sh, u));
-        infos = stands-to h7 (omega (arith, z, sh, u, lt));
+        count = stands-get (g .count) (f .count);
+        start = table-in b (c .type) _ (stands-get (g .type) (omega (arith, f .type))) (g .user);
+        offsets = g .offsets;
+        infos = g .infos;
       }
 
   -- what the total size of a User content leaves out stays

@@ -1,10 +1,8 @@
 -- An info by its eight bytes: where it stops if they are not all there, and what follows if they are.
 -- Assumes nothing.
 use Prim.Native.Nat.{ℕ, _+_, _-_, _<_, _≤_}
-use mathlib.Core.Path.{_≡_, refl, ap, sym, _∙_}
-use mathlib.Core.Bool.{Bool, true, false}
-use mathlib.Core.List.{List, [], _∷_, _++_}
-use native.Mathlib.Nat.{add-assoc}
+use mathlib.Core.Path.{_≡_, ap, sym, _∙_}
+use mathlib.Core.List.{List, [], _∷_}
 use native.Mathlib.Omega.{arith}
 use borrow.Author.Tests.{eq-eqb, ne-eqb}
 use lib.Dec.{eqb}
@@ -14,10 +12,9 @@ use Rattle.core.specs.Run.{numbersAt}
 use Rattle.core.specs.declared.run.Run.the-variants.{Next, Cut}
 use Rattle.core.specs.Run.{numbersOf}
 use Rattle.core.proofs.Seeks.{seek-there, seek-over}
-use Rattle.bflan.specs.declared.fault.Fault.{Fault}
 use Rattle.bflan.specs.declared.fault.Fault.the-variants.{PastEnd}
 use Rattle.bflan.specs.Letters.{fleu, lettersOf}
-use Rattle.bflan.specs.Reader.{Res, ok, stop, P, andThen, _>>=_, ret, given, Item, word, num, seekTo, numbers, many, visit}
+use Rattle.bflan.specs.Reader.{Res, ok, stop, _>>=_, ret, given, Item, word, seekTo, numbers, many, visit}
 use Rattle.bflan.specs.Reading.{target, datum, info}
 use Rattle.bflan.proofs.Emits.{sought-on, sought-past}
 use Rattle.bflan.proofs.KeyRuns.{num-there, num-short, numbers-run}

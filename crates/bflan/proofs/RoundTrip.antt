@@ -29,7 +29,7 @@ use Rattle.bflan.specs.Layout.{nothing, number, bytes, _⨾_, size, writ
 use Rattle.bflan.specs.Limits.{All, Fits, FineText, FineTarget, FineDatum, FineInfo, FineContent, Fine, Within}
 use Rattle.bflan.specs.Reader.{ok, _>>=_, given, here, Item, word, text, many, visit, num, numbers, seekTo, oneEnded}
 use Rattle.bflan.specs.Reading.{keyOf, keys, target, datum, info, typeOf, infoTable, content, texture, contents, pai1, flagOf, section}
-use Rattle.bflan.specs.Record.{Standard, ExtendedUserData, PaneAnimInfo, keyWidths, Cell, word as wordCell, chars, each, targetCells, datumCells, infoCells, contentCells, textureCells, cells, wordsIn, bytesIn, words, texts}
+use Rattle.bflan.specs.Record.{Standard, ExtendedUserData, AnimContent, PaneAnimInfo, keyWidths, Cell, word as wordCell, chars, each, targetCells, datumCells, infoCells, contentCells, textureCells, cells, wordsIn, bytesIn, words, texts}
 use Rattle.bflan.specs.Walk.{shownAt, wordsOf, textsOf}
 use Rattle.bflan.proofs.Codes.{fits-lt, fits-own, fit-lt, letters-own}
 use Rattle.bflan.proofs.ContentParts.{nameSize, contentRest, content-there, rest-at}
@@ -191,9 +191,19 @@ module _ (s : List ℕ) (short : length s ≤ 16777216) where
       ∙ ap₂ (λ (u v : List ℕ). u ++ v) (h .same) (ap (take (28 - length t)) (drop-drop (length t) b s) ∙ tail) in
       rw (whole, before-free t (replicate (28 - length t) 0) (none-free t (f .zeroFree)), zeros-before (28 - length t), add-zero)
 
-  pub content-reads : ReadsAt contentLay contentCells FineContent s content
-  unfolding contentLay contentBody contentCells infosFrom size shownIn
-  content-reads b i c f h0 =
+  -- a content that stands: each of its fields, at its place
+  pub record StandsContent (b : ℕ) (c : AnimContent) : Type 0 where
+    pub name : Stands s b (bytes (c .name))
+    pub fill : Stands s (b + length (c .name)) (zeros (28 - length (c .name)))
+    pub count : Stands s (b + 28) (number 1 (length (c .infos)))
+    pub type : Stands s (b + 29) (number 1 (c .type))
+    pub user : Stands s (b + 32) (userLay (c .type) (infosFrom c + size (parts infoLay (c .infos)) - infosOut (c .infos)))
+    pub offsets : Stands s (b + tableFrom (c .type)) (table infoLay (infosFrom c) (c .infos))
+    pub infos : Stands s (b + infosFrom c) (parts infoLay (c .infos))
+
+  pub content-stands : (b : ℕ) (c : AnimContent) → length (c .name) ≤ 28 → Stands s b (contentLay c) → StandsContent b c
+  unfolding contentLay contentBody infosFrom size
+  content-stands b c sh h0 =
       let h = stands-left h0 in
       let h1 = stands-right h in
       let h2 = stands-right h1 in
@@ -202,34 +212,44 @@ module _ (s : List ℕ) (short : length s ≤ 16777216) where
       let h5 = stands-right h4 in
       let h6 = stands-right h5 in
       let h7 = stands-right h6 in
+      let from : ℕ = tableFrom (c .type) + 4 * length (c .infos) in
+      let total : ℕ = from + size (parts infoLay (c .infos)) - infosOut (c .infos) in
+      let z : length (replicate {A = ℕ} (28 - length (c .name)) 0) ≡ 28 - length (c .name) = length-replicate (28 - length (c .name)) 0 in
+      let u : 32 + size (userLay (c .type) total) ≡ tableFrom (c .type) = user-size (c .type) total in
+      let lt : size (table infoLay from (c .infos)) ≡ 4 * length (c .infos) = size-table infoLay from (c .infos) in
+      record {
+        name = stands-left h;
+        fill = stands-left h1;
+        count = stands-to (stands-left h2) (omega (arith, z, sh));
+        type = stands-to (stands-left h3) (omega (arith, z, sh));
+        user = stands-to (stands-left h5) (omega (arith, z, sh));
+        offsets = stands-to (stands-left h6) (omega (arith, z, sh, u));
+        infos = stands-to h7 (omega (arith, z, sh, u, lt));
+      }
+
+  pub content-reads : ReadsAt contentLay contentCells FineContent s content
+  unfolding contentCells infosFrom size shownIn
+  content-reads b i c f h =
+      let g : StandsContent b c = content-stands b c (f .short) h in
       let n : ℕ = length (c .infos) in
       let from : ℕ = tableFrom (c .type) + 4 * n in
       let total : ℕ = from + size (parts infoLay (c .infos)) - infosOut (c .infos) in
-      let z : length (replicate {A = ℕ} (28 - length (c .name)) 0) ≡ 28 - length (c .name) = length-replicate (28 - length (c .name)) 0 in
-      let sh : length (c .name) ≤ 28 = f .short in
-      let u : 32 + size (userLay (c .type) total) ≡ tableFrom (c .type) = user-size (c .type) total in
-      let lt : size (table infoLay from (c .infos)) ≡ 4 * n = size-table infoLay from (c .infos) in
-      let big : b + 32 ≤ length s = omega (arith, h5 .fits, z, sh) in
-      let g2 : Stands s (b + 28) (number 1 n) = stands-to (stands-left h2) (omega (arith, z, sh)) in
-      let g3 : Stands s (b + 29) (number 1 (c .type)) = stands-to (stands-left h3) (omega (arith, z, sh)) in
-      let g5 : Stands s (b + 32) (userLay (c .type) total) = stands-to (stands-left h5) (omega (arith, z, sh)) in
-      let g6 : Stands s (b + tableFrom (c .type)) (table infoLay from (c .infos)) = stands-to (stands-left h6) (omega (arith, z, sh, u)) in
-      let g7 : Stands s (b + from) (parts infoLay (c .infos)) = stands-to h7 (omega (arith, z, sh, u, lt)) in
-      let lp : from + size (parts infoLay (c .infos)) < 256 ^ 4 = omega (arith, g7 .fits) in
-      let e2 : get 1 s (b + 28) ≡ n = stands-get g2 (f .count) in
-      let e3 : get 1 s (b + 29) ≡ c .type = stands-get g3 (omega (arith, f .type)) in
-      let o = table-reads infoLay s (b + tableFrom (c .type)) from (c .infos) lp g6 in
-      let v = visit-reads infoLay infoCells FineInfo s info info-reads b from (b + tableFrom (c .type) + 4 * n) (c .infos) (f .infos) g7 in
-      let ns : nameSize s b ≡ length (c .name) = name-size b (c .name) (f .name) sh (stands-left h) (stands-left h1) in
+      let big : b + 32 ≤ length s = omega (arith, g .user .fits) in
+      let lp : from + size (parts infoLay (c .infos)) < 256 ^ 4 = omega (arith, g .infos .fits) in
+      let e2 : get 1 s (b + 28) ≡ n = stands-get (g .count) (f .count) in
+      let e3 : get 1 s (b + 29) ≡ c .type = stands-get (g .type) (omega (arith, f .type)) in
+      let o = table-reads infoLay s (b + tableFrom (c .type)) from (c .infos) lp (g .offsets) in
+      let v = visit-reads infoLay infoCells FineInfo s info info-reads b from (b + tableFrom (c .type) + 4 * n) (c .infos) (f .infos) (g .infos) in
+      let ns : nameSize s b ≡ length (c .name) = name-size b (c .name) (f .name) (f .short) (g .name) (g .fill) in
       let ty : typeOf (c .type) ≡ c .type = unfold typeOf in rw (le-leb (c .type) 4 (omega (arith, f .type))) in
       let ws : List Item = text b (length (c .name)) ∷ word (c .type) ∷ word n ∷ [] in
       let e : content b s i ≡ before ws (visit b info (offsets infoLay from (c .infos)) s (b + tableFrom (c .type) + 4 * n)) =
       content-there b s i big ∙ ap₂ (λ (m k : ℕ). contentRest b s i m k) e2 e3
-      ∙ rest-at b s i n (c .type) (b + tableFrom (c .type)) (user-reads (c .type) total b (g5 .fits) g5)
+      ∙ rest-at b s i n (c .type) (b + tableFrom (c .type)) (user-reads (c .type) total b (g .user .fits) (g .user))
       ∙ rw (o, ns, ty) (put-before ws (visit b info (offsets infoLay from (c .infos)) s (b + tableFrom (c .type) + 4 * n)) s) in
       record {
         next = v .next;
-        here = reads-as (sym e) (ap (λ (t : List ℕ). chars t ∷ wordCell (c .type) ∷ wordCell n ∷ each infoCells (c .infos)) (shown-there s b (c .name) (f .name) (stands-left h))) refl (reads-before ws (v .here));
+        here = reads-as (sym e) (ap (λ (t : List ℕ). chars t ∷ wordCell (c .type) ∷ wordCell n ∷ each infoCells (c .infos)) (shown-there s b (c .name) (f .name) (g .name))) refl (reads-before ws (v .here));
       }
 
 -- a run of numbers that is read is there

@@ -1,6 +1,5 @@
 -- What the walk that judges a record answers of a part: where it stands behind it, and the part's bytes in the section.
 use Prim.Native.Nat.{ℕ}
-use Rattle.bflan.specs.declared.judge.Mark.{Mark}
 use Rattle.bflan.specs.declared.judge.Verdict.{Verdict}
 use Rattle.bflan.specs.declared.judge.Verdict.the-variants.{Fine, BadWord, BadText}
 use Rattle.bflan.specs.Judge.{Judged, fine, badWord, badText}
