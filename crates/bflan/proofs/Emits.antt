@@ -1,13 +1,16 @@
 -- What the stores of a walk are in terms of `run`.
 -- Assumes nothing.
-use Prim.Native.Nat.{ℕ, min, _+_, _-_, _≤_}
-use mathlib.Core.Path.{_≡_, ap, sym, _∙_}
+use Prim.Native.Nat.{ℕ, min, _+_, _-_, _<_, _≤_}
+use mathlib.Core.Path.{_≡_, refl, ap, subst, sym, _∙_}
+use mathlib.Core.Bool.{Bool, true, false}
 use mathlib.Core.List.{List, [], _∷_, append-nil}
 use native.Mathlib.Numerals.{add-one}
 use native.Mathlib.Omega.{arith}
 use lib.ListN.{length, set, take, drop}
 use lib.Seq.{sets, slice, length-slice, length-sets}
+use Rattle.core.specs.Choice.{pick}
 use Rattle.core.specs.Utf8.{decode, decodedSize}
+use Rattle.core.proofs.Seeks.{seek-there}
 use Rattle.core.proofs.Stores.{sets-append}
 use Rattle.core.proofs.utf8.Laws.{decode-bound}
 use Rattle.core.proofs.utf8.Turns.{part-is}
@@ -27,7 +30,7 @@ use Rattle.bflan.specs.Reader.{Res, ok, stop, Item, word, text, num, see
 use Rattle.bflan.specs.Reading.{texture}
 use Rattle.bflan.proofs.KeyRuns.{moved-more}
 use Rattle.bflan.proofs.Walks.{before, run-before, sets-sat, told-stop}
-use Rattle.bflan.specs.Walk.{shownAt, wordsOf, textsOf, sat, moved, named, tallied, run, told, asName, nameEnd}
+use Rattle.bflan.specs.Walk.{shownAt, wordsOf, textsOf, sat, moved, named, tallied, run, told, asName, nameEnd, asIs}
 
 -- the decoded length of a part of a section
 pub shown-size : (s : List ℕ) (start len size : ℕ) (part : List ℕ) → start + len ≤ length s → length s ≤ 16777216 → part ≡ slice start (start + len) s → size ≡ decodedSize part
@@ -113,15 +116,43 @@ module _ (s : List ℕ) (base i : ℕ) where
 
 -- ---- a name that was looked for
 
-pub stored-name : (s : List ℕ) (t : Tally) (w x : List ℕ) (r : Name) (g : Res (List Item)) (a n q : ℕ) (t′ : Tally) (w′ x′ : List ℕ) → asName r ≡ g → r ≡ Found a n q
+pub stored-name : (s : List ℕ) (t : Tally) (w x : List ℕ) (r : Name) (g : Res (List Item)) (a n q : ℕ) (plain : Bool) (t′ : Tally) (w′ x′ : List ℕ) → asName r ≡ g → r ≡ Found a n q plain
     → t′ ≡ named t a n (length (shownAt s a n)) → w′ ≡ set w (t .words) (length (shownAt s a n)) → x′ ≡ sets x (t .bytes) (shownAt s a n) → told (On t′ q) w′ x′ ≡ run s t w x g
-stored-name s t w x r g a n q t′ w′ x′ eg er et ew ex = run-text s t w x a n q t′ w′ x′ et ew ex ∙ ap (run s t w x) (sym (ap asName er) ∙ eg)
+stored-name s t w x r g a n q plain t′ w′ x′ eg er et ew ex = run-text s t w x a n q t′ w′ x′ et ew ex ∙ ap (run s t w x) (sym (ap asName er) ∙ eg)
 
 pub no-name : (s : List ℕ) (t : Tally) (w x : List ℕ) (r : Name) (g : Res (List Item)) (f : Fault) (w′ x′ : List ℕ) → asName r ≡ g → r ≡ Missing f → told (No f) w′ x′ ≡ run s t w x g
 no-name s t w x r g f w′ x′ eg er = told-stop s t w x w′ x′ f ∙ ap (run s t w x) (sym (ap asName er) ∙ eg)
 
-pub name-fits : (r : Name) (a n q m : ℕ) → nameEnd r ≤ m → r ≡ Found a n q → a + n ≤ m
-name-fits r a n q m h e = let k : nameEnd r ≡ a + n = ap nameEnd e in omega (arith, h, k)
+pub name-fits : (r : Name) (a n q m : ℕ) (plain : Bool) → nameEnd r ≤ m → r ≡ Found a n q plain → a + n ≤ m
+name-fits r a n q m plain h e = let k : nameEnd r ≡ a + n = ap nameEnd e in omega (arith, h, k)
+
+pub name-plain : (s : List ℕ) (r : Name) (a n q : ℕ) (plain : Bool) → asIs s r → r ≡ Found a n q plain → plain ≡ true → shownAt s a n ≡ slice a (a + n) s
+name-plain s r a n q plain h e = subst (asIs s) e h
+
+-- a name that was guessed
+pub texture-plain : (base : ℕ) (s : List ℕ) (i n : ℕ) → base + n < length s → endedOf s base ≡ Text n (base + n + 1) → texture base s i ≡ ok (text base n ∷ []) (base + n + 1)
+texture-plain base s i n h e = texture-on s base i base (seek-there s base (omega arith)) ∙ ended-on s base n (base + n + 1) e
+
+-- a text of the section that may be known to be shown as it is: its size, and its bytes
+module _ (s : List ℕ) (start len : ℕ) (plain : Bool) (part : List ℕ) (ep : part ≡ slice start (start + len) s) (f : plain ≡ true → shownAt s start len ≡ slice start (start + len) s) where
+  pub known-bytes : pick plain part (decode part) ≡ shownAt s start len
+  known-bytes = rw ep (go plain f)
+    where
+      go : (b : Bool) → (b ≡ true → shownAt s start len ≡ slice start (start + len) s) → pick b (slice start (start + len) s) (shownAt s start len) ≡ shownAt s start len
+      go true k = sym (k refl)
+      go false k = refl
+
+  pub known-size : (size : ℕ) → start + len ≤ length s → length s ≤ 16777216 → size ≡ pick plain (length part) (decodedSize part)
+      → (size ≡ length (shownAt s start len)) × (size ≤ 50331648)
+  known-size size h k es = go plain f (rw ep at es)
+    where
+      l : length (slice start (start + len) s) ≡ start + len - start
+      l = length-slice start (start + len) s h
+
+      go : (b : Bool) → (b ≡ true → shownAt s start len ≡ slice start (start + len) s) → size ≡ pick b (length (slice start (start + len) s)) (decodedSize (slice start (start + len) s))
+          → (size ≡ length (shownAt s start len)) × (size ≤ 50331648)
+      go true g e = (e ∙ sym (ap length (g refl)), omega (arith, e, l))
+      go false g e = shown-size s start len size (slice start (start + len) s) h k refl e
 
 -- ---- two words in front of what follows
 

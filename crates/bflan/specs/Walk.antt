@@ -1,5 +1,7 @@
 -- What a walk over a section leaves behind: its tally, and the two tables, by the items that it met.
 use Prim.Native.Nat.{ℕ, min, _+_}
+use mathlib.Core.Path.{_≡_}
+use mathlib.Core.Bool.{true}
 use mathlib.Core.List.{List, [], _∷_, _++_, map}
 use lib.Dec.{eqb}
 use lib.ListN.{length}
@@ -92,9 +94,14 @@ asPlace (Stop f) = stop f
 
 -- a name that was looked for, and where it ends
 abbrev pub asName : Name → Res (List Item)
-asName (Found a n q) = ok (text a n ∷ []) q
+asName (Found a n q plain) = ok (text a n ∷ []) q
 asName (Missing f) = stop f
 
 abbrev pub nameEnd : Name → ℕ
-nameEnd (Found a n q) = a + n
+nameEnd (Found a n q plain) = a + n
 nameEnd (Missing f) = 0
+
+-- a name that is said to be plain is shown as it is
+abbrev pub asIs : List ℕ → Name → Type 0
+asIs s (Found a n q plain) = plain ≡ true → shownAt s a n ≡ slice a (a + n) s
+asIs s (Missing f) = Unit {0}

@@ -103,7 +103,7 @@ fn name_and_infos(
     ensures { λ r. ⌜ told r (now (words .exit)) (now (texts .exit)) ≡ run (now (s .entry)) t (now (words .entry)) (now (texts .entry)) (andThen (visit base info (numbersAt n (now (s .entry)) table) (now (s .entry)) p) (λ is. ret (text base (beforeZero (take 28 (drop base (now (s .entry))))) ∷ word (typeOf kind) ∷ word n ∷ is)) (now (s .entry))) ⌝ }
 {
     let len = name_size(s, base);
-    let u = put_text(s, base, len, words, texts, t);
+    let u = put_text(s, base, len, false, words, texts, t);
     let v = put2(words, u, type_of(kind), n);
     infos(s, base, table, n as usize, p, words, texts, v)
 }

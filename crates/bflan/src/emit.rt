@@ -1,15 +1,16 @@
 // What a walk stores: words and texts at the places of its tally. What would stand past a table's end is dropped.
 ghost use mathlib.Core.Path.{_≡_};
+ghost use mathlib.Core.Bool.{true};
 ghost use mathlib.Core.List.{[], _∷_};
 ghost use Prim.Native.Nat.{_+_, _≤_};
 ghost use lib.ListN.{length, set};
-ghost use lib.Seq.{sets};
+ghost use lib.Seq.{slice, sets};
 ghost use Rattle.bflan.specs.Walk.{shownAt, moved, named};
 use crate::tally::Tally;
 use crate::tally::more_text;
 use crate::tally::more_words;
 use core::run::put_word;
-use core::utf8::decode_into;
+use core::utf8::decode_known;
 
 pub(crate) fn put2(words: &mut [u32], t: Tally, a: u32, b: u32) -> Tally
     ensures { λ r. ⌜ (r ≡ moved t 2) × (now (words .exit) ≡ sets (now (words .entry)) (t .words) (a ∷ b ∷ [])) ⌝ }
@@ -23,16 +24,17 @@ pub(crate) fn put2(words: &mut [u32], t: Tally, a: u32, b: u32) -> Tally
     more_words(t, 2)
 }
 
-// The text of `len` bytes at `start`, decoded, and its decoded length among the words.
+// The text of `len` bytes at `start`, decoded, and its decoded length among the words; `plain` says of a text that it is shown as it is.
 pub(crate) fn put_text(
     s: &[u8],
     start: usize,
     len: usize,
+    plain: bool,
     words: &mut [u32],
     texts: &mut [u8],
     t: Tally,
 ) -> Tally
-    requires { ⌜ (start + len ≤ length (now s)) × (length (now s) ≤ 16777216) ⌝ }
+    requires { ⌜ (start + len ≤ length (now s)) × (length (now s) ≤ 16777216) × (plain ≡ true → shownAt (now s) start len ≡ slice start (start + len) (now s)) ⌝ }
     ensures { λ r. ⌜ (r ≡ named t start len (length (shownAt (now (s .entry)) start len)))
         × (now (words .exit) ≡ set (now (words .entry)) (t .words) (length (shownAt (now (s .entry)) start len)))
         × (now (texts .exit) ≡ sets (now (texts .entry)) (t .bytes) (shownAt (now (s .entry)) start len)) ⌝ }
@@ -40,7 +42,7 @@ pub(crate) fn put_text(
     let end = start + len;
     let place = t.words;
     let to = t.bytes;
-    let size = decode_into(&s[start..end], texts, to);
+    let size = decode_known(&s[start..end], plain, texts, to);
     put_word(words, place, size as u32);
     more_text(t, start, len, size)
 }

@@ -5,7 +5,7 @@ ghost use lib.ListN.{length};
 ghost use Rattle.core.specs.Run.{numbersAt};
 ghost use Rattle.bflan.specs.Reader.{oneEnded, visit};
 ghost use Rattle.bflan.specs.Reading.{texture};
-ghost use Rattle.bflan.specs.Walk.{asName, nameEnd, run, told};
+ghost use Rattle.bflan.specs.Walk.{asName, nameEnd, asIs, run, told};
 use crate::emit::put_text;
 use crate::fault::Fault;
 use crate::offset::offset_at;
@@ -15,36 +15,55 @@ use core::seek::Sought;
 use core::seek::seek;
 use core::text::TextAt;
 use core::text::ended_text;
+use core::text::plain_text;
 
 // A name that was looked for.
 pub enum Name {
-    // Where it starts, its length, and the position behind its zero.
-    Found(usize, usize, usize),
+    // Where it starts, its length, the position behind its zero, and whether it is known to be shown as it is.
+    Found(usize, usize, usize, bool),
     Missing(Fault),
 }
 
 // The text at `p` that ends at a zero.
 fn ended_name(s: &[u8], p: usize) -> Name
-    ensures { λ r. ⌜ (asName r ≡ oneEnded (now (s .entry)) p) × (nameEnd r ≤ length (now (s .entry))) ⌝ }
+    ensures { λ r. ⌜ (asName r ≡ oneEnded (now (s .entry)) p) × (nameEnd r ≤ length (now (s .entry))) × asIs (now (s .entry)) r ⌝ }
 {
     match ended_text(s, p) {
-        TextAt::Text(len, next) => Name::Found(p, len, next),
+        TextAt::Text(len, next) => Name::Found(p, len, next, false),
         TextAt::Past(offset, requested) => Name::Missing(Fault::PastEnd(offset, requested)),
         TextAt::Unended(from) => Name::Missing(Fault::NoZero(from)),
     }
 }
 
-// The texture name that starts at `base`, where it stands,
-fn name_at(s: &[u8], base: usize) -> Name
-    ensures { λ r. ⌜ ((i : ℕ) → asName r ≡ texture base (now (s .entry)) i) × (nameEnd r ≤ length (now (s .entry))) ⌝ }
+// The texture name that starts at `base`, where it stands. It is tried first whether it has `guess` bytes; that changes no answer.
+fn name_at(s: &[u8], base: usize, guess: usize) -> Name
+    ensures { λ r. ⌜ ((i : ℕ) → asName r ≡ texture base (now (s .entry)) i) × (nameEnd r ≤ length (now (s .entry))) × asIs (now (s .entry)) r ⌝ }
 {
+    if plain_text(s, base, guess) {
+        return Name::Found(base, guess, base + guess + 1, true);
+    }
     match seek(s, base) {
         Sought::At(p) => ended_name(s, p),
         Sought::Past(offset, requested) => Name::Missing(Fault::PastEnd(offset, requested)),
     }
 }
 
-// and stored.
+// A guess at the length of the name whose entry `off` of an offset table stands at `at`: names stand in the table's order, so this one ends before
+// the next one starts.
+fn guess_at(s: &[u8], at: usize, left: usize, off: usize) -> usize
+    requires { ⌜ at + 4 * left ≤ length (now s) ⌝ }
+{
+    if left < 2 {
+        return 0;
+    }
+    let next = offset_at(s, at + 4);
+    if next <= off {
+        return 0;
+    }
+    next - off - 1
+}
+
+// The texture name that starts at `base`, stored.
 pub(crate) fn texture_at(
     s: &[u8],
     base: usize,
@@ -55,9 +74,12 @@ pub(crate) fn texture_at(
     requires { ⌜ length (now s) ≤ 16777216 ⌝ }
     ensures { λ r. ⌜ ((i : ℕ) → told r (now (words .exit)) (now (texts .exit)) ≡ run (now (s .entry)) t (now (words .entry)) (now (texts .entry)) (texture base (now (s .entry)) i)) ⌝ }
 {
-    match name_at(s, base) {
+    match name_at(s, base, 0) {
         Name::Missing(f) => Walk::No(f),
-        Name::Found(from, len, next) => Walk::On(put_text(s, from, len, words, texts, t), next),
+        Name::Found(from, len, next, plain) => Walk::On(
+            put_text(s, from, len, plain, words, texts, t),
+            next,
+        ),
     }
 }
 
@@ -82,12 +104,13 @@ pub(crate) fn textures(
     let mut u = t;
     while 0 < left {
         let off = offset_at(s, at);
-        match name_at(s, base + off) {
+        let guess = guess_at(s, at, left, off);
+        match name_at(s, base + off, guess) {
             Name::Missing(f) => {
                 return Walk::No(f);
             }
-            Name::Found(from, len, next) => {
-                u = put_text(s, from, len, words, texts, u);
+            Name::Found(from, len, next, plain) => {
+                u = put_text(s, from, len, plain, words, texts, u);
                 p = next;
             }
         }

@@ -1,9 +1,13 @@
 // Texts among bytes: where the first zero or the first fault stands, a field of fixed length, a text that ends at a zero.
 ghost use mathlib.Core.Path.{_≡_};
+ghost use mathlib.Core.Bool.{true};
 ghost use Prim.Native.Nat.{_+_, _*_, _≤_, _<_};
 ghost use lib.ListN.{length, take, drop};
+ghost use lib.Seq.{slice};
 ghost use Rattle.core.specs.Choice.{pick};
 ghost use Rattle.core.specs.Text.{beforeZero, zeroFree, firstFault, fixedOf, endedOf};
+ghost use Rattle.core.specs.Utf8.{decode};
+ghost use Rattle.core.specs.declared.text.TextAt.the-variants.{Text};
 use crate::utf8::first_ill;
 use crate::utf8::scan::is_plain;
 
@@ -171,4 +175,23 @@ pub fn ended_text(s: &[u8], at: usize) -> TextAt
     } else {
         TextAt::Unended(at)
     }
+}
+
+// Whether the text at `at` has `n` bytes and is plain: 8 to 32 of ASCII. Of no other it is said. Where a text's length is foreseen this is one
+// test in place of a search for its zero, and the text needs no further one.
+pub fn plain_text(s: &[u8], at: usize, n: usize) -> bool
+    ensures { λ r. ⌜ (r ≡ true → (at + n < length (now (s .entry))) × (endedOf (now (s .entry)) at ≡ Text n (at + n + 1)) × (decode (slice at (at + n) (now (s .entry))) ≡ slice at (at + n) (now (s .entry)))) ⌝ }
+{
+    let size = s.len();
+    if size <= at {
+        return false;
+    }
+    if size - at <= n {
+        return false;
+    }
+    let zero = at + n;
+    if s[zero] != 0 {
+        return false;
+    }
+    is_plain(&s[at..zero])
 }

@@ -4,6 +4,7 @@ ghost use mathlib.Core.Bool.{true};
 ghost use Prim.Native.Nat.{_+_, _-_, _<_, min};
 ghost use lib.ListN.{length, getD};
 ghost use lib.Seq.{sets};
+ghost use Rattle.core.specs.Choice.{pick};
 ghost use Rattle.core.specs.Utf8.{Classes, classOf, replacement, decode, decodedSize, sound, wellFormed};
 ghost use Rattle.core.specs.Flow.{Rows};
 use crate::fill::ahead;
@@ -185,6 +186,18 @@ pub fn decode_into(text: &[u8], out: &mut [u8], at: usize) -> usize
         return text.len();
     }
     decode_mixed(text, out, at)
+}
+
+// The same where the text may be known to be shown as it is: then it is stored as it is.
+pub fn decode_known(text: &[u8], plain: bool, out: &mut [u8], at: usize) -> usize
+    ensures { λ r. ⌜ (r ≡ pick plain (length (now (text .entry))) (decodedSize (now (text .entry))))
+        × (now (out .exit) ≡ sets (now (out .entry)) at (pick plain (now (text .entry)) (decode (now (text .entry))))) ⌝ }
+{
+    if plain {
+        copy(text, out, at);
+        return text.len();
+    }
+    decode_into(text, out, at)
 }
 
 fn decode_steps(text: &[u8], out: &mut [u8], at: usize, classes: &[u8; 256]) -> usize

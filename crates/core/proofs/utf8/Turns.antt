@@ -1,7 +1,7 @@
 -- What a step of the code does at a position of a text.
 -- Assumes nothing.
 use Prim.Native.Nat.{ℕ, zero, suc, min, _+_, _-_, _*_, _<_, _≤_}
-use mathlib.Core.Path.{_≡_, refl, ap, sym, _∙_}
+use mathlib.Core.Path.{_≡_, refl, ap, ap₂, sym, _∙_}
 use mathlib.Core.Bool.{Bool, true, false}
 use borrow.Author.Tests.{leb-true, leb-false}
 use lib.Dec.{leb}
@@ -9,14 +9,15 @@ use mathlib.Core.List.{List, [], _∷_, _++_, append-nil}
 use native.Mathlib.Nat.{add-zero, zero-add}
 use native.Mathlib.Numerals.{add-one}
 use native.Mathlib.Omega.{arith}
-use lib.ListN.{length, getD, take, drop, length-append, length-drop, drop-of-length-le}
+use lib.ListN.{length, getD, take, drop, length-append, length-drop, drop-of-length-le, take-append-drop}
 use lib.Seq.{sets, slice, slice-empty, length-slice, drop-cons, drop-drop, take-nil}
 use Rattle.core.specs.declared.utf8.step.Step.{Step}
 use Rattle.core.specs.declared.utf8.step.Step.the-variants.{Good, Bad}
 use Rattle.core.specs.Utf8.{rows, classOf, laterOf, matched, more, good, stepOf, replacement, decode, decodedSize, sound, illSize}
-use Rattle.core.specs.Text.{firstFault}
+use Rattle.core.specs.Text.{beforeZero, firstFault, endedOf}
+use Rattle.core.specs.declared.text.TextAt.the-variants.{Text}
 use Rattle.core.proofs.Stores.{sets-on}
-use Rattle.core.proofs.Zeros.{free-of}
+use Rattle.core.proofs.Zeros.{free-of, ended-there}
 use Rattle.core.proofs.utf8.Steps.{matched-none, ascii-class, step-none}
 use Rattle.core.proofs.utf8.Pieces.{more-within, step-good, step-bad, decode-nil, decode-good, sound-nil, sound-good, sound-bad, ill-nil, ill-bad}
 use Rattle.core.proofs.utf8.Laws.{good-from, whole-well, decode-well, sound-le, decode-front, ill-short, ill-within, ill-or-end, decode-ill}
@@ -262,6 +263,20 @@ sets-run s out o i end skip part m n p q r h es em ep en eq =
 -- a part of the code, `&s[i..end]`
 pub part-is : (i end : ℕ) (s : List ℕ) → i ≤ end → take (end - i) (drop i s) ≡ slice i end s
 part-is i end s h = let e : i + (end - i) ≡ end = omega arith in take-drop i (end - i) s ∙ ap (λ (n : ℕ). slice i n s) e
+
+-- a text of ASCII without a zero, and a zero behind it
+pub plain-ended : (s : List ℕ) (at n : ℕ) → at + n < length s → getD s (at + n) 0 ≡ 0
+    → ((k : ℕ) → k < length (slice at (at + n) s) → (0 < getD (slice at (at + n) s) k 0) × (getD (slice at (at + n) s) k 0 < 128))
+    → (endedOf s at ≡ Text n (at + n + 1)) × (decode (slice at (at + n) s) ≡ slice at (at + n) s)
+plain-ended s at n h z f =
+    let t : List ℕ = slice at (at + n) s in
+    let l : length t ≡ n = length-slice at (at + n) s (omega arith) ∙ omega arith in
+    let m : n ≡ at + n - at = omega arith in
+    let p : take n (drop at s) ≡ t = ap (λ (k : ℕ). take k (drop at s)) m ∙ part-is at (at + n) s (omega arith) in
+    let d : drop at s ≡ t ++ 0 ∷ drop (suc (at + n)) s =
+    sym (take-append-drop n (drop at s)) ∙ ap₂ (λ (a b : List ℕ). a ++ b) p (drop-drop n at s ∙ drop-cons s (at + n) 0 h ∙ ap (λ (b : ℕ). b ∷ drop (suc (at + n)) s) z) in
+    let b : beforeZero t ≡ length t = free-of t (λ k m e. let q = f k m .0 in omega (arith, q, e)) in
+    (rw l at (ended-there s at t (drop (suc (at + n)) s) d b), ascii-decode t (λ k m. f k m .1))
 
 -- ---- the same for one step at a time
 

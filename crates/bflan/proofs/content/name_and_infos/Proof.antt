@@ -4,7 +4,8 @@ use borrow.Author.Needs.{needs}
 use Rattle.bflan.proofs.content.name_and_infos.Statement.{statement}
 use Rattle.bflan.proofs.content.name_and_infos.Tie as tie
 use Prim.Native.Nat.{_≤_}
-use mathlib.Core.Path.{_∙_}
+use mathlib.Core.Path.{sym, _∙_}
+use mathlib.Core.Bool.{true≢false}
 use native.Mathlib.Omega.{arith}
 use denote.Ref.{now}
 use lib.ListN.{length}
@@ -19,7 +20,7 @@ name-size-requires c κs = search needs
 put-text-requires : tie.Need-put-text-requires
 put-text-requires c κs =
     let k = name-within (now (c .before .before .before .before .before .before .args .s)) (c .before .before .before .before .before .before .args .base) (c .before .before .before .before .before .before .pre .1) in
-    (omega (arith, k, c .before .before .name-size .ensures), c .before .before .before .before .before .before .pre .0)
+    (omega (arith, k, c .before .before .name-size .ensures), c .before .before .before .before .before .before .pre .0, λ e. absurd (true≢false (sym e)))
 
 type-of-requires : tie.Need-type-of-requires
 type-of-requires c κs = search needs

@@ -1,14 +1,26 @@
 -- `texture::name_at` meets its contract.
 -- Assumes nothing.
+use borrow.Author.Needs.{needs}
+use Rattle.bflan.proofs.texture.name_at.Statement.{statement}
+use Rattle.bflan.proofs.texture.name_at.Tie as tie
 use Prim.Native.Nat.{_≤_}
 use mathlib.Core.Path.{sym, _∙_}
 use native.Mathlib.Omega.{arith}
 use denote.Ref.{now}
 use lib.ListN.{length}
-use Rattle.bflan.proofs.Emits.{texture-on, texture-past}
-use borrow.Author.Needs.{needs}
-use Rattle.bflan.proofs.texture.name_at.Statement.{statement}
-use Rattle.bflan.proofs.texture.name_at.Tie as tie
+use Rattle.bflan.proofs.Emits.{texture-on, texture-past, texture-plain}
+
+plain-text-requires : tie.Need-plain-text-requires
+plain-text-requires c κs = search needs
+
+add-t8 : tie.Need-add-t8
+add-t8 c = let p = c .before .plain-text .ensures (c .if1 .taken) in omega (arith, p .0)
+
+add-t9 : tie.Need-add-t9
+add-t9 c = let p = c .before .plain-text .ensures (c .if1 .taken) in omega (arith, p .0)
+
+returns : tie.Need-returns
+returns c = let p = c .before .plain-text .ensures (c .if1 .taken) in (λ i. sym (texture-plain _ _ i _ (p .0) (p .1)), omega (arith, p .0), λ e. p .2)
 
 seek-requires : tie.Need-seek-requires
 seek-requires c κs = search needs
@@ -22,13 +34,23 @@ ended-name-requires c κs = search needs
 enum-known-offset : tie.Need-enum-known-offset
 enum-known-offset c = search needs
 
-returns : tie.Need-returns
-returns c = (λ i. c .ended-name .ensures .0 ∙ sym (texture-on _ _ i _ (sym (c .before .before .before .before .seek .ensures) ∙ c .before .before .p .given .1)), c .ended-name .ensures .1)
-
 returns-2 : tie.Need-returns-2
-returns-2 c = let h : 0 ≤ length (now (c .before .before .before .before .before .args .s)) = omega arith in (λ i. sym (texture-past _ _ i _ _ (sym (c .before .before .before .seek .ensures) ∙ c .before .offset .given .1)), h)
+returns-2 c = (λ i. c .ended-name .ensures .0 ∙ sym (texture-on _ _ i _ (sym (c .before .before .before .before .seek .ensures) ∙ c .before .before .p .given .1)), c .ended-name .ensures .1, c .ended-name .ensures .2)
+
+returns-3 : tie.Need-returns-3
+returns-3 c = let h : 0 ≤ length (now (c .before .before .before .before .before .before .before .args .s)) = omega arith in (λ i. sym (texture-past _ _ i _ _ (sym (c .before .before .before .seek .ensures) ∙ c .before .offset .given .1)), h, tt)
 
 pub name-at-spec : {M : Type 1} → statement M
 name-at-spec =
     tie.close
-    (tie.spec seek-requires enum-known-p ended-name-requires enum-known-offset returns returns-2)
+    (tie.spec
+    plain-text-requires
+    add-t8
+    add-t9
+    returns
+    seek-requires
+    enum-known-p
+    ended-name-requires
+    enum-known-offset
+    returns-2
+    returns-3)

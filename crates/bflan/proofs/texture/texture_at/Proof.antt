@@ -1,6 +1,6 @@
 -- `texture::texture_at` meets its contract.
 -- Assumes nothing.
-use Rattle.bflan.proofs.Emits.{stored-name, no-name, name-fits}
+use Rattle.bflan.proofs.Emits.{stored-name, no-name, name-fits, name-plain}
 use borrow.Author.Needs.{needs}
 use Rattle.bflan.proofs.texture.texture_at.Statement.{statement}
 use Rattle.bflan.proofs.texture.texture_at.Tie as tie
@@ -15,7 +15,7 @@ enum-known-from : tie.Need-enum-known-from
 enum-known-from c = search needs
 
 put-text-requires : tie.Need-put-text-requires
-put-text-requires c κs = (name-fits _ _ _ _ _ (c .before .before .before .before .before .name-at .ensures .1) (c .before .before .before .from .given .1), c .before .before .before .before .before .before .before .before .before .pre)
+put-text-requires c κs = (name-fits _ _ _ _ _ _ (c .before .before .before .before .before .name-at .ensures .1) (c .before .before .before .from .given .1), c .before .before .before .before .before .before .before .before .before .pre, name-plain _ _ _ _ _ _ (c .before .before .before .before .before .name-at .ensures .2) (c .before .before .before .from .given .1))
 
 returns : tie.Need-returns
 returns c = λ i. no-name _ _ _ _ _ _ _ _ _ (c .before .before .before .name-at .ensures .0 i) (c .before .f .given .1)
@@ -27,7 +27,7 @@ same-length-2 : tie.Need-same-length-2
 same-length-2 c = search needs
 
 returns-2 : tie.Need-returns-2
-returns-2 c = let q = c .before .before .before .before .put-text .ensures in λ i. stored-name _ _ _ _ _ _ _ _ _ _ _ _ (c .before .before .before .before .before .before .before .before .before .before .name-at .ensures .0 i) (c .before .before .before .before .before .before .before .before .from .given .1) (q .0) (q .1) (q .2)
+returns-2 c = let q = c .before .before .before .before .put-text .ensures in λ i. stored-name _ _ _ _ _ _ _ _ _ _ _ _ _ (c .before .before .before .before .before .before .before .before .before .before .name-at .ensures .0 i) (c .before .before .before .before .before .before .before .before .from .given .1) (q .0) (q .1) (q .2)
 
 pub texture-at-spec : {M : Type 1} → statement M
 texture-at-spec =

@@ -9,7 +9,7 @@ use Rattle.core.specs.Run.{numbersAt}
 use Rattle.bflan.specs.Reader.{visit}
 use Rattle.bflan.specs.Reading.{texture}
 use Rattle.bflan.specs.Walk.{run}
-use Rattle.bflan.proofs.Emits.{stored-name, no-name, name-fits}
+use Rattle.bflan.proofs.Emits.{stored-name, no-name, name-fits, name-plain}
 use Rattle.bflan.proofs.Walks.{visited-on, visited-no, visited-end}
 use borrow.Author.Needs.{needs}
 use Rattle.bflan.proofs.texture.textures.Statement.{statement}
@@ -29,6 +29,9 @@ loop-holds c = (omega arith, refl, refl, refl)
 offset-at-requires : tie.Need-offset-at-requires Inv-loop μ-loop
 offset-at-requires c κs = omega arith
 
+guess-at-requires : tie.Need-guess-at-requires Inv-loop μ-loop
+guess-at-requires c κs = omega (arith, c .before .before .loop .inv .0)
+
 add-name-at : tie.Need-add-name-at Inv-loop μ-loop
 add-name-at c = search needs
 
@@ -39,22 +42,22 @@ enum-known-f : tie.Need-enum-known-f Inv-loop μ-loop
 enum-known-f c = search needs
 
 same-length : tie.Need-same-length Inv-loop μ-loop
-same-length c = c .before .before .before .before .before .before .loop .inv .1
+same-length c = c .before .before .before .before .before .before .before .loop .inv .1
 
 same-length-2 : tie.Need-same-length-2 Inv-loop μ-loop
-same-length-2 c = c .before .before .before .before .before .before .loop .inv .2
+same-length-2 c = c .before .before .before .before .before .before .before .loop .inv .2
 
 returns : tie.Need-returns Inv-loop μ-loop
 returns c =
-    let hw : length (c .before .before .before .before .before .before .loop .words) ≤ 18446744073709551615 = omega (arith, c .before .before .before .before .before .before .loop .inv .1, c .before .before .before .before .before .before .before .before .before .before .good) in
-    let hx : length (c .before .before .before .before .before .before .loop .texts) ≤ 18446744073709551615 = omega (arith, c .before .before .before .before .before .before .loop .inv .2, c .before .before .before .before .before .before .before .before .before .before .good) in
-    visited-no (c .before .before .before .before .before .before .before .before .before .before .args .base) texture (now (c .before .before .before .before .before .before .before .before .before .before .args .s)) (c .before .before .before .before .before .before .loop .u) (c .before .before .before .before .before .before .loop .words) (c .before .before .before .before .before .before .loop .texts) (c .before .before .before .before .before .before .loop .at) (c .before .before .before .before .before .before .loop .left) (c .before .before .before .before .before .before .loop .p) _ (c .before .before .before .before .before .before .loop .inv .3) (c .before .before .before .before .before .loop-test .taken) hw hx _ _ _ (c .before .before .before .before .before .before .loop .words) (c .before .before .before .before .before .before .loop .texts) _ _ (ap (λ (k : ℕ). c .before .before .before .before .before .before .before .before .before .before .args .base + k) (c .before .before .before .before .offset-at .ensures .0)) (no-name _ _ _ _ _ _ _ (c .before .before .before .before .before .before .loop .words) (c .before .before .before .before .before .before .loop .texts) (c .before .before .before .name-at .ensures .0 (c .before .before .before .before .before .before .loop .p)) (c .before .f .given .1)) refl
+    let hw : length (c .before .before .before .before .before .before .before .loop .words) ≤ 18446744073709551615 = omega (arith, c .before .before .before .before .before .before .before .loop .inv .1, c .before .before .before .before .before .before .before .before .before .before .before .good) in
+    let hx : length (c .before .before .before .before .before .before .before .loop .texts) ≤ 18446744073709551615 = omega (arith, c .before .before .before .before .before .before .before .loop .inv .2, c .before .before .before .before .before .before .before .before .before .before .before .good) in
+    visited-no (c .before .before .before .before .before .before .before .before .before .before .before .args .base) texture (now (c .before .before .before .before .before .before .before .before .before .before .before .args .s)) (c .before .before .before .before .before .before .before .loop .u) (c .before .before .before .before .before .before .before .loop .words) (c .before .before .before .before .before .before .before .loop .texts) (c .before .before .before .before .before .before .before .loop .at) (c .before .before .before .before .before .before .before .loop .left) (c .before .before .before .before .before .before .before .loop .p) _ (c .before .before .before .before .before .before .before .loop .inv .3) (c .before .before .before .before .before .before .loop-test .taken) hw hx _ _ _ (c .before .before .before .before .before .before .before .loop .words) (c .before .before .before .before .before .before .before .loop .texts) _ _ (ap (λ (k : ℕ). c .before .before .before .before .before .before .before .before .before .before .before .args .base + k) (c .before .before .before .before .before .offset-at .ensures .0)) (no-name _ _ _ _ _ _ _ (c .before .before .before .before .before .before .before .loop .words) (c .before .before .before .before .before .before .before .loop .texts) (c .before .before .before .name-at .ensures .0 (c .before .before .before .before .before .before .before .loop .p)) (c .before .f .given .1)) refl
 
 enum-known-from : tie.Need-enum-known-from Inv-loop μ-loop
 enum-known-from c = search needs
 
 put-text-requires : tie.Need-put-text-requires Inv-loop μ-loop
-put-text-requires c κs = (name-fits _ _ _ _ _ (c .before .before .before .before .before .name-at .ensures .1) (c .before .before .before .from .given .1), c .before .before .before .before .before .before .before .before .before .before .before .before .pre .0)
+put-text-requires c κs = (name-fits _ _ _ _ _ _ (c .before .before .before .before .before .name-at .ensures .1) (c .before .before .before .from .given .1), c .before .before .before .before .before .before .before .before .before .before .before .before .before .pre .0, name-plain _ _ _ _ _ _ (c .before .before .before .before .before .name-at .ensures .2) (c .before .before .before .from .given .1))
 
 add-at : tie.Need-add-at Inv-loop μ-loop
 add-at c = omega arith
@@ -67,13 +70,13 @@ loop-less c = omega arith
 
 loop-again : tie.Need-loop-again Inv-loop μ-loop
 loop-again c =
-    let hw : length (c .before .before .before .before .before .before .before .before .before .before .before .before .before .loop .words) ≤ 18446744073709551615 = omega (arith, c .before .before .before .before .before .before .before .before .before .before .before .before .before .loop .inv .1, c .before .before .before .before .before .before .before .before .before .before .before .before .before .before .before .before .before .good) in
-    let hx : length (c .before .before .before .before .before .before .before .before .before .before .before .before .before .loop .texts) ≤ 18446744073709551615 = omega (arith, c .before .before .before .before .before .before .before .before .before .before .before .before .before .loop .inv .2, c .before .before .before .before .before .before .before .before .before .before .before .before .before .before .before .before .before .good) in
+    let hw : length (c .before .before .before .before .before .before .before .before .before .before .before .before .before .before .loop .words) ≤ 18446744073709551615 = omega (arith, c .before .before .before .before .before .before .before .before .before .before .before .before .before .before .loop .inv .1, c .before .before .before .before .before .before .before .before .before .before .before .before .before .before .before .before .before .before .good) in
+    let hx : length (c .before .before .before .before .before .before .before .before .before .before .before .before .before .before .loop .texts) ≤ 18446744073709551615 = omega (arith, c .before .before .before .before .before .before .before .before .before .before .before .before .before .before .loop .inv .2, c .before .before .before .before .before .before .before .before .before .before .before .before .before .before .before .before .before .before .good) in
     let q = c .before .before .before .before .put-text .ensures in (
-      omega (arith, c .before .before .before .before .before .before .before .before .before .before .before .before .before .loop .inv .0),
-      c .before .before .before .before .put-text .kept .1 .1 .1 .0 ∙ c .before .before .before .before .before .before .before .before .before .before .before .before .before .loop .inv .1,
-      c .before .before .before .before .put-text .kept .1 .1 .1 .1 .0 ∙ c .before .before .before .before .before .before .before .before .before .before .before .before .before .loop .inv .2,
-      visited-on (c .before .before .before .before .before .before .before .before .before .before .before .before .before .before .before .before .before .args .base) texture (now (c .before .before .before .before .before .before .before .before .before .before .before .before .before .before .before .before .before .args .s)) (c .before .before .before .before .before .before .before .before .before .before .before .before .before .loop .u) (c .before .before .before .before .before .before .before .before .before .before .before .before .before .loop .words) (c .before .before .before .before .before .before .before .before .before .before .before .before .before .loop .texts) (c .before .before .before .before .before .before .before .before .before .before .before .before .before .loop .at) (c .before .before .before .before .before .before .before .before .before .before .before .before .before .loop .left) (c .before .before .before .before .before .before .before .before .before .before .before .before .before .loop .p) _ (c .before .before .before .before .before .before .before .before .before .before .before .before .before .loop .inv .3) (c .before .before .before .before .before .before .before .before .before .before .before .before .loop-test .taken) hw hx _ _ _ _ _ _ (ap (λ (k : ℕ). c .before .before .before .before .before .before .before .before .before .before .before .before .before .before .before .before .before .args .base + k) (c .before .before .before .before .before .before .before .before .before .before .before .offset-at .ensures .0)) (stored-name _ _ _ _ _ _ _ _ _ _ _ _ (c .before .before .before .before .before .before .before .before .before .before .name-at .ensures .0 (c .before .before .before .before .before .before .before .before .before .before .before .before .before .loop .p)) (c .before .before .before .before .before .before .before .before .from .given .1) (q .0) (q .1) (q .2)) refl,
+      omega (arith, c .before .before .before .before .before .before .before .before .before .before .before .before .before .before .loop .inv .0),
+      c .before .before .before .before .put-text .kept .1 .1 .1 .1 .0 ∙ c .before .before .before .before .before .before .before .before .before .before .before .before .before .before .loop .inv .1,
+      c .before .before .before .before .put-text .kept .1 .1 .1 .1 .1 .0 ∙ c .before .before .before .before .before .before .before .before .before .before .before .before .before .before .loop .inv .2,
+      visited-on (c .before .before .before .before .before .before .before .before .before .before .before .before .before .before .before .before .before .before .args .base) texture (now (c .before .before .before .before .before .before .before .before .before .before .before .before .before .before .before .before .before .before .args .s)) (c .before .before .before .before .before .before .before .before .before .before .before .before .before .before .loop .u) (c .before .before .before .before .before .before .before .before .before .before .before .before .before .before .loop .words) (c .before .before .before .before .before .before .before .before .before .before .before .before .before .before .loop .texts) (c .before .before .before .before .before .before .before .before .before .before .before .before .before .before .loop .at) (c .before .before .before .before .before .before .before .before .before .before .before .before .before .before .loop .left) (c .before .before .before .before .before .before .before .before .before .before .before .before .before .before .loop .p) _ (c .before .before .before .before .before .before .before .before .before .before .before .before .before .before .loop .inv .3) (c .before .before .before .before .before .before .before .before .before .before .before .before .before .loop-test .taken) hw hx _ _ _ _ _ _ (ap (λ (k : ℕ). c .before .before .before .before .before .before .before .before .before .before .before .before .before .before .before .before .before .before .args .base + k) (c .before .before .before .before .before .before .before .before .before .before .before .before .offset-at .ensures .0)) (stored-name _ _ _ _ _ _ _ _ _ _ _ _ _ (c .before .before .before .before .before .before .before .before .before .before .name-at .ensures .0 (c .before .before .before .before .before .before .before .before .before .before .before .before .before .before .loop .p)) (c .before .before .before .before .before .before .before .before .from .given .1) (q .0) (q .1) (q .2)) refl,
     )
 
 same-length-3 : tie.Need-same-length-3 Inv-loop μ-loop
@@ -93,6 +96,7 @@ textures-spec =
     μ-loop
     loop-holds
     offset-at-requires
+    guess-at-requires
     add-name-at
     name-at-requires
     enum-known-f
