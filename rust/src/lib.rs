@@ -41,6 +41,7 @@ pub mod ui2d {
     }
 }
 
+pub mod args;
 pub mod calls;
 pub mod change;
 pub mod chars;

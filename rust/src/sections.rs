@@ -790,8 +790,32 @@ pub fn datum_k() -> Datum {
     Datum { base_count: 1, values: vec![0; 3], key: b"k".to_vec(), ..Datum::default() }
 }
 
+/// Two texture names, the first of every length up to 40: as they are written, with the second one's offset beside its place,
+/// and with a byte of the first that ends it or is not ASCII.
+fn two_names(see: See) {
+    let kind = "names of every length";
+    for len in 0..=40 {
+        let name = (0..len).map(|i| b'a' + i as u8 % 26).collect();
+        let section = written(&Shape { textures: vec![name, b"last".to_vec()], ..Shape::default() });
+        see(kind, &section);
+        for offset in [0, 9 + len - 1, 9 + len + 1, 9 + len + 8] {
+            let mut section = section.clone();
+            put(&mut section, 24, offset);
+            see(kind, &section);
+        }
+        for place in (0..len).step_by(7).chain(len.checked_sub(1)) {
+            for byte in [0, 0x80, 0xC3] {
+                let mut section = section.clone();
+                section[28 + place] = byte;
+                see(kind, &section);
+            }
+        }
+    }
+}
+
 /// Sections that are the same for every seed.
 pub fn fixed_sections(see: See) {
+    two_names(see);
     let kind = "document 01's exercises";
     see(kind, &[]);
     see(kind, b"pai1\x14\0");

@@ -5,6 +5,7 @@
 use std::ffi::{c_int, c_long};
 use std::hint::black_box;
 
+use compare::args::Args;
 use compare::layout::FLEU;
 use compare::record::{LIMIT, PAI1};
 use pai1::raw;
@@ -193,9 +194,10 @@ fn shown((seconds, computed): (f64, bool)) -> String {
 }
 
 fn main() {
-    let mut args = std::env::args().skip(1);
-    let most = args.next().map_or(20.0, |arg| arg.parse().expect("a number of seconds"));
-    let sizes = args.next().map_or(vec![1 << 16, 1 << 20, LIMIT], |arg| vec![arg.parse().expect("a length")]);
+    let mut args = Args::new("adversarial [SECONDS] [LENGTH]");
+    let most = args.number().unwrap_or(20.0);
+    let sizes = args.number().map_or(vec![1 << 16, 1 << 20, LIMIT], |length| vec![length]);
+    args.end();
     println!("| bytes | | words | text bytes | read | find_text | edit of the frame count | edit of a key |");
     println!("|---|---|---|---|---|---|---|---|");
     for size in sizes {

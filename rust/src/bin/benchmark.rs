@@ -7,6 +7,7 @@
 use std::hint::black_box;
 use std::time::{Duration, Instant};
 
+use compare::args::Args;
 use compare::bflan::file::BflanSections;
 use compare::change::{Change, NewKey};
 use compare::chars::{WORDS, char_of_len, damage, push, push_char};
@@ -130,27 +131,27 @@ fn best_call(budget: Duration, mut call: impl FnMut()) -> f64 {
 }
 
 fn main() {
-    let mut args = std::env::args().skip(1).peekable();
-    let part = args.next_if(|a| a.parse::<f64>().is_err());
-    let seconds = args.next().map_or(0.5, |a| a.parse().expect("a number of seconds"));
+    let mut args = Args::new("benchmark [texts|sections|records|edits] [SECONDS]");
+    let part = args.part(&["texts", "sections", "records", "edits"]);
+    let seconds = args.number().unwrap_or(0.5);
+    args.end();
     let budget = Duration::from_secs_f64(seconds);
     if let Ok(info) = std::fs::read_to_string("/proc/cpuinfo") {
         let model = info.lines().find(|l| l.starts_with("model name")).unwrap_or("");
         println!("{}", model.split(':').nth(1).unwrap_or("").trim());
     }
     println!("Best of at least 5 passes, {seconds} s a cell. GB/s of input.\n");
-    match part.as_deref() {
+    match part {
+        Some("texts") => texts(budget),
+        Some("sections") => sections(budget),
+        Some("records") => records(budget),
+        Some(_) => edits(budget),
         None => {
             texts(budget);
             sections(budget);
             records(budget);
             edits(budget);
         }
-        Some("texts") => texts(budget),
-        Some("sections") => sections(budget),
-        Some("records") => records(budget),
-        Some("edits") => edits(budget),
-        Some(part) => panic!("{part}: none of texts, sections, records, edits"),
     }
 }
 

@@ -8,6 +8,7 @@
 //! journals and counts of any kind.
 use std::process::ExitCode;
 
+use compare::args::Args;
 use compare::chars::{WORDS, boundary_pieces, char_of_len, damage, push, push_char};
 use compare::comparison::Comparison;
 use compare::proved::{self, Proved};
@@ -242,21 +243,18 @@ const MAKERS: [(&str, Make); 10] = [
 ];
 
 fn main() -> ExitCode {
-    let mut args = std::env::args().skip(1).peekable();
-    let part = args.next_if(|a| a.parse::<u64>().is_err());
-    let mut number = |otherwise: u64| args.next().map_or(otherwise, |a| a.parse().expect("a number"));
-    let seed = number(20_261_031);
-    let mut millions = || number(5);
-    let differences = match part.as_deref() {
-        None => {
-            let millions = millions();
-            texts(seed, millions) + sections(seed, millions) + records(seed, millions) + changes(seed, CALLS)
-        }
-        Some("texts") => texts(seed, millions()),
-        Some("sections") => sections(seed, millions()),
-        Some("records") => records(seed, millions()),
-        Some("edits") => changes(seed, number(CALLS)),
-        Some(part) => panic!("{part}: none of texts, sections, records, edits"),
+    let mut args = Args::new("differential [texts|sections|records|edits] [SEED] [MILLIONS, or for edits CALLS]");
+    let part = args.part(&["texts", "sections", "records", "edits"]);
+    let seed = args.number().unwrap_or(20_261_031);
+    let many = args.number();
+    args.end();
+    let millions = many.unwrap_or(5);
+    let differences = match part {
+        Some("texts") => texts(seed, millions),
+        Some("sections") => sections(seed, millions),
+        Some("records") => records(seed, millions),
+        Some(_) => changes(seed, many.unwrap_or(CALLS)),
+        None => texts(seed, millions) + sections(seed, millions) + records(seed, millions) + changes(seed, CALLS),
     };
     if differences == 0 { ExitCode::SUCCESS } else { ExitCode::FAILURE }
 }

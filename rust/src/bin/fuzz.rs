@@ -11,6 +11,7 @@ use std::process::ExitCode;
 use std::sync::atomic::{AtomicU64, Ordering};
 use std::time::Instant;
 
+use compare::args::Args;
 use compare::calls;
 use compare::change::Call;
 use compare::chars::damage;
@@ -518,10 +519,11 @@ fn long_names(run: &mut Run, random: &mut Random) {
 }
 
 fn main() -> ExitCode {
-    let mut args = std::env::args().skip(1).map(|arg| arg.parse::<f64>().expect("a number"));
-    let seed = args.next().unwrap_or(1.0) as u64;
-    let minutes = args.next().unwrap_or(1.0);
-    let from = args.next().unwrap_or(0.0) as u64;
+    let mut args = Args::new("fuzz [SEED] [MINUTES] [FROM]");
+    let seed: u64 = args.number().unwrap_or(1);
+    let minutes = args.number().unwrap_or(1.0);
+    let from: u64 = args.number().unwrap_or(0);
+    args.end();
     unsafe {
         signal(SIGSEGV, fault);
         signal(SIGBUS, fault);
