@@ -38,7 +38,12 @@ fn wanted(section: &[u8], calls: &[Call], starts: &[usize]) -> Result<Vec<u8>, S
             Call::Undo => ByLayout.undo(&mut section, &mut journal, count, &mut answer),
         }
         if answer[0] != 0 {
-            return Err(format!("refused {} at argument {start}: ", answer[0]));
+            let values = match answer {
+                [10 | 11 | 13, ..] => String::new(),
+                [3, offset, requested] => format!(" ({offset}, {requested})"),
+                [_, value, _] => format!(" ({value})"),
+            };
+            return Err(format!("refused {}{values} at argument {start}: ", answer[0]));
         }
         count = answer[1];
     }
