@@ -1,5 +1,6 @@
 #!/usr/bin/env python3
-"""Writes crates/show_tracks/stdin, a section for the program show_tracks, and crates/show_tracks/stdout, what it must print.
+"""Writes crates/show_tracks/stdin, a section for the program show_tracks, and crates/show_tracks/stdout, what it must print; and
+for each input NAME.in of crates/round_trip/samples what it must print of that, NAME.tracks.
 
     show_tracks_sample.py
     show_tracks_sample.py compare PROGRAM [COUNT [SEED]]
@@ -10,7 +11,7 @@ What must be printed comes from document 01 ('The section', 'Flat record'), from
 and curves.rs, and from Python's own decoders and its exact decimals, and from none of our code.
 """
 import decimal
-import os
+import pathlib
 import random
 import struct
 import subprocess
@@ -480,8 +481,8 @@ def compare(program, count, seed):
 
 if sys.argv[1:2] == ['compare']:
     compare(sys.argv[2], *(int(n) for n in (sys.argv[3:] + ['1000', '1'][len(sys.argv) - 3 :])))
-here = os.path.join(os.path.dirname(os.path.abspath(__file__)), '..', 'crates', 'show_tracks')
-with open(os.path.join(here, 'stdin'), 'wb') as f:
-    f.write(sample())
-with open(os.path.join(here, 'stdout'), 'wb') as f:
-    f.write(printed(sample()))
+crates = pathlib.Path(__file__).resolve().parent.parent / 'crates'
+(crates / 'show_tracks' / 'stdin').write_bytes(sample())
+(crates / 'show_tracks' / 'stdout').write_bytes(printed(sample()))
+for given in (crates / 'round_trip' / 'samples').glob('*.in'):
+    given.with_suffix('.tracks').write_bytes(printed(given.read_bytes()))

@@ -25,7 +25,8 @@ fn samples_are_the_references() {
     for number in [1, 2, 3, 4, 5, 6, 9] {
         assert!(seen.contains(&format!("refused {number}\n").into_bytes()), "{number}");
     }
-    assert_eq!(fs::read_dir(root().join("crates/round_trip/samples")).unwrap().count(), 2 * seen.len());
+    // with NAME.tracks, of the program show_tracks
+    assert_eq!(fs::read_dir(root().join("crates/round_trip/samples")).unwrap().count(), 3 * seen.len());
 }
 
 /// What document 01 itself says of some.
