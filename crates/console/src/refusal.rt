@@ -1,9 +1,13 @@
 // Document 01's refusals of a section that does not read: the number, its values, and a sentence.
+ghost use mathlib.Core.Path.{_≡_};
+ghost use Rattle.bflan.specs.Answer.{ofFault};
 use crate::output::say;
 use crate::output::say_number;
 use bflan::fault::Fault;
 
-pub fn number_of(f: Fault) -> usize {
+pub fn number_of(f: Fault) -> usize
+    ensures { λ r. ⌜ r ≡ ofFault f .number ⌝ }
+{
     match f {
         Fault::NotPai1(_letters) => 1,
         Fault::PastEnd(_offset, _requested) => 3,
