@@ -24,7 +24,8 @@ use Rattle.edit.specs.Journal.{entryWords, capacity, entryAt, entryOf, s
 use Rattle.edit.specs.Machine.{Call, edit, undo, Machine, started, editField, pop, turn, State, handedOn, called, Part, none, partOf, ownPart, changes, partsAfter, SameBut, AgreesOnce, Agrees}
 use Rattle.edit.proofs.Entries.{part-sets, drop-sets, room, capacity-sets, entry-new, entry-below, entry-sound, entry-restores}
 
--- ---- what a format must meet; `Good r` says that the record is within the format's limits, `Reads s r` that reading s gives r
+-- ---- what a format must meet; `Good r` says that the record is within the format's limits, `Reads s r` that reading s gives r, `Writes s r`
+-- that writing r gives s
 
 -- it is read
 pub record Readable (F : Format) (s : List ℕ) : Type 0 where
@@ -44,11 +45,12 @@ module _ (F : Format) (Good : F .Rec → Type 0) where
     present : (at : ℕ) (f : Field) → F .fieldOf r p ≡ found f → F .locate (F .bytes r) p ≡ spot at f → at + total (widths f) ≤ length (F .bytes r)
         → ((vs : List ℕ) → fit f vs ≡ true → Replaces r p at f vs) → Finding r p
 
-pub record Laws (F : Format) (Good : F .Rec → Type 0) (Reads : List ℕ → F .Rec → Type 0) : Type 0 where
+pub record Laws (F : Format) (Good : F .Rec → Type 0) (Reads Writes : List ℕ → F .Rec → Type 0) : Type 0 where
   pub short : (r : F .Rec) → Good r → length (F .bytes r) ≤ limit
   pub bytes : (r : F .Rec) → Good r → Bytes (F .bytes r)
   pub reads : (r : F .Rec) → Good r → Readable F (F .bytes r)
   pub gives : (r : F .Rec) → Good r → Reads (F .bytes r) r
+  pub writes : (r : F .Rec) → Good r → Writes (F .bytes r) r
   pub finds : (r : F .Rec) → Good r → (p : F .Place) → Finding F Good r p
 
 module _ (F : Format) where
@@ -157,7 +159,7 @@ module _ (F : Format) (Good : F .Rec → Type 0) where
 
     -- ---- an edit
 
-    module _ (Reads : List ℕ → F .Rec → Type 0) (laws : Laws F Good Reads) (p : F .Place) (vs : List ℕ) where
+    module _ (Reads Writes : List ℕ → F .Rec → Type 0) (laws : Laws F Good Reads Writes) (p : F .Place) (vs : List ℕ) where
       -- the section is short enough and is read
       at-place : editing F (F .bytes (m .rec)) j (length (m .stack)) p vs ≡ atSpot (F .bytes (m .rec)) j (length (m .stack)) vs (F .locate (F .bytes (m .rec)) p)
       unfolding editing onReading
@@ -275,32 +277,33 @@ module _ (F : Format) (Good : F .Rec → Type 0) where
 
 -- ---- the whole list
 
-module _ (F : Format) (Good : F .Rec → Type 0) (Reads : List ℕ → F .Rec → Type 0) (laws : Laws F Good Reads) where
+module _ (F : Format) (Good : F .Rec → Type 0) (Reads Writes : List ℕ → F .Rec → Type 0) (laws : Laws F Good Reads Writes) where
   step : (most : ℕ) (c : Call F) (j : List ℕ) (m : Machine F) (parts : List (Part F)) → Linked F Good most j m parts → Step F Good most c j m parts
-  step most (edit p vs) j m parts k = step-edit F Good most j m parts k Reads laws p vs (laws .finds (m .rec) (k .good) p)
+  step most (edit p vs) j m parts k = step-edit F Good most j m parts k Reads Writes laws p vs (laws .finds (m .rec) (k .good) p)
   step most undo j m parts k = step-undo F Good most j (m .rec) (m .stack) parts (laws .short (m .rec) (k .good)) k
 
   once : (most : ℕ) (c : Call F) (j : List ℕ) (m : Machine F) (parts : List (Part F)) → Step F Good most c j m parts
-      → AgreesOnce F Reads most c (beside F j m) m parts
+      → AgreesOnce F Reads Writes most c (beside F j m) m parts
   once most c j m parts t =
       record {
         answer = rw (t .calls, t .turns);
         count = rw (t .calls, t .turns);
         section = rw (t .calls, t .turns);
+        writes = rw (t .calls, t .turns) (laws .writes (t .machine .rec) (t .linked .good));
         reads = rw (t .calls, t .turns) (laws .gives (t .machine .rec) (t .linked .good));
         kept = rw (t .calls) (t .kept);
       }
 
   agrees : (most : ℕ) (cs : List (Call F)) (j : List ℕ) (m : Machine F) (parts : List (Part F)) → Linked F Good most j m parts
-      → Agrees F Reads most cs (beside F j m) m parts
-  agrees most [] j m parts k = (refl, laws .gives (m .rec) (k .good))
+      → Agrees F Reads Writes most cs (beside F j m) m parts
+  agrees most [] j m parts k = (refl, laws .writes (m .rec) (k .good), laws .gives (m .rec) (k .good))
   agrees most (c ∷ cs) j m parts k =
       let t : Step F Good most c j m parts = step most c j m parts k in
       (once most c j m parts t, rw (t .calls, t .turns) (agrees most cs (t .journal) (t .machine) (partsAfter F c (beside F j m) parts (t .answer)) (t .linked)))
 
 -- every list of edits and undos, from a record's bytes and any journal
-pub demand-3 : (F : Format) (Good : F .Rec → Type 0) (Reads : List ℕ → F .Rec → Type 0) → Laws F Good Reads → (r : F .Rec) → Good r → (j : List ℕ) (cs : List (Call F))
-    → Agrees F Reads (capacity j) cs (record { section = F .bytes r; journal = j; count = 0 }) (started F r) []
+pub demand-3 : (F : Format) (Good : F .Rec → Type 0) (Reads Writes : List ℕ → F .Rec → Type 0) → Laws F Good Reads Writes → (r : F .Rec) → Good r → (j : List ℕ) (cs : List (Call F))
+    → Agrees F Reads Writes (capacity j) cs (record { section = F .bytes r; journal = j; count = 0 }) (started F r) []
 unfolding started
-demand-3 F Good Reads laws r g j cs =
-    agrees F Good Reads laws (capacity j) cs j (record { rec = r; stack = [] }) [] (record { good = g; holds = refl; room = omega arith; chain = tt })
+demand-3 F Good Reads Writes laws r g j cs =
+    agrees F Good Reads Writes laws (capacity j) cs j (record { rec = r; stack = [] }) [] (record { good = g; holds = refl; room = omega arith; chain = tt })

@@ -12,62 +12,59 @@ use Rattle.core.specs.Seek.{seekOf}
 use Rattle.core.specs.Text.{beforeZero, firstFault, fixedOf, endedOf}
 use Rattle.core.specs.Utf8.{rows as utf8Rows, within, classOf, laterOf, matched, more, good, pieceOf, piecesAfter, pieces, shown, decoded, decode, leading, sound as soundOf}
 use Rattle.core.proofs.Exercises.{TextExercise, textExercises}
-use Rattle.bflan.specs.Judge.{word, chars, text, times, row, target, datum, info, content, ends, section}
+use Rattle.bflan.specs.Answer.{ofFault, filled, reading}
+use Rattle.bflan.specs.Judge.{word, chars, text, times, row, target, datum, info, content, ends, section as judgeSection}
 use Rattle.bflan.specs.Layout.{size, written, parts, table, keySkip, keyLay, targetLay, ended, datumLay, infoHead, infoLay, dataOut, infosOut, tableFrom, infosFrom, userLay, contentBody, contentLay, namesEnd, contentTable, sectionSize, sectionLay, row as rowLay}
 use Rattle.bflan.specs.Letters.{rows, fleu, kindOf, lettersOf, targetOf, lettersFit, targetFits}
 use Rattle.bflan.specs.Places.{widths, total, fitWidths, allowed, fit, stride, keyIn, targetIn, infoTableIn, infoIn, contentIn, locate}
-use Rattle.bflan.specs.Reader.{Res, Item, num, seekTo, skip, fixedText, endedText, oneEnded, numbers, many, visit}
+use Rattle.bflan.specs.Reader.{num, seekTo, skip, fixedText, endedText, oneEnded, numbers, many, visit}
 use Rattle.bflan.specs.Reading.{curveOf, countOf, keys, target as readTarget, datum as readDatum, info as readInfo, typeOf, infoTable, content as readContent, texture, contents, flagOf, body, section as readSection}
 use Rattle.bflan.specs.Record.{keyWidths}
+use Rattle.bflan.specs.Walk.{wordsOf, textsOf}
 use Rattle.bflan.specs.Writing.{stored, judged, writing}
 use Rattle.bflan.specs.declared.place.Place.{Place}
 use Rattle.bflan.specs.declared.place.Place.the-variants.{Key}
-use Rattle.bflan.proofs.Exercises.{bare, named, stepped, user, ReadExercise, readExercises}
+use Rattle.bflan.proofs.Exercises.{stepped, SectionExercise, both, reads, refused, sectionExercises}
 use Rattle.edit.specs.Editing.{atSpot, onReading, editing}
 use Rattle.edit.specs.Format.{pai1}
 use Rattle.edit.specs.Journal.{capacity, padded, entryOf}
 
--- a text and what it is shown as; a section and what reading it gives; a record and the section that it is written as; a section, a change
--- with an empty journal of one entry, and the section and the entry then
+-- a text and what it is shown as; a section's; a section, a change with an empty journal of one entry, and the section and the entry then
 pub data Exercise : Type 0 where
   shows : List ℕ → List ℕ → Exercise
-  reads : List ℕ → Res (List Item) → Exercise
-  writes : List ℕ → List ℕ → List ℕ → Exercise
+  section : SectionExercise → Exercise
   edits : List ℕ → Place → List ℕ → List ℕ → List ℕ → Exercise
+
+-- into tables and an output that are just long enough
+abbrev pub Gives : List ℕ → List ℕ → List ℕ → Type 0
+Gives s w x = reading s (replicate (length w) 255) (replicate (length x) 255) ≡ (accepted (length w ∷ length x ∷ []), w, x)
+
+abbrev pub Writes : List ℕ → List ℕ → List ℕ → Type 0
+Writes s w x = writing w x (replicate (length s) 255) ≡ (accepted (length s ∷ []), s)
 
 abbrev pub Solved : Exercise → Type 0
 Solved (shows t d) = decode t ≡ d
-Solved (reads s r) = readSection s 0 ≡ r
-Solved (writes w x s) = writing w x (replicate (length s) 255) ≡ (accepted (length s ∷ []), s)
+Solved (section (both s w x)) = Gives s w x × Writes s w x
+Solved (section (reads s w x)) = Gives s w x
+Solved (section (refused s a)) = reading s [] [] ≡ (a, [], [])
 Solved (edits s p vs s′ e) = editing pai1 s (0 ∷ 0 ∷ 0 ∷ 0 ∷ 0 ∷ []) 0 p vs ≡ (accepted (1 ∷ []), s′, e)
-
-abbrev pub flvi : ℕ
-flvi = 0x49564C46
 
 -- those of the layers below
 abbrev pub texts : List TextExercise → List Exercise
 texts [] = []
 texts (e ∷ es) = shows (e .text) (e .shown-as) ∷ texts es
 
-abbrev pub readings : List ReadExercise → List Exercise
-readings [] = []
-readings (e ∷ es) = reads (e .bytes) (e .reads) ∷ readings es
+abbrev pub sections : List SectionExercise → List Exercise
+sections [] = []
+sections (e ∷ es) = section e ∷ sections es
 
 abbrev pub exercises : List Exercise
-exercises =
-    texts textExercises
-    ++ readings readExercises
-    ++ writes (60 ∷ 1 ∷ 0 ∷ 0 ∷ []) [] bare
-    ∷ writes (0 ∷ 0 ∷ 1 ∷ 0 ∷ 1 ∷ []) (0x61 ∷ []) named
-    ∷ writes (0 ∷ 0 ∷ 0 ∷ 1 ∷ 1 ∷ 0 ∷ 1 ∷ flvi ∷ 1 ∷ 0 ∷ 0 ∷ 1 ∷ 1 ∷ 0 ∷ 1 ∷ []) (0x50 ∷ []) stepped
-    ∷ writes (0 ∷ 0 ∷ 0 ∷ 1 ∷ 1 ∷ 2 ∷ 1 ∷ 0x55454C46 ∷ 1 ∷ 0 ∷ 0 ∷ 0 ∷ 1 ∷ 0 ∷ 1 ∷ 2 ∷ 3 ∷ 1 ∷ []) (0x55 ∷ 0x6B ∷ []) user
-    ∷ edits stepped (Key 0 0 0 0) (0 ∷ 0 ∷ []) (sets stepped 88 (0 ∷ [])) (84 ∷ 6 ∷ 0 ∷ 1 ∷ 0 ∷ [])
-    ∷ []
+exercises = texts textExercises ++ sections sectionExercises ++ edits stepped (Key 0 0 0 0) (0 ∷ 0 ∷ []) (sets stepped 88 (0 ∷ [])) (84 ∷ 6 ∷ 0 ∷ 1 ∷ 0 ∷ []) ∷ []
 
 abbrev pub AllSolved : List Exercise → Type 0
 AllSolved [] = Unit {0}
 AllSolved (e ∷ es) = Solved e × AllSolved es
 
 pub all-solved : AllSolved exercises
-unfolding le val get readOf seekOf beforeZero firstFault fixedOf endedOf paddingOf utf8Rows within classOf laterOf matched more good pieceOf piecesAfter pieces shown decoded decode leading soundOf word chars text times row target datum info content ends section size written parts table keySkip keyLay targetLay ended datumLay infoHead infoLay dataOut infosOut tableFrom infosFrom userLay contentBody contentLay namesEnd contentTable sectionSize sectionLay rowLay rows fleu kindOf lettersOf targetOf lettersFit targetFits widths total fitWidths allowed fit stride keyIn targetIn infoTableIn infoIn contentIn locate num seekTo skip fixedText endedText oneEnded numbers many visit curveOf countOf keys readTarget readDatum readInfo typeOf infoTable readContent texture contents flagOf body readSection keyWidths stored judged writing atSpot onReading editing capacity padded entryOf
-all-solved = (refl, (refl, (refl, (refl, (refl, (refl, (refl, (refl, (refl, (refl, (refl, (refl, (refl, (refl, (refl, (refl, (refl, tt)))))))))))))))))
+unfolding le val get readOf seekOf beforeZero firstFault fixedOf endedOf paddingOf utf8Rows within classOf laterOf matched more good pieceOf piecesAfter pieces shown decoded decode leading soundOf word chars text times row target datum info content ends judgeSection ofFault filled reading wordsOf textsOf size written parts table keySkip keyLay targetLay ended datumLay infoHead infoLay dataOut infosOut tableFrom infosFrom userLay contentBody contentLay namesEnd contentTable sectionSize sectionLay rowLay rows fleu kindOf lettersOf targetOf lettersFit targetFits widths total fitWidths allowed fit stride keyIn targetIn infoTableIn infoIn contentIn locate num seekTo skip fixedText endedText oneEnded numbers many visit curveOf countOf keys readTarget readDatum readInfo typeOf infoTable readContent texture contents flagOf body readSection keyWidths stored judged writing atSpot onReading editing capacity padded entryOf
+all-solved = (refl, (refl, (refl, ((refl, refl), ((refl, refl), ((refl, refl), ((refl, refl), (refl, (refl, (refl, (refl, (refl, (refl, tt)))))))))))))

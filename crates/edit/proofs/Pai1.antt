@@ -7,7 +7,7 @@ use lib.ListN.{length, take}
 use Rattle.core.specs.Outcome.{Outcome}
 use Rattle.core.proofs.Numbers.{sets-read}
 use Rattle.bflan.specs.Writing.{writing}
-use Rattle.bflan.proofs.Verdicts.{accepted-within}
+use Rattle.bflan.proofs.Verdicts.{written-there, accepted-within}
 use Rattle.bflan.specs.Layout.{written, sectionLay, size}
 use Rattle.bflan.specs.Limits.{limit, Within}
 use Rattle.bflan.specs.Record.{PaneAnimInfo, words as wordsOf, texts as textsOf}
@@ -16,7 +16,7 @@ use Rattle.bflan.proofs.Fields.{Finding as Found, absent as gone, present as th
 use Rattle.bflan.proofs.Layouts.{size-written}
 use Rattle.bflan.proofs.RoundTrip.{reads-back, read-written}
 use Rattle.bflan.proofs.WrittenBytes.{written-bytes}
-use Rattle.edit.specs.Format.{pai1, Reads}
+use Rattle.edit.specs.Format.{pai1, Reads, Writes}
 use Rattle.edit.specs.Journal.{capacity}
 use Rattle.edit.specs.Machine.{Call, started, Agrees}
 use Rattle.edit.proofs.Demand.{Readable, Finding, absent, present, Laws, demand-3}
@@ -34,20 +34,27 @@ finds r w p = go (finding r w p)
     go (there at f l x) =
         present at f (x .field) l (rw (size-written (sectionLay r)) (x .inside)) (λ vs y. record { same = x .writes vs y; good = x .within vs y })
 
-laws : Laws pai1 Within Reads
+-- and written
+afresh : (r : PaneAnimInfo) → Within r → Writes (written (sectionLay r)) r
+afresh r w out l =
+    let n : length (written (sectionLay r)) ≡ size (sectionLay r) = size-written (sectionLay r) in
+    rw n (written-there r out w (rw (← n) l))
+
+laws : Laws pai1 Within Reads Writes
 laws =
     record {
       short = λ r w. subst (λ (n : ℕ). n ≤ limit) (sym (size-written (sectionLay r))) (w .short);
       bytes = written-bytes;
       reads = readable;
       gives = read-written;
+      writes = afresh;
       finds = finds;
     }
 
 -- demand 3, of every section that is written from a record within the limits
 pub edits-agree : (r : PaneAnimInfo) → Within r → (j : List ℕ) (cs : List (Call pai1))
-    → Agrees pai1 Reads (capacity j) cs (record { section = written (sectionLay r); journal = j; count = 0 }) (started pai1 r) []
-edits-agree r w j cs = demand-3 pai1 Within Reads laws r w j cs
+    → Agrees pai1 Reads Writes (capacity j) cs (record { section = written (sectionLay r); journal = j; count = 0 }) (started pai1 r) []
+edits-agree r w j cs = demand-3 pai1 Within Reads Writes laws r w j cs
 
 -- the same from the call of writing on: where it is accepted, its bytes are a section of which all of that holds
 pub record Starts (w x out : List ℕ) : Type 0 where
@@ -57,7 +64,7 @@ pub record Starts (w x out : List ℕ) : Type 0 where
   pub texts : textsOf rec ≡ x
   pub bytes : take (size (sectionLay rec)) (writing w x out .1) ≡ written (sectionLay rec)
   pub agree : (j : List ℕ) (cs : List (Call pai1))
-      → Agrees pai1 Reads (capacity j) cs (record { section = take (size (sectionLay rec)) (writing w x out .1); journal = j; count = 0 }) (started pai1 rec) []
+      → Agrees pai1 Reads Writes (capacity j) cs (record { section = take (size (sectionLay rec)) (writing w x out .1); journal = j; count = 0 }) (started pai1 rec) []
 
 pub written-agrees : (w x out : List ℕ) → writing w x out .0 .number ≡ 0 → Starts w x out
 written-agrees w x out e =

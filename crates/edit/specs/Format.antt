@@ -12,6 +12,7 @@ use Rattle.bflan.specs.Places.{Spot, Found, locate, fieldOf, replaced}
 use Rattle.bflan.specs.Reader.{Res, Item}
 use Rattle.bflan.specs.Reading.{section}
 use Rattle.bflan.specs.Record.{PaneAnimInfo, words, texts}
+use Rattle.bflan.specs.Writing.{writing}
 use Rattle.bflan.specs.declared.place.Place.{Place}
 
 pub record Format : Type 1 where
@@ -44,3 +45,7 @@ abbrev pub Reads : List ℕ → PaneAnimInfo → Type 0
 Reads s r =
     (w x : List ℕ) → length (words r) ≤ length w → length (texts r) ≤ length x
     → reading s w x ≡ (accepted (length (words r) ∷ length (texts r) ∷ []), sets w 0 (words r), sets x 0 (texts r))
+
+-- writing the record into a long enough output is accepted, and gives these bytes
+abbrev pub Writes : List ℕ → PaneAnimInfo → Type 0
+Writes s r = (out : List ℕ) → length s ≤ length out → writing (words r) (texts r) out ≡ (accepted (length s ∷ []), sets out 0 s)

@@ -100,18 +100,19 @@ module _ (F : Format) where
     pub before : take (x .at) s′ ≡ take (x .at) s
     pub behind : drop (x .at + x .size) s′ ≡ drop (x .at + x .size) s
 
-  -- ---- a list of calls agrees with the machine; `Reads s r` says that reading s gives the record r
+  -- ---- a list of calls agrees with the machine; `Reads s r` says that reading s gives the record r, `Writes s r` that writing r gives s
 
-  module _ (Reads : List ℕ → F .Rec → Type 0) (most : ℕ) where
+  module _ (Reads Writes : List ℕ → F .Rec → Type 0) (most : ℕ) where
     pub record AgreesOnce (c : Call) (z : State) (m : Machine) (parts : List Part) : Type 0 where
       pub answer : called c z .0 ≡ turn most c m .0
       pub count : called c z .1 .count ≡ length (turn most c m .1 .stack)
       pub section : called c z .1 .section ≡ F .bytes (turn most c m .1 .rec)
+      pub writes : Writes (called c z .1 .section) (turn most c m .1 .rec)
       pub reads : Reads (called c z .1 .section) (turn most c m .1 .rec)
       pub kept : SameBut (changes c z parts (called c z .0)) (z .section) (called c z .1 .section)
 
     abbrev pub Agrees : List Call → State → Machine → List Part → Type 0
-    Agrees [] z m parts = (z .section ≡ F .bytes (m .rec)) × Reads (z .section) (m .rec)
+    Agrees [] z m parts = (z .section ≡ F .bytes (m .rec)) × Writes (z .section) (m .rec) × Reads (z .section) (m .rec)
     Agrees (c ∷ cs) z m parts = AgreesOnce c z m parts × Agrees cs (called c z .1) (turn most c m .1) (partsAfter c z parts (called c z .0))
 
 -- a change of a pai1 section as a call
