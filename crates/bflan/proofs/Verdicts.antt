@@ -1,7 +1,7 @@
 -- What the judging walk says of records: their two lists determine them, and a call of writing that is accepted writes one within the limits.
 -- Assumes nothing.
 use Prim.Native.Nat.{ℕ, _≤_}
-use mathlib.Core.Path.{_≡_, refl, sym, _∙_}
+use mathlib.Core.Path.{_≡_, refl, sym, subst, _∙_}
 use mathlib.Core.Bool.{Bool, true, false}
 use mathlib.Core.List.{List, [], _∷_, map}
 use native.Mathlib.Omega.{arith}
@@ -11,12 +11,11 @@ use lib.ListN.{length}
 use lib.Seq.{sets}
 use Rattle.core.specs.Choice.{pick}
 use Rattle.core.specs.Outcome.{Outcome, accepted}
-use Rattle.bflan.specs.Answer.{refused}
 use Rattle.bflan.specs.Judge.{Judged, fine, badWord, badText, section}
 use Rattle.bflan.specs.Layout.{Layout, size, written, parts, ended, targetLay, datumLay, infoLay, contentBody, contentLay, sectionLay}
 use Rattle.bflan.specs.Limits.{limit, Fine, Within}
 use Rattle.bflan.specs.Record.{AnimTarget, ExtendedUserDataAnim, AnimInfo, Standard, ExtendedUserData, AnimContent, PaneAnimInfo, Cell, word, bytesIn, each, targetCells, datumCells, infoCells, contentCells, textureCells, words, texts}
-use Rattle.bflan.specs.Writing.{stored, judged, writing}
+use Rattle.bflan.specs.Writing.{overLimit, outputShort, stored, judged, writing}
 use Rattle.bflan.proofs.Judging.{byteCount, byte-counts, texture-bytes, datum-bytes, content-bytes, section-bytes, judge-flat, judge-accepts}
 
 -- ---- sizes
@@ -69,11 +68,11 @@ texts-size r =
 fine-same : {r q : PaneAnimInfo} {i j k l : ℕ} → fine r i j ≡ fine q k l → r ≡ q
 fine-same e = cc
 
-pub refused-beyond : (w x : List ℕ) (r : PaneAnimInfo) → Fine r → words r ≡ w → texts r ≡ x → section w x 0 0 ≡ fine r (length w) (length x)
-refused-beyond w x r f e d = rw (← e, ← d) (judge-flat r f)
+pub fine-judged : (w x : List ℕ) (r : PaneAnimInfo) → Fine r → words r ≡ w → texts r ≡ x → section w x 0 0 ≡ fine r (length w) (length x)
+fine-judged w x r f e d = rw (← e, ← d) (judge-flat r f)
 
 pub flat-once : (r q : PaneAnimInfo) → Fine r → Fine q → words r ≡ words q → texts r ≡ texts q → r ≡ q
-flat-once r q f g e d = fine-same (sym (judge-flat r f) ∙ refused-beyond (words r) (texts r) q g (sym e) (sym d))
+flat-once r q f g e d = fine-same (sym (judge-flat r f) ∙ fine-judged (words r) (texts r) q g (sym e) (sym d))
 
 -- ---- writing
 
@@ -82,6 +81,22 @@ pub written-there : (r : PaneAnimInfo) (out : List ℕ) → Within r → size (s
 unfolding writing judged stored
 written-there r out h l =
     rw (judge-flat r (h .fine), le-leb (size (sectionLay r)) limit (h .short), le-leb (size (sectionLay r)) (length out) l)
+
+-- by whether the output has room
+abbrev byRoom : PaneAnimInfo → List ℕ → Bool → Outcome × List ℕ
+byRoom r out b = pick b (accepted (size (sectionLay r) ∷ []), sets out 0 (written (sectionLay r))) (outputShort (size (sectionLay r)), out)
+
+-- what is refused with 6, 7 or 8 is no record within the limits
+pub refused-beyond : (w x out : List ℕ) → 6 ≤ writing w x out .0 .number → writing w x out .0 .number ≤ 8
+    → (r : PaneAnimInfo) → words r ≡ w → texts r ≡ x → Within r → ⊥
+unfolding writing judged stored
+refused-beyond w x out l u r e d h =
+    let a : writing w x out ≡ byRoom r out (leb (size (sectionLay r)) (length out)) = rw (fine-judged w x r (h .fine) e d, le-leb (size (sectionLay r)) limit (h .short)) in
+    go (leb (size (sectionLay r)) (length out)) (subst (λ z. 6 ≤ z .0 .number) a l) (subst (λ z. z .0 .number ≤ 8) a u)
+  where
+    go : (b : Bool) → 6 ≤ byRoom r out b .0 .number → byRoom r out b .0 .number ≤ 8 → ⊥
+    go true a c = omega (arith, a)
+    go false a c = omega (arith, c)
 
 -- a call that is accepted: the record, and what is answered and written
 pub record WrittenOf (w x out : List ℕ) : Type 0 where
@@ -97,7 +112,7 @@ unfolding writing judged stored
 accepted-within w x out e = go (section w x 0 0) refl e
   where
     sized : (r : PaneAnimInfo) (i j : ℕ) → section w x 0 0 ≡ fine r i j → (a b : Bool) → leb (size (sectionLay r)) limit ≡ a → leb (size (sectionLay r)) (length out) ≡ b
-        → pick {A = Outcome × List ℕ} a (pick b (accepted (size (sectionLay r) ∷ []), sets out 0 (written (sectionLay r))) (refused 9 (size (sectionLay r) ∷ []), out)) (refused 8 (limit ∷ []), out) .0 .number ≡ 0
+        → pick a (byRoom r out b) (overLimit, out) .0 .number ≡ 0
         → WrittenOf w x out
     sized r i j h true true a b e =
         let c = judge-accepts w x r i j h in

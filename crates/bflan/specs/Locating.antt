@@ -2,17 +2,19 @@
 -- reads has on that path.
 use Prim.Native.Nat.{ℕ, _+_, _*_, _<_, _≤_}
 use mathlib.Core.Path.{_≡_}
-use mathlib.Core.List.{List}
+use mathlib.Core.List.{List, [], _∷_}
 use lib.Dec.{eqb, leb, ltb}
 use lib.ListN.{length}
 use Rattle.core.specs.Choice.{pick}
 use Rattle.core.specs.Number.{get}
+use Rattle.core.specs.Outcome.{Outcome, accepted}
 use Rattle.bflan.specs.declared.place.Base.{Base}
 use Rattle.bflan.specs.declared.place.Base.the-variants.{From, Missing}
 use Rattle.bflan.specs.declared.place.Located.{Located}
 use Rattle.bflan.specs.declared.place.Located.the-variants.{TooLong, Refused, NoSuchPlace, At}
 use Rattle.bflan.specs.declared.place.Place.{Place}
 use Rattle.bflan.specs.declared.place.Field.the-variants.{Layer as layer, Target as number}
+use Rattle.bflan.specs.Answer.{tooLong, noPlace, ofFault}
 use Rattle.bflan.specs.Letters.{fleu, lettersOf}
 use Rattle.bflan.specs.Limits.{limit}
 use Rattle.bflan.specs.Places.{Spot, nowhere, spot, total, stride, keyIn, valueIn, targetIn, datumIn, infoTableIn, locate}
@@ -32,6 +34,13 @@ locatingIn s p (ok is end) = ofSpot (locate s p)
 
 unfoldable pub locating : List ℕ → Place → Located
 locating s p = pick (leb (length s) limit) (locatingIn s p (section s 0)) (TooLong (length s))
+
+-- its number and values
+unfoldable pub ofLocated : Located → Outcome
+ofLocated (TooLong size) = tooLong size
+ofLocated (Refused f) = ofFault f
+ofLocated NoSuchPlace = noPlace
+ofLocated (At at f) = accepted (at ∷ [])
 
 -- ---- the path: where the part starts that a step leads to
 

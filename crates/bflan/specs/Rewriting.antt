@@ -7,10 +7,10 @@ use lib.Dec.{leb}
 use lib.ListN.{length, getD, take}
 use Rattle.core.specs.Choice.{pick}
 use Rattle.core.specs.Outcome.{Outcome}
-use Rattle.bflan.specs.Answer.{refused, reading}
+use Rattle.bflan.specs.Answer.{reading}
 use Rattle.bflan.specs.Layout.{size, written, sectionLay}
 use Rattle.bflan.specs.Record.{AnimContent, PaneAnimInfo, wordsIn, contentCells}
-use Rattle.bflan.specs.Writing.{stored}
+use Rattle.bflan.specs.Writing.{badWordAt, stored}
 
 -- the words and the texts that a call of reading filled, as many as it answers
 unfoldable pub readWords : List ℕ → List ℕ → List ℕ → List ℕ
@@ -37,4 +37,4 @@ longAt r = 4 + length (r .textures) + untilLong (r .contents)
 unfoldable pub rewritten : List ℕ → PaneAnimInfo → Outcome × List ℕ
 rewritten out r =
     pick (namesFit (r .contents)) (stored out (size (sectionLay r)) (written (sectionLay r)))
-    (refused 6 (longAt r ∷ []), out)
+    (badWordAt (longAt r), out)

@@ -17,23 +17,35 @@ use Rattle.bflan.specs.Record.{PaneAnimInfo}
 
 -- ---- numbers and values
 
+abbrev pub badWordAt : ℕ → Outcome
+badWordAt index = refused 6 (index ∷ [])
+
+abbrev pub badTextAt : ℕ → Outcome
+badTextAt index = refused 7 (index ∷ [])
+
+abbrev pub overLimit : Outcome
+overLimit = refused 8 (limit ∷ [])
+
+abbrev pub outputShort : ℕ → Outcome
+outputShort len = refused 9 (len ∷ [])
+
 unfoldable pub ofWriting : WriteAnswer → Outcome
 ofWriting (Written len) = accepted (len ∷ [])
-ofWriting (BadWord index) = refused 6 (index ∷ [])
-ofWriting (BadText index) = refused 7 (index ∷ [])
-ofWriting OverLimit = refused 8 (limit ∷ [])
-ofWriting (OutputTooShort len) = refused 9 (len ∷ [])
+ofWriting (BadWord index) = badWordAt index
+ofWriting (BadText index) = badTextAt index
+ofWriting OverLimit = overLimit
+ofWriting (OutputTooShort len) = outputShort len
 
 -- ---- the answer, and the output
 
 unfoldable pub stored : List ℕ → ℕ → List ℕ → Outcome × List ℕ
 stored out len bytes =
-    pick (leb len limit) (pick (leb len (length out)) (accepted (len ∷ []), sets out 0 bytes) (refused 9 (len ∷ []), out))
-    (refused 8 (limit ∷ []), out)
+    pick (leb len limit) (pick (leb len (length out)) (accepted (len ∷ []), sets out 0 bytes) (outputShort len, out))
+    (overLimit, out)
 
 unfoldable pub judged : List ℕ → Judged PaneAnimInfo → Outcome × List ℕ
-judged out (badWord index) = (refused 6 (index ∷ []), out)
-judged out (badText index) = (refused 7 (index ∷ []), out)
+judged out (badWord index) = (badWordAt index, out)
+judged out (badText index) = (badTextAt index, out)
 judged out (fine r words texts) = stored out (size (sectionLay r)) (written (sectionLay r))
 
 unfoldable pub writing : List ℕ → List ℕ → List ℕ → Outcome × List ℕ

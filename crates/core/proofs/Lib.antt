@@ -4,6 +4,7 @@ pub mod Exercises
 pub mod Filling
 pub mod Floats
 pub mod Numbers
+pub mod Outcomes
 pub mod Padding
 pub mod Parts
 pub mod Runs

@@ -5,6 +5,8 @@ use mathlib.Core.List.{List, [], _∷_}
 use Rattle.core.specs.Float.{patternOf, patternsOf}
 use Rattle.core.specs.declared.number.Read.{Read}
 use Rattle.core.specs.declared.number.Read.the-variants.{Value, Past}
+use Rattle.core.specs.declared.run.Run.{Run}
+use Rattle.core.specs.declared.run.Run.the-variants.{Next, Cut}
 use Rattle.core.specs.declared.seek.Sought.{Sought}
 use Rattle.core.specs.declared.seek.Sought.the-variants.{At, Past as SoughtPast}
 use Rattle.core.specs.declared.text.TextAt.{TextAt}
@@ -52,6 +54,11 @@ unfoldable pub ofText : TextAt → Outcome
 ofText (Text len next) = accepted (len ∷ next ∷ [])
 ofText (TextPast offset requested) = refusedPast offset requested
 ofText (Unended start) = refusedNoZero start
+
+-- a run: the position after it
+unfoldable pub ofRun : Run → Outcome
+ofRun (Next next) = accepted (next ∷ [])
+ofRun (Cut offset requested) = refusedPast offset requested
 
 -- a binary32: its pattern and the position after it
 unfoldable pub ofFloat : ReadFloat → Outcome

@@ -16,11 +16,11 @@ use Rattle.core.specs.Outcome.{Outcome}
 use Rattle.core.specs.Float.{patternOf}
 use Rattle.core.specs.declared.float.Binary32.{Binary32}
 use Rattle.core.proofs.Numbers.{get-zero, get-suc, read-there}
-use Rattle.bflan.specs.Answer.{noPlace, tooLong, ofFault}
+use Rattle.bflan.specs.Answer.{tooLong}
 use Rattle.bflan.specs.Layout.{written, row}
 use Rattle.bflan.specs.Letters.{targetFits}
 use Rattle.bflan.specs.Limits.{limit}
-use Rattle.bflan.specs.Locating.{ofSpot, locatingIn, locating}
+use Rattle.bflan.specs.Locating.{ofSpot, locatingIn, locating, ofLocated}
 use Rattle.bflan.specs.Places.{Spot, nowhere, spot, widths, total, fitWidths, allowed, fit, locate}
 use Rattle.bflan.specs.Reader.{Res, ok, stop, Item}
 use Rattle.bflan.specs.Reading.{section}
@@ -330,14 +330,15 @@ module _ (s j : List ℕ) (count at : ℕ) (f : Field) (vs : List ℕ) (t : Bool
 -- ---- the call, by where its field is
 
 module _ (s j : List ℕ) (count : ℕ) (p : Place) (vs : List ℕ) where
+  -- where locating refuses, so does the edit
   abbrev byLocated : Located → Outcome × List ℕ × List ℕ
-  byLocated (TooLong size) = (tooLong size, s, j)
-  byLocated (Refused f) = (ofFault f, s, j)
-  byLocated NoSuchPlace = (noPlace, s, j)
+  byLocated (TooLong size) = (ofLocated (TooLong size), s, j)
+  byLocated (Refused f) = (ofLocated (Refused f), s, j)
+  byLocated NoSuchPlace = (ofLocated NoSuchPlace, s, j)
   byLocated (At at f) = atSpot s j count vs (spot at f)
 
   editing-by : editing pai1 s j count p vs ≡ byLocated (locating s p)
-  unfolding editing onReading locating locatingIn ofSpot atSpot
+  unfolding editing onReading locating locatingIn ofSpot ofLocated atSpot
   editing-by = go (leb (length s) limit) (section s 0)
     where
       last : (x : Spot) → atSpot s j count vs x ≡ byLocated (ofSpot x)
@@ -354,15 +355,15 @@ module _ (s j : List ℕ) (count : ℕ) (p : Place) (vs : List ℕ) where
     by x e = sym (editing-by ∙ ap byLocated (sym el ∙ e))
 
     pub edit-long : (size : ℕ) → l ≡ TooLong size → (ofEditing (EditTooLong size), s, j) ≡ editing pai1 s j count p vs
-    unfolding ofEditing
+    unfolding ofEditing ofLocated
     edit-long size e = by (TooLong size) e
 
     pub edit-refused : (f : Fault) → l ≡ Refused f → (ofEditing (EditRefused f), s, j) ≡ editing pai1 s j count p vs
-    unfolding ofEditing
+    unfolding ofEditing ofLocated
     edit-refused f e = by (Refused f) e
 
     pub edit-nowhere : l ≡ NoSuchPlace → (ofEditing NoPlace, s, j) ≡ editing pai1 s j count p vs
-    unfolding ofEditing
+    unfolding ofEditing ofLocated
     edit-nowhere e = by NoSuchPlace e
 
     pub edit-there : (at : ℕ) (f : Field) → l ≡ At at f → (r : Outcome × List ℕ × List ℕ) → r ≡ atSpot s j count vs (spot at f) → r ≡ editing pai1 s j count p vs
