@@ -1,7 +1,7 @@
 -- On every section that reads, the field that is found at a place is the field that the record which was read has there, and the record's
 -- values are what reading makes of the numbers that stand there.
 -- Assumes nothing.
-use Prim.Native.Nat.{ℕ, zero, suc, _+_, _*_, _<_, _≤_}
+use Prim.Native.Nat.{ℕ, zero, suc, _+_, _*_, _≤_}
 use mathlib.Core.Path.{_≡_, refl, ap, sym, _∙_}
 use mathlib.Core.Bool.{Bool, true, false, _&&_}
 use mathlib.Core.List.{List, [], _∷_}
@@ -9,29 +9,33 @@ use native.Mathlib.Nat.{zero-add, suc-mul, mul-le-mul-right}
 use native.Mathlib.Omega.{arith}
 use borrow.Author.Tests.{ltb-true, lt-ltb, le-ltb, eqb-false}
 use lib.Dec.{eqb, ltb, leb·suc-suc}
-use lib.ListN.{length}
+use lib.ListN.{length, set}
 use Rattle.core.specs.Choice.{pick}
-use Rattle.core.specs.Number.{get}
+use Rattle.core.specs.Number.{val, get, readOf}
 use Rattle.core.specs.Run.{numbersAt}
+use Rattle.core.specs.Seek.{seekOf}
+use Rattle.core.specs.Text.{beforeZero, fixedOf}
 use Rattle.core.proofs.Runs.{length-numbers}
 use Rattle.bflan.specs.declared.place.Field.{Field}
 use Rattle.bflan.specs.declared.place.Field.the-variants.{FrameCount as framesField, Looping as loopingField, Layer as layerField, Target as numberField, Key as keyField, Value as valueField}
 use Rattle.bflan.specs.declared.place.Place.{Place}
 use Rattle.bflan.specs.declared.place.Place.the-variants.{FrameCount, Looping, Layer, Target, Key, Value}
 use Rattle.bflan.specs.FieldValues.{foundOf, numbersIn, asRead, targetValues, datumValues, infoValues, valuesAt}
-use Rattle.bflan.specs.Letters.{fleu, lettersOf, targetOf as numberOf}
+use Rattle.bflan.specs.Layout.{keySkip}
+use Rattle.bflan.specs.Letters.{rows, fleu, kindOf, lettersOf, targetOf as numberOf}
 use Rattle.bflan.specs.Limits.{All, Readable}
-use Rattle.bflan.specs.Places.{Spot, nowhere, spot, widths, stride, after, keyIn, valueIn, targetIn, datumIn, infoTableIn, infoIn, contentIn, locate, ofElement, Found, missing, found, targetOf, datumOf, infoOf, fieldOf}
-use Rattle.bflan.specs.Reader.{Res, ok, stop, Item, many}
-use Rattle.bflan.specs.Reading.{curveOf, countOf, datum, section}
+use Rattle.bflan.specs.Places.{Spot, nowhere, spot, widths, total, stride, after, keyIn, valueIn, targetIn, datumIn, infoTableIn, infoIn, contentIn, locate, ofElement, Found, missing, found, targetOf, datumOf, infoOf, fieldOf}
+use Rattle.bflan.specs.Reader.{Res, ok, stop, Item, word, text, num, seekTo, fixedText, numbers, many, visit}
+use Rattle.bflan.specs.Reading.{curveOf, countOf, keys, target, datum, info, typeOf, infoTable, content, flagOf, contents, body, section}
 use Rattle.bflan.specs.Record.{AnimTarget, ExtendedUserDataAnim, AnimInfo, Standard, ExtendedUserData, AnimContent, PaneAnimInfo, keyWidths, wordsIn, bytesIn, words, texts}
 use Rattle.bflan.specs.Walk.{wordsOf, textsOf}
 use Rattle.bflan.proofs.Codes.{kind-kept}
+use Rattle.bflan.proofs.Exercises.{stepped}
 use Rattle.bflan.proofs.Fields.{and-left, and-right}
 use Rattle.bflan.proofs.FlatOnce.{KeyShape, TargetShape, DatumShape, InfoShape, ContentShape, Shape, shape-once, fine-shape}
 use Rattle.bflan.proofs.KeyRuns.{joined, many-on, many-stop}
 use Rattle.bflan.proofs.ReadBack.{words-shown, texts-shown}
-use Rattle.bflan.proofs.ReadParts.{reached, partsAt, endedAt, keysAt, targetAt, datumAt, dataAt, infoAt, contentAt, recordAt, length-keys, section-shown}
+use Rattle.bflan.proofs.ReadParts.{reached, partsAt, keysAt, targetAt, datumAt, dataAt, infoAt, contentAt, recordAt, length-keys, section-shown}
 use Rattle.bflan.proofs.ReadTree.{standard-kept}
 
 -- ---- tests by their next number
@@ -328,3 +332,20 @@ module _ (s : List ℕ) (is : List Item) (end : ℕ) (reads : section s 0 ≡ ok
   -- the record's values there are what the numbers in the section read as
   pub located-values : (p : Place) (at : ℕ) (f : Field) → locate s p ≡ spot at f → valuesAt r p ≡ asRead f (numbersIn (widths f) s at)
   located-values p at f e = ap (λ (x : PaneAnimInfo). valuesAt x p) read-record ∙ place-matches s p .values at f e
+
+-- ---- an example
+
+-- document 01's section with a Step key, its curve made 3: it reads as a Constant with no keys. The layer is found, and the target's number; a
+-- key is not
+abbrev pub curveThree : List ℕ
+curveThree = set stepped 74 3
+
+pub curve-three :
+    (section curveThree 0 ≡ ok (word 0 ∷ word 0 ∷ word 0 ∷ word 1 ∷ text 24 1 ∷ word 0 ∷ word 1 ∷ word 0x49564C46 ∷ word 1 ∷ word 0 ∷ word 0 ∷ word 0 ∷ word 0 ∷ []) 92)
+    × (locate curveThree (Layer 0 0 0) ≡ spot 72 layerField)
+    × (locate curveThree (Target 0 0 0) ≡ spot 73 (numberField 0x49564C46))
+    × (locate curveThree (Key 0 0 0 0) ≡ nowhere)
+    × (locate stepped (Key 0 0 0 0) ≡ spot 84 (keyField 1))
+    × (numbersIn (widths (keyField 1)) stepped 84 ≡ 0 ∷ 1 ∷ [])
+unfolding val get readOf seekOf beforeZero fixedOf num seekTo fixedText numbers visit section body contents content typeOf infoTable info target curveOf countOf keys many flagOf kindOf rows fleu lettersOf numberOf locate contentIn infoIn infoTableIn targetIn keyIn stride total keyWidths keySkip numbersIn widths
+curve-three = (refl, refl, refl, refl, refl, refl)

@@ -5,7 +5,6 @@ use mathlib.Core.Path.{_≡_, refl, ap, ap₂, sym, _∙_}
 use mathlib.Core.Bool.{Bool, true, false}
 use mathlib.Core.List.{List, [], _∷_, _++_, map}
 use native.Mathlib.Omega.{arith}
-use borrow.Author.Tests.{eqb-true}
 use lib.Dec.{eqb}
 use lib.ListN.{length, drop}
 use Rattle.core.specs.Choice.{pick}
@@ -14,14 +13,13 @@ use Rattle.core.specs.Run.{numbersAt}
 use Rattle.core.specs.Text.{beforeZero, endedOf}
 use Rattle.core.specs.declared.text.TextAt.{TextAt}
 use Rattle.core.specs.declared.text.TextAt.the-variants.{Text, Past as TextPast, Unended}
-use Rattle.core.proofs.Runs.{length-numbers}
 use Rattle.core.proofs.Zeros.{ended-text}
 use Rattle.bflan.specs.declared.fault.Fault.the-variants.{NotPai1}
 use Rattle.bflan.specs.FieldValues.{numbersIn}
 use Rattle.bflan.specs.Letters.{fleu, lettersOf, targetOf}
 use Rattle.bflan.specs.Layout.{keySkip}
 use Rattle.bflan.specs.Places.{total, stride, infoTableIn}
-use Rattle.bflan.specs.Reader.{Res, ok, stop, P, andThen, _>>=_, ret, given, fail, here, Item, word, text, asText, num, seekTo, skip, endedText, oneEnded, numbers, many, visit}
+use Rattle.bflan.specs.Reader.{Res, ok, stop, P, andThen, _>>=_, ret, given, fail, Item, word, text, asText, skip, endedText, oneEnded, numbers, many, visit}
 use Rattle.bflan.specs.Reading.{keyOf, curveOf, countOf, keys, target, datum, info, typeOf, infoTable, content, texture, pai1, flagOf, contents, body, section}
 use Rattle.bflan.specs.Record.{AnimTarget, ExtendedUserDataAnim, AnimInfo, Standard, ExtendedUserData, AnimContent, PaneAnimInfo, keyWidths, Cell, word as wordCell, chars, each, targetCells, datumCells, infoCells, contentCells, textureCells, cells}
 use Rattle.bflan.specs.Walk.{shownAt}
