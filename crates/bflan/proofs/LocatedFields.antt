@@ -4,7 +4,7 @@
 use Prim.Native.Nat.{ℕ, zero, suc, _+_, _*_, _≤_}
 use mathlib.Core.Path.{_≡_, refl, ap, sym, _∙_}
 use mathlib.Core.Bool.{Bool, true, false, _&&_}
-use mathlib.Core.List.{List, [], _∷_}
+use mathlib.Core.List.{List, [], _∷_, _++_}
 use native.Mathlib.Nat.{zero-add, suc-mul, mul-le-mul-right}
 use native.Mathlib.Omega.{arith}
 use borrow.Author.Tests.{ltb-true, lt-ltb, le-ltb, eqb-false}
@@ -25,7 +25,7 @@ use Rattle.bflan.specs.Layout.{keySkip}
 use Rattle.bflan.specs.Letters.{rows, fleu, kindOf, lettersOf, targetOf as numberOf}
 use Rattle.bflan.specs.Limits.{All, Readable}
 use Rattle.bflan.specs.Places.{Spot, nowhere, spot, widths, total, stride, after, keyIn, valueIn, targetIn, datumIn, infoTableIn, infoIn, contentIn, locate, ofElement, Found, missing, found, targetOf, datumOf, infoOf, fieldOf}
-use Rattle.bflan.specs.Reader.{Res, ok, stop, Item, word, text, num, seekTo, fixedText, numbers, many, visit}
+use Rattle.bflan.specs.Reader.{Res, ok, stop, andThen, ret, Item, word, text, num, seekTo, fixedText, numbers, many, visit}
 use Rattle.bflan.specs.Reading.{curveOf, countOf, keys, target, datum, info, typeOf, infoTable, content, flagOf, contents, body, section}
 use Rattle.bflan.specs.Record.{AnimTarget, ExtendedUserDataAnim, AnimInfo, Standard, ExtendedUserData, AnimContent, PaneAnimInfo, keyWidths, wordsIn, bytesIn, words, texts}
 use Rattle.bflan.specs.Walk.{wordsOf, textsOf}
@@ -33,7 +33,7 @@ use Rattle.bflan.proofs.Codes.{kind-kept}
 use Rattle.bflan.proofs.Exercises.{stepped}
 use Rattle.bflan.proofs.Fields.{and-left, and-right}
 use Rattle.bflan.proofs.FlatOnce.{KeyShape, TargetShape, DatumShape, InfoShape, ContentShape, Shape, shape-once, fine-shape}
-use Rattle.bflan.proofs.KeyRuns.{joined, many-on, many-stop}
+use Rattle.bflan.proofs.KeyRuns.{many-stop}
 use Rattle.bflan.proofs.ReadBack.{words-shown, texts-shown}
 use Rattle.bflan.proofs.ReadParts.{reached, partsAt, keysAt, targetAt, datumAt, dataAt, infoAt, contentAt, recordAt, length-keys, section-shown}
 use Rattle.bflan.proofs.ReadTree.{standard-kept}
@@ -77,10 +77,14 @@ module _ (s : List ℕ) {A : Type 0} (none : A) where
       let e : p + suc k * stride c ≡ p + stride c + k * stride c = omega (arith, suc-mul k (stride c)) in
       rw (next-below k n, e) (keys-element c n (p + stride c) k f)
 
-  -- items in front don't change where a reading ends
-  reached-joined : (x : List Item) (r : Res (List Item)) (f : ℕ → A) → reached (joined x r) none f ≡ reached r none f
-  reached-joined x (ok is q) f = refl
-  reached-joined x (stop g) f = refl
+  -- after the first datum the others are read from where it ends
+  reached-next : (d p : ℕ) (f : ℕ → A) {x : List Item} {q : ℕ} → datum s p ≡ ok x q → reached (many (suc d) datum s p) none f ≡ reached (many d datum s q) none f
+  unfolding many
+  reached-next d p f {x} {q} e = rw e (go (many d datum s q))
+    where
+      go : (r : Res (List Item)) → reached (andThen r (λ xs. ret (x ++ xs)) s) none f ≡ reached r none f
+      go (ok xs k) = refl
+      go (stop g) = refl
 
   data-element : (n d p : ℕ) (f : ExtendedUserDataAnim → A)
       → ofElement (dataAt s n p) d none f ≡ pick (ltb d n) (reached (many d datum s p) none (λ q. f (datumAt s q))) none
@@ -92,7 +96,7 @@ module _ (s : List ℕ) {A : Type 0} (none : A) where
       go : ((q : ℕ) → ofElement (dataAt s n q) d none f ≡ pick (ltb d n) (reached (many d datum s q) none (λ q. f (datumAt s q))) none)
           → (r : Res (List Item)) → datum s p ≡ r
           → ofElement (reached r [] (λ q. dataAt s n q)) d none f ≡ pick (ltb d n) (reached (many (suc d) datum s p) none (λ q. f (datumAt s q))) none
-      go h (ok x q) e = rw (many-on d datum s p e, reached-joined x (many d datum s q) (λ q. f (datumAt s q))) (h q)
+      go h (ok x q) e = rw (reached-next d p (λ q. f (datumAt s q)) e) (h q)
       go h (stop g) e = rw (many-stop d datum s p e) (last (ltb d n))
         where
           last : (t : Bool) → none ≡ pick t none none
