@@ -238,7 +238,7 @@ unfolding each
 each-one [] = refl
 each-one (v ∷ vs) = ap (λ (l : List Cell). wordCell v ∷ l) (each-one vs)
 
-all-map : {X : Type 0} (Q R : X → Type 0) → ((a : X) → Q a → R a) → (xs : List X) → All Q xs → All R xs
+pub all-map : {X : Type 0} (Q R : X → Type 0) → ((a : X) → Q a → R a) → (xs : List X) → All Q xs → All R xs
 all-map Q R f [] q = tt
 all-map Q R f (x ∷ xs) q = (f x (q .0), all-map Q R f xs (q .1))
 

@@ -46,18 +46,18 @@ use Rattle.bflan.proofs.Walks.{on-no}
 
 -- ---- what holds where a reading is not stopped, of its value and of the place behind it
 
-abbrev Holds : {A : Type 0} → (A → ℕ → Type 0) → Res A → Type 0
+abbrev pub Holds : {A : Type 0} → (A → ℕ → Type 0) → Res A → Type 0
 Holds Q (ok v j) = Q v j
 Holds Q (stop f) = Unit
 
-record If {A : Type 0} (Q : A → ℕ → Type 0) (r : Res A) : Type 0 where
-  holds : Holds Q r
+pub record If {A : Type 0} (Q : A → ℕ → Type 0) (r : Res A) : Type 0 where
+  pub holds : Holds Q r
 
-if-ok : {A : Type 0} (Q : A → ℕ → Type 0) (r : Res A) {v : A} {j : ℕ} → If Q r → r ≡ ok v j → Q v j
+pub if-ok : {A : Type 0} (Q : A → ℕ → Type 0) (r : Res A) {v : A} {j : ℕ} → If Q r → r ≡ ok v j → Q v j
 if-ok Q r h e = rw e at (h .holds)
 
 module _ {A : Type 0} {Q : A → ℕ → Type 0} where
-  yes : {v : A} {j : ℕ} → Q v j → If Q (ok v j)
+  pub yes : {v : A} {j : ℕ} → Q v j → If Q (ok v j)
   yes h = record { holds = h }
 
   no : (f : Fault) → If Q (stop f)
@@ -74,34 +74,34 @@ sure (stop f) x = no f
 
 module _ (s : List ℕ) {A B : Type 0} {Q : B → ℕ → Type 0} (r : Res A) (q : A → P B) where
   -- one reading after another
-  next : ((v : A) (j : ℕ) → r ≡ ok v j → If Q (q v s j)) → If Q (andThen r q s)
+  pub next : ((v : A) (j : ℕ) → r ≡ ok v j → If Q (q v s j)) → If Q (andThen r q s)
   next f = go r refl
     where
       go : (x : Res A) → r ≡ x → If Q (andThen x q s)
       go (ok v j) e = f v j e
       go (stop g) e = no g
 
-  after : {R : A → ℕ → Type 0} → If R r → ((v : A) (j : ℕ) → R v j → If Q (q v s j)) → If Q (andThen r q s)
+  pub after : {R : A → ℕ → Type 0} → If R r → ((v : A) (j : ℕ) → R v j → If Q (q v s j)) → If Q (andThen r q s)
   after {R} h f = next (λ v j e. f v j (if-ok R r h e))
 
 -- ---- single reads: what follows may use that they are in the section
 
 module _ (s : List ℕ) {B : Type 0} {Q : B → ℕ → Type 0} where
-  number : (k i p : ℕ) (q : ℕ → P B) → i + k ≡ p → (p ≤ length s → If Q (q (get k s i) s p)) → If Q (andThen (num k s i) q s)
+  pub number : (k i p : ℕ) (q : ℕ → P B) → i + k ≡ p → (p ≤ length s → If Q (q (get k s i) s p)) → If Q (andThen (num k s i) q s)
   number k i p q e f = go (leb (i + k) (length s)) refl
     where
       go : (b : Bool) → leb (i + k) (length s) ≡ b → If Q (andThen (num k s i) q s)
       go true t = let h = leb-true (i + k) (length s) t in rw (num-there k s i h, e) (f (omega (arith, h, e)))
       go false t = rw (num-short k s i (leb-false (i + k) (length s) t)) (no _)
 
-  sought : (to i : ℕ) (q : ℕ → P B) → (to ≤ length s → If Q (q to s to)) → If Q (andThen (seekTo to s i) q s)
+  pub sought : (to i : ℕ) (q : ℕ → P B) → (to ≤ length s → If Q (q to s to)) → If Q (andThen (seekTo to s i) q s)
   sought to i q f = go (leb to (length s)) refl
     where
       go : (b : Bool) → leb to (length s) ≡ b → If Q (andThen (seekTo to s i) q s)
       go true t = let h = leb-true to (length s) t in rw (sought-on s to i to (seek-there s to h)) (f h)
       go false t = rw (sought-past s to i _ _ (seek-over s to (leb-false to (length s) t))) (no _)
 
-  table : (n i : ℕ) (q : List ℕ → P B) → i ≤ length s → (i + 4 * n ≤ length s → If Q (q (numbersAt n s i) s (i + 4 * n))) → If Q (andThen (numbers n s i) q s)
+  pub table : (n i : ℕ) (q : List ℕ → P B) → i ≤ length s → (i + 4 * n ≤ length s → If Q (q (numbersAt n s i) s (i + 4 * n))) → If Q (andThen (numbers n s i) q s)
   table n i q h f = go (numbersOf n s i) refl
     where
       go : (r : Run) → numbersOf n s i ≡ r → If Q (andThen (numbers n s i) q s)
@@ -111,7 +111,7 @@ module _ (s : List ℕ) {B : Type 0} {Q : B → ℕ → Type 0} where
       go (Cut o k) e = let d : numbers n s i ≡ asNumbers (Cut o k) (numbersAt n s i) = numbers-run n s i ∙ rw e in rw d (no _)
 
   -- a name is cut by the section's end; the number behind it is then refused
-  name : (b : ℕ) (q : Item → P B) → (b + 28 ≤ length s → If Q (q (text b (nameSize s b)) s (b + 28))) → ((t : Item) → If Q (q t s (length s))) → If Q (andThen (fixedText 28 s b) q s)
+  pub name : (b : ℕ) (q : Item → P B) → (b + 28 ≤ length s → If Q (q (text b (nameSize s b)) s (b + 28))) → ((t : Item) → If Q (q t s (length s))) → If Q (andThen (fixedText 28 s b) q s)
   name b q f g = go (leb (b + 28) (length s)) refl (ltb b (length s)) refl
     where
       go : (x : Bool) → leb (b + 28) (length s) ≡ x → (y : Bool) → ltb b (length s) ≡ y → If Q (andThen (fixedText 28 s b) q s)
@@ -142,7 +142,7 @@ module _ (s : List ℕ) (base : ℕ) (p : ℕ → P (List Item)) (Good : ℕ →
 
 -- ---- keys
 
-stride-three : (c : ℕ) → stride (suc (suc c)) ≡ 12
+pub stride-three : (c : ℕ) → stride (suc (suc c)) ≡ 12
 unfolding stride total keyWidths keySkip
 stride-three c = let e : eqb (suc (suc c)) 1 ≡ false = ne-eqb (suc (suc c)) 1 (λ z. omega arith) in rw e
 
@@ -232,7 +232,7 @@ module _ (s : List ℕ) where
 
   -- ---- contents
 
-  table-at : (b : ℕ) → b + 32 ≤ length s
+  pub table-at : (b : ℕ) → b + 32 ≤ length s
       → If (λ v j. (j ≡ infoTableIn s b) × (infoTableIn s b ≤ length s) × (get 1 s (b + 29) ≡ 2 → b + 36 ≤ length s)) (infoTable b (get 1 s (b + 29)) s (b + 32))
   unfolding infoTable infoTableIn
   table-at b h = kind (eqb (get 1 s (b + 29)) 2) refl

@@ -135,7 +135,7 @@ unfolding fleu val
 fleu-some e = omega arith
 
 -- letters other than FLEU are not kept as FLEU
-standard-kept : (l : ℕ) → (l ≡ fleu → ⊥) → lettersOf l ≡ fleu → ⊥
+pub standard-kept : (l : ℕ) → (l ≡ fleu → ⊥) → lettersOf l ≡ fleu → ⊥
 standard-kept l h e = ⊎-elim (λ q. h (sym q ∙ e)) (λ q. fleu-some (sym e ∙ q)) (letters-is l)
 
 -- the record that was read: its words and its texts
