@@ -291,7 +291,7 @@ module _ (n : ℕ) (s : List ℕ) (at : ℕ) where
 -- ---- the entry
 
 pub entry-kept : (j s : List ℕ) (count at n m : ℕ) (old : Packed) → n ≡ m → old ≡ packed (take n (drop at s)) → at + m ≤ length s
-    → sets j (5 * count) (entryList (record { at = at; count = n; old = old })) ≡ sets j (entryWords * count) (entryOf at (oldAt s at m))
+    → sets j (entryWords * count) (entryList (record { at = at; count = n; old = old })) ≡ sets j (entryWords * count) (entryOf at (oldAt s at m))
 unfolding entryList packed entryOf
 entry-kept j s count at n m old en eo h =
     let l : length (take m (drop at s)) ≡ m = length-take-le m (drop at s) (rw length-drop (omega arith)) in
@@ -318,14 +318,14 @@ module _ (s j : List ℕ) (count at : ℕ) (f : Field) (vs : List ℕ) (t : Bool
   spot-unfit e = rw (sym et ∙ e)
 
   module _ (e : t ≡ true) where
-    pub spot-full : length j / 5 ≤ count → (ofEditing (JournalFull (length j / 5)), s, j) ≡ atSpot s j count vs (spot at f)
+    pub spot-full : length j / entryWords ≤ count → (ofEditing (JournalFull (length j / entryWords)), s, j) ≡ atSpot s j count vs (spot at f)
     unfolding ofEditing atSpot capacity
-    spot-full h = rw (sym et ∙ e, le-ltb count (length j / 5) h)
+    spot-full h = rw (sym et ∙ e, le-ltb count (length j / entryWords) h)
 
-    pub spot-edited : count < length j / 5 → {s′ j′ : List ℕ} → s′ ≡ sets s at (written (row (widths f) vs)) → j′ ≡ sets j (entryWords * count) (entryOf at (oldAt s at (total (widths f))))
+    pub spot-edited : count < length j / entryWords → {s′ j′ : List ℕ} → s′ ≡ sets s at (written (row (widths f) vs)) → j′ ≡ sets j (entryWords * count) (entryOf at (oldAt s at (total (widths f))))
         → (ofEditing (Edited (count + 1)), s′, j′) ≡ atSpot s j count vs (spot at f)
     unfolding ofEditing atSpot capacity
-    spot-edited h es ej = rw (sym et ∙ e, lt-ltb count (length j / 5) h, es, ej)
+    spot-edited h es ej = rw (sym et ∙ e, lt-ltb count (length j / entryWords) h, es, ej)
 
 -- ---- the call, by where its field is
 
