@@ -23,7 +23,7 @@ use Rattle.bflan.specs.declared.tally.Tally.{Tally}
 use Rattle.bflan.specs.Reader.{Res, ok, stop, andThen, _>>=_, ret, Item, word, text, seekTo, fixedText, numbers, visit}
 use Rattle.bflan.specs.Reading.{info, typeOf, infoTable, content}
 use Rattle.bflan.specs.Walk.{shownAt, moved, named, run}
-use Rattle.bflan.proofs.Emits.{sought-on, sought-past, run-put2, run-named}
+use Rattle.bflan.proofs.Emits.{sought-on, sought-past, sought-there, sought-over, run-put2, run-named}
 use Rattle.bflan.proofs.KeyRuns.{num-there, num-short, numbers-run}
 use Rattle.bflan.proofs.Walks.{before, before-before, put-before}
 
@@ -54,9 +54,6 @@ pub name-part : (s : List ℕ) (base r : ℕ) → r ≡ beforeZero (take (base +
 name-part s base r e = let m : base + 28 - base ≡ 28 = omega arith in rw m at e
 
 module _ (base : ℕ) (s : List ℕ) (i : ℕ) where
-  seek-base : base ≤ length s → seekTo base s i ≡ ok base base
-  seek-base h = sought-on s base i base (seek-there s base h)
-
   whole-name : base + 28 ≤ length s → fixedText 28 s base ≡ ok (text base (nameSize s base)) (base + 28)
   whole-name h = let e : base + min 28 (length s - base) ≡ base + 28 = omega arith in name-there s base (omega arith) ∙ ap (λ (n : ℕ). ok (text base (nameSize s base)) n) e
 
@@ -64,11 +61,11 @@ module _ (base : ℕ) (s : List ℕ) (i : ℕ) where
 
   pub content-short0 : length s < base → content base s i ≡ stop (PastEnd (length s) (base - length s))
   unfolding content
-  content-short0 h = rw (sought-past s base i _ _ (seek-over s base h))
+  content-short0 h = rw (sought-over s base i h)
 
   pub content-none : length s ≡ base → content base s i ≡ stop (PastEnd base 28)
   unfolding content
-  content-none h = let k : base ≤ length s = omega arith in let l : length s ≤ base = omega arith in rw (seek-base k, name-none s base l)
+  content-none h = let k : base ≤ length s = omega arith in let l : length s ≤ base = omega arith in rw (sought-there s base i k, name-none s base l)
 
   pub content-short29 : base < length s → length s < base + 29 → content base s i ≡ stop (PastEnd (length s) 1)
   unfolding content
@@ -76,7 +73,7 @@ module _ (base : ℕ) (s : List ℕ) (i : ℕ) where
       let b : base ≤ length s = omega arith in
       let e : base + min 28 (length s - base) ≡ length s = omega arith in
       let l : length s < length s + 1 = omega arith in
-      rw (seek-base b, name-there s base h, e, num-short 1 s (length s) l)
+      rw (sought-there s base i b, name-there s base h, e, num-short 1 s (length s) l)
 
   pub content-short30 : base + 29 ≤ length s → length s < base + 30 → content base s i ≡ stop (PastEnd (base + 29) 1)
   unfolding content
@@ -86,7 +83,7 @@ module _ (base : ℕ) (s : List ℕ) (i : ℕ) where
       let a : base + 28 + 1 ≤ length s = omega arith in
       let e : base + 28 + 1 ≡ base + 29 = omega arith in
       let l : length s < base + 29 + 1 = omega arith in
-      rw (seek-base b, whole-name w, num-there 1 s (base + 28) a, e, num-short 1 s (base + 29) l)
+      rw (sought-there s base i b, whole-name w, num-there 1 s (base + 28) a, e, num-short 1 s (base + 29) l)
 
   pub content-short32 : base + 30 ≤ length s → length s < base + 32 → content base s i ≡ stop (PastEnd (base + 30) 2)
   unfolding content
@@ -98,7 +95,7 @@ module _ (base : ℕ) (s : List ℕ) (i : ℕ) where
       let a2 : base + 29 + 1 ≤ length s = omega arith in
       let e2 : base + 29 + 1 ≡ base + 30 = omega arith in
       let l : length s < base + 30 + 2 = omega arith in
-      rw (seek-base b, whole-name w, num-there 1 s (base + 28) a, e, num-there 1 s (base + 29) a2, e2, num-short 2 s (base + 30) l)
+      rw (sought-there s base i b, whole-name w, num-there 1 s (base + 28) a, e, num-there 1 s (base + 29) a2, e2, num-short 2 s (base + 30) l)
 
   -- ---- behind them
 
@@ -124,7 +121,7 @@ module _ (base : ℕ) (s : List ℕ) (i : ℕ) where
       let e2 : base + 29 + 1 ≡ base + 30 = omega arith in
       let a3 : base + 30 + 2 ≤ length s = omega arith in
       let e3 : base + 30 + 2 ≡ base + 32 = omega arith in
-      rw (seek-base b, whole-name w, num-there 1 s (base + 28) a, e, num-there 1 s (base + 29) a2, e2, num-there 2 s (base + 30) a3, e3)
+      rw (sought-there s base i b, whole-name w, num-there 1 s (base + 28) a, e, num-there 1 s (base + 29) a2, e2, num-there 2 s (base + 30) a3, e3)
 
   pub rest-at : (n type q : ℕ) → infoTable base type s (base + 32) ≡ ok q q → contentRest n type ≡ contentTable n type q
   rest-at n type q e = rw e

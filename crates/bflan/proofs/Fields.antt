@@ -25,12 +25,15 @@ use Rattle.bflan.specs.Reader.{P, Item, many}
 use Rattle.bflan.specs.Reading.{datum}
 use Rattle.bflan.specs.Record.{AnimTarget, ExtendedUserDataAnim, AnimInfo, Standard, ExtendedUserData, AnimContent, PaneAnimInfo, keyWidths, Cell, each, datumCells}
 use Rattle.bflan.proofs.Codes.{fleu-lt, fit-lt, letters-own}
-use Rattle.bflan.proofs.Layouts.{size-written, Stands, stands-left, stands-right, stands-to, stands-all, stands-get, size-table, user-size}
+use Rattle.bflan.proofs.Layouts.{size-written, size-row, Stands, stands-left, stands-right, stands-to, stands-all, stands-get, size-table, user-size}
 use Rattle.bflan.proofs.ReadBack.{Reads, reads-as, reads-none, reads-joined, ReadsPart}
-use Rattle.bflan.proofs.Replacing.{Replaces, replaces-to, replaces-left, replaces-right, replaces-whole, replaces-number, size-row, length-row, length-changed, no-element, ahead, ahead-even, table-entry, Element, element}
+use Rattle.bflan.proofs.Replacing.{Replaces, replaces-to, replaces-left, replaces-right, replaces-whole, replaces-number, length-row, length-changed, no-element, ahead, ahead-even, table-entry, Element, element}
 use Rattle.bflan.proofs.RoundTrip.{datum-reads, content-stands}
 use Rattle.bflan.proofs.TargetParts.{curve-low, count-low}
 use Rattle.bflan.proofs.Walks.{many-suc}
+
+pub unlike : _≡_ {A = Bool} false true → ⊥
+unlike e = let z : _≡_ {A = ℕ} 0 1 = cc in omega arith
 
 -- ---- what values fit
 
@@ -40,10 +43,7 @@ and-left false b e = e
 
 pub and-right : (a b : Bool) → (a && b) ≡ true → b ≡ true
 and-right true b e = e
-and-right false b e = absurd (no e)
-  where
-    no : _≡_ {A = Bool} false true → ⊥
-    no e = let z : _≡_ {A = ℕ} 0 1 = cc in omega arith
+and-right false b e = absurd (unlike e)
 
 fits-widths : (ks vs : List ℕ) → fitWidths ks vs ≡ true → Fits ks vs
 unfolding fitWidths

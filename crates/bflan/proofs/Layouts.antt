@@ -12,7 +12,8 @@ use lib.Seq.{take-take, take-append-seam, drop-drop, take-add, take-length, drop
 use Rattle.core.specs.Choice.{pick}
 use Rattle.core.specs.Number.{get}
 use Rattle.core.proofs.Numbers.{length-le, val-le}
-use Rattle.bflan.specs.Layout.{Layout, nothing, number, bytes, _⨾_, size, written, parts, table, tableFrom, userLay}
+use Rattle.bflan.specs.Layout.{Layout, nothing, number, bytes, _⨾_, size, written, row, parts, table, tableFrom, userLay}
+use Rattle.bflan.specs.Places.{total}
 use Rattle.bflan.specs.Reader.{ok, num, numbers}
 use Rattle.bflan.proofs.KeyRuns.{num-there}
 
@@ -22,6 +23,12 @@ size-written nothing = refl
 size-written (number k n) = length-le k n
 size-written (bytes bs) = refl
 size-written (a ⨾ b) = rw (length-append, size-written a, size-written b)
+
+pub size-row : (ks vs : List ℕ) → size (row ks vs) ≡ total ks
+unfolding size row total
+size-row [] vs = refl
+size-row (k ∷ ks) [] = ap (λ (n : ℕ). k + n) (size-row ks [])
+size-row (k ∷ ks) (v ∷ vs) = ap (λ (n : ℕ). k + n) (size-row ks vs)
 
 -- the layout's bytes stand in s from i on
 pub record Stands (s : List ℕ) (i : ℕ) (l : Layout) : Type 0 where

@@ -13,7 +13,6 @@ use Rattle.core.specs.Run.{numbersAt, numbersOf}
 use Rattle.core.specs.declared.run.Run.{Run}
 use Rattle.core.specs.declared.run.Run.the-variants.{Next, Cut}
 use Rattle.core.proofs.Runs.{table-fits, numbers-next}
-use Rattle.core.proofs.Seeks.{seek-there, seek-over}
 use Rattle.bflan.specs.declared.fault.Fault.{Fault}
 use Rattle.bflan.specs.declared.fault.Fault.the-variants.{NotPai1}
 use Rattle.bflan.specs.declared.place.Field.{Field}
@@ -39,10 +38,10 @@ use Rattle.bflan.specs.declared.tally.Walk.{Walk}
 use Rattle.bflan.specs.declared.tally.Walk.the-variants.{On, No}
 use Rattle.bflan.proofs.Answers.{told-answer, stopped, whole}
 use Rattle.bflan.proofs.ContentParts.{nameSize, name-there, name-none}
-use Rattle.bflan.proofs.Emits.{sought-on, sought-past}
+use Rattle.bflan.proofs.Emits.{sought-there, sought-over}
 use Rattle.bflan.proofs.Fields.{and-left, and-right}
-use Rattle.bflan.proofs.KeyRuns.{asNumbers, num-there, num-short, numbers-run, joined, many-on}
-use Rattle.bflan.proofs.Walks.{on-no}
+use Rattle.bflan.proofs.KeyRuns.{asNumbers, num-there, num-short, numbers-run, many-on}
+use Rattle.bflan.proofs.Walks.{before, on-no, on-place}
 
 -- ---- what holds where a reading is not stopped, of its value and of the place behind it
 
@@ -98,8 +97,8 @@ module _ (s : List ℕ) {B : Type 0} {Q : B → ℕ → Type 0} where
   sought to i q f = go (leb to (length s)) refl
     where
       go : (b : Bool) → leb to (length s) ≡ b → If Q (andThen (seekTo to s i) q s)
-      go true t = let h = leb-true to (length s) t in rw (sought-on s to i to (seek-there s to h)) (f h)
-      go false t = rw (sought-past s to i _ _ (seek-over s to (leb-false to (length s) t))) (no _)
+      go true t = let h = leb-true to (length s) t in rw (sought-there s to i h) (f h)
+      go false t = rw (sought-over s to i (leb-false to (length s) t)) (no _)
 
   table : (n i : ℕ) (q : List ℕ → P B) → i ≤ length s → (i + 4 * n ≤ length s → If Q (q (numbersAt n s i) s (i + 4 * n))) → If Q (andThen (numbers n s i) q s)
   table n i q h f = go (numbersOf n s i) refl
@@ -184,7 +183,7 @@ module _ (s : List ℕ) where
 ok-at : {A : Type 0} {v w : A} {i j : ℕ} → _≡_ {A = Res A} (ok v i) (ok w j) → i ≡ j
 ok-at e = cc
 
-joined-at : (x is : List Item) (r : Res (List Item)) (q : ℕ) {X : Type 0} → joined x r ≡ ok is q → ((xs : List Item) → r ≡ ok xs q → X) → X
+joined-at : (x is : List Item) (r : Res (List Item)) (q : ℕ) {X : Type 0} → before x r ≡ ok is q → ((xs : List Item) → r ≡ ok xs q → X) → X
 joined-at x is (ok xs j) q e f = f xs (ap (λ (k : ℕ). ok xs k) (ok-at e))
 joined-at x is (stop g) q e f = absurd (let z : _≡_ {A = ℕ} 0 1 = cc in omega arith)
 
@@ -246,8 +245,8 @@ module _ (s : List ℕ) where
           last l to i = go (leb to (length s)) refl
             where
               go : (t : Bool) → leb to (length s) ≡ t → If (λ v j. (j ≡ to) × (to ≤ length s) × (get 1 s (b + 29) ≡ 2 → b + 36 ≤ length s)) (seekTo to s i)
-              go true d = let m = leb-true to (length s) d in rw (sought-on s to i to (seek-there s to m)) (yes (refl, m, λ x. l))
-              go false d = rw (sought-past s to i _ _ (seek-over s to (leb-false to (length s) d))) (no _)
+              go true d = let m = leb-true to (length s) d in rw (sought-there s to i m) (yes (refl, m, λ x. l))
+              go false d = rw (sought-over s to i (leb-false to (length s) d)) (no _)
       kind false e = yes (refl, h, λ x. absurd (eqb-false (get 1 s (b + 29)) 2 e x))
 
   content-at : (b i : ℕ) → If (λ is j. ContentAt s b) (content b s i)
@@ -463,9 +462,6 @@ module _ (s : List ℕ) (h : SectionAt s) (at : ℕ) (f : Field) where
   located-inside (Value c i d l v) e = along c i _ e (λ a x z. to-datum a d _ x z (λ b y w. value-inside b l v y w))
 
 -- ---- the steps and the fields as the code has them
-
-on-place : (t u : Tally) (p q : ℕ) → On t p ≡ On u q → p ≡ q
-on-place t u p q e = cc
 
 module _ (s : List ℕ) where
   pub content-yes : (c : ℕ) {n table off : ℕ} → n ≡ get 2 s 14 → c < n → table ≡ get 4 s 16 → off ≡ get 4 s (table + 4 * c) → From off ≡ contentBase s c

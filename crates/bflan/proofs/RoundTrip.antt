@@ -33,18 +33,13 @@ use Rattle.bflan.specs.Record.{Standard, ExtendedUserData, AnimContent, 
 use Rattle.bflan.specs.Walk.{shownAt, wordsOf, textsOf}
 use Rattle.bflan.proofs.Codes.{fits-lt, fits-own, fit-lt, letters-own}
 use Rattle.bflan.proofs.ContentParts.{nameSize, contentRest, content-there, rest-at}
-use Rattle.bflan.proofs.Emits.{sought-on, ended-on, shown-part}
+use Rattle.bflan.proofs.Emits.{sought-there, ended-on, shown-part}
 use Rattle.bflan.proofs.KeyRuns.{asNumbers, numbers-run}
 use Rattle.bflan.proofs.SectionParts.{endAt, headWords, section-body, body-there, contents-on}
 use Rattle.bflan.proofs.Layouts.{Stands, stands-left, stands-right, stands-to, stands-all, stands-num, stands-get, size-table, size-written, offsets, table-reads, user-size}
 use Rattle.bflan.proofs.ReadBack.{shownIn, Reads, reads-as, reads-none, reads-before, reads-joined, ReadsPart, ReadsAt, many-reads, visit-reads, key-reads, shown-words, words-shown, texts-shown}
 use Rattle.bflan.proofs.TargetParts.{curve-low, count-low}
 use Rattle.bflan.proofs.Walks.{before, joined, put-before}
-
--- ---- seeks
-
-sought : (s : List ℕ) (to i : ℕ) → to ≤ length s → seekTo to s i ≡ ok to to
-sought s to i h = sought-on s to i to (seek-there s to h)
 
 -- ---- texts
 
@@ -69,7 +64,7 @@ texture-reads s b i t f h =
     let l : b ≤ length s = omega (arith, h .fits) in
     record {
       next = b + length t + 1;
-      here = record { items = text b (length t) ∷ []; reads = rw (sought s b i l) (ended-reads s b t f h); shows = ap (λ (z : List ℕ). chars z ∷ []) (shown-there s b t f (unfold ended in stands-left h)) };
+      here = record { items = text b (length t) ∷ []; reads = rw (sought-there s b i l) (ended-reads s b t f h); shows = ap (λ (z : List ℕ). chars z ∷ []) (shown-there s b t f (unfold ended in stands-left h)) };
     }
 
 -- ---- targets
@@ -90,7 +85,7 @@ target-reads letters s b i t f h =
     let low : t .curve ≤ 2 = omega (arith, f .curve) in
     let k = many-reads (keyLay (t .curve)) (map wordCell) (Fits (keyWidths (t .curve))) s (keyOf (t .curve)) (key-reads (t .curve) (f .curve) s) (b + 12) (t .keys) (f .keys) (stands-to h7 (omega arith)) in
     let e : target letters b s i ≡ before (word (t .layer) ∷ word (t .target) ∷ word (t .curve) ∷ word (length (t .keys)) ∷ []) (many (length (t .keys)) (keyOf (t .curve)) s (b + 12)) =
-    rw (sought s b i l, stands-num (stands-left h) (f .layer), stands-num (stands-left h1) (fits-lt letters (t .target) (f .target)), stands-num (stands-left h2) c, stands-num (stands-left h3) (omega arith), stands-num (stands-left h4) (f .count), stands-num (stands-left h5) (omega arith), stands-num (stands-left h6) (omega arith), sought s (b + 12) (b + 1 + 1 + 1 + 1 + 2 + 2 + 4) l12, curve-low (t .curve) (length (t .keys)) low, count-low (t .curve) (length (t .keys)) low, fits-own letters (t .target) (f .target))
+    rw (sought-there s b i l, stands-num (stands-left h) (f .layer), stands-num (stands-left h1) (fits-lt letters (t .target) (f .target)), stands-num (stands-left h2) c, stands-num (stands-left h3) (omega arith), stands-num (stands-left h4) (f .count), stands-num (stands-left h5) (omega arith), stands-num (stands-left h6) (omega arith), sought-there s (b + 12) (b + 1 + 1 + 1 + 1 + 2 + 2 + 4) l12, curve-low (t .curve) (length (t .keys)) low, count-low (t .curve) (length (t .keys)) low, fits-own letters (t .target) (f .target))
     (put-before (word (t .layer) ∷ word (t .target) ∷ word (t .curve) ∷ word (length (t .keys)) ∷ []) (many (length (t .keys)) (keyOf (t .curve)) s (b + 12)) s) in
     record { next = b + 12 + size (parts (keyLay (t .curve)) (t .keys)); here = reads-as (sym e) refl refl (reads-before (word (t .layer) ∷ word (t .target) ∷ word (t .curve) ∷ word (length (t .keys)) ∷ []) k) }
 
@@ -125,7 +120,7 @@ datum-reads s i d f h =
     let z = reads-before hs (reads-before (map word (d .values)) (text-reads s (j + 4) (d .key) (f .key) h7)) in
     let n = size-ended (d .key) in
     reads-as
-    (rw (stands-num (stands-left h) (f .headerSize), stands-num (stands-left h1) (f .unk1), stands-num (stands-left h2) (f .unk2), stands-num (stands-left h3) (f .baseCount), stands-num (stands-left h4) (f .unk3), ← f .count, values-read s (i + 4 + 2 + 2 + 4 + 4) (d .values) (f .values) (stands-left h5), stands-num (stands-left h6) (omega arith), sought s (j + 4) (j + 4) l, ended-reads s (j + 4) (d .key) (f .key) h7))
+    (rw (stands-num (stands-left h) (f .headerSize), stands-num (stands-left h1) (f .unk1), stands-num (stands-left h2) (f .unk2), stands-num (stands-left h3) (f .baseCount), stands-num (stands-left h4) (f .unk3), ← f .count, values-read s (i + 4 + 2 + 2 + 4 + 4) (d .values) (f .values) (stands-left h5), stands-num (stands-left h6) (omega arith), sought-there s (j + 4) (j + 4) l, ended-reads s (j + 4) (d .key) (f .key) h7))
     (ap (λ (vs : List Cell). wordCell (d .headerSize) ∷ wordCell (d .unk1) ∷ wordCell (d .unk2) ∷ wordCell (d .baseCount) ∷ wordCell (d .unk3) ∷ (vs ++ (chars (d .key) ∷ []))) (shown-words s (d .values)))
     (omega (arith, n))
     z
@@ -148,7 +143,7 @@ module _ (s : List ℕ) (short : length s ≤ 16777216) where
       let o = table-reads targetLay s (b + 4 + 1 + 1 + 2) (8 + 4 * n) ts lp (stands-to (stands-left h1) (omega arith)) in
       let v = visit-reads targetLay targetCells (FineTarget letters) s (target letters) (target-reads letters s) b (8 + 4 * n) (b + 4 + 1 + 1 + 2 + 4 * n) ts (f .targets) (stands-to (stands-right h1) (omega (arith, lt))) in
       let e : info b s i ≡ before (word letters ∷ word n ∷ []) (visit b (target letters) (offsets targetLay (8 + 4 * n) ts) s (b + 4 + 1 + 1 + 2 + 4 * n)) =
-      rw (sought s b i l, stands-num (stands-left g) (fit-lt letters (f .letters)), stands-num (stands-left g1) (f .count), stands-num (stands-left g2) (omega arith), stands-num g3 (omega arith), ne-eqb letters fleu (f .standard), o, letters-own letters (f .letters))
+      rw (sought-there s b i l, stands-num (stands-left g) (fit-lt letters (f .letters)), stands-num (stands-left g1) (f .count), stands-num (stands-left g2) (omega arith), stands-num g3 (omega arith), ne-eqb letters fleu (f .standard), o, letters-own letters (f .letters))
       (put-before (word letters ∷ word n ∷ []) (visit b (target letters) (offsets targetLay (8 + 4 * n) ts) s (b + 4 + 1 + 1 + 2 + 4 * n)) s) in
       record { next = v .next; here = reads-as (sym e) refl refl (reads-before (word letters ∷ word n ∷ []) (v .here)) }
   info-reads b i (ExtendedUserData ds) f h =
@@ -160,7 +155,7 @@ module _ (s : List ℕ) (short : length s ≤ 16777216) where
       let l : b ≤ length s = omega (arith, h .fits) in
       let m = many-reads datumLay datumCells FineDatum s datum (datum-reads s) (b + 4 + 1 + 1 + 2) ds (f .1) (stands-to (stands-right h) (omega arith)) in
       let e : info b s i ≡ before (word fleu ∷ word n ∷ []) (many n datum s (b + 4 + 1 + 1 + 2)) =
-      rw (sought s b i l, stands-num (stands-left g) (omega arith), stands-num (stands-left g1) (f .0), stands-num (stands-left g2) (omega arith), stands-num g3 (omega arith))
+      rw (sought-there s b i l, stands-num (stands-left g) (omega arith), stands-num (stands-left g1) (f .0), stands-num (stands-left g2) (omega arith), stands-num g3 (omega arith))
       (put-before (word fleu ∷ word n ∷ []) (many n datum s (b + 4 + 1 + 1 + 2)) s) in
       record { next = b + 4 + 1 + 1 + 2 + size (parts datumLay ds); here = reads-as (sym e) refl refl (reads-before (word fleu ∷ word n ∷ []) m) }
 
@@ -172,7 +167,7 @@ module _ (s : List ℕ) (short : length s ≤ 16777216) where
     where
       go : (u : Bool) → b + 32 + size (pick u (number 4 40 ⨾ number 4 total) nothing) ≤ length s → Stands s (b + 32) (pick u (number 4 40 ⨾ number 4 total) nothing)
           → given u (_>>=_ (num 4) (λ offset. seekTo (b + offset))) here s (b + 32) ≡ ok (b + pick u 40 32) (b + pick u 40 32)
-      go true l h = let k : b + 40 ≤ length s = omega arith in rw (stands-num (stands-left h) (omega arith), sought s (b + 40) (b + 32 + 4) k)
+      go true l h = let k : b + 40 ≤ length s = omega arith in rw (stands-num (stands-left h) (omega arith), sought-there s (b + 40) (b + 32 + 4) k)
       go false l h = refl
 
   zeros-before : (n : ℕ) → beforeZero (replicate n 0) ≡ 0
@@ -320,7 +315,7 @@ section-reads s r w h short =
     let lo : flagOf (get 1 s 10) ≡ r .looping = ap flagOf eb ∙ flag-own (r .looping) (f .looping) in
     let size4 : ℕ = get 4 s 4 in
     let last : (k : ℕ) → Reads s (endAt (seekTo size4 s k)) [] all =
-    λ k. reads-as (sym (ap endAt (ap (λ (m : ℕ). seekTo m s k) es ∙ sought s all k end))) refl refl (reads-none all) in
+    λ k. reads-as (sym (ap endAt (ap (λ (m : ℕ). seekTo m s k) es ∙ sought-there s all k end))) refl refl (reads-none all) in
     let cont : (j : ℕ) → contents (get 4 s 16) (get 2 s 14) s j ≡ visit 0 content (offsets contentLay (at + 4 * nc) (r .contents)) s (at + 4 * nc) =
     λ j. ap₂ (λ (a n : ℕ). contents a n s j) ea ec ∙ contents-on s at nc j at (at + 4 * nc) (seek-there s at (omega (arith, end))) (co .next) ∙ ap (λ (vs : List ℕ). visit 0 content vs s (at + 4 * nc)) (co .values) in
     let tex : visit 20 texture (numbersAt (get 2 s 12) s 20) s (20 + 4 * nt) ≡ visit 20 texture (offsets ended (4 * nt) (r .textures)) s (20 + 4 * nt) =

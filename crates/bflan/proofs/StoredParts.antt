@@ -15,6 +15,7 @@ use Rattle.core.specs.Fill.{paddingOf}
 use Rattle.core.specs.Number.{le, put}
 use Rattle.core.specs.Run.{numbersLe, pairsLe}
 use Rattle.core.proofs.Numbers.{put-put}
+use Rattle.core.proofs.Runs.{numbers-le-append}
 use Rattle.bflan.specs.declared.writer.Pen.{Pen}
 use Rattle.bflan.specs.Judge.{Judged, fine, badWord, badText, J, andThen, _>>=_, word, text, times, wide, row, target, datum, info, content, section}
 use Rattle.bflan.specs.Layout.{Layout, nothing, number, bytes, _⨾_, size, written, row as rowLay, parts, keySkip, keyLay, targetLay, ended, datumLay, infoHead, infoLay, zeros, dataOut, infosOut, tableFrom, infosFrom, userLay, contentBody, contentLay, namesEnd, contentTable, sectionSize, sectionLay}
@@ -184,14 +185,9 @@ pub record Coded (curve c m : ℕ) (enc : List ℕ → List ℕ) : Type 0 where
   more : (vs us : List ℕ) → length vs ≡ c → enc (vs ++ us) ≡ enc vs ++ enc us
   key : (vs : List ℕ) → length vs ≡ c → written (keyLay curve vs) ≡ enc vs
 
-numbers-append : (a b : List ℕ) → numbersLe (a ++ b) ≡ numbersLe a ++ numbersLe b
-unfolding numbersLe
-numbers-append [] b = refl
-numbers-append (v ∷ a) b = rw (numbers-append a b, append-assoc)
-
 coded-constant : Coded 0 1 4 numbersLe
 unfolding keyWidths keyLay keySkip rowLay size written numbersLe
-coded-constant = record { words = refl; sizes = one-size; none = refl; more = λ vs us e. numbers-append vs us; key = one-key }
+coded-constant = record { words = refl; sizes = one-size; none = refl; more = λ vs us e. numbers-le-append vs us; key = one-key }
   where
     one-size : (vs : List ℕ) → size (keyLay 0 vs) ≡ 4
     one-size [] = refl
@@ -225,7 +221,7 @@ coded-step = record { words = refl; sizes = two-size; none = refl; more = two-mo
 
 coded-hermite : Coded 2 3 12 numbersLe
 unfolding keyWidths keyLay keySkip rowLay size written numbersLe
-coded-hermite = record { words = refl; sizes = three-size; none = refl; more = λ vs us e. numbers-append vs us; key = three-key }
+coded-hermite = record { words = refl; sizes = three-size; none = refl; more = λ vs us e. numbers-le-append vs us; key = three-key }
   where
     three-size : (vs : List ℕ) → size (keyLay 2 vs) ≡ 12
     three-size [] = refl

@@ -24,37 +24,34 @@ use Rattle.bflan.specs.Letters.{targetOf}
 use Rattle.bflan.specs.Reader.{Res, ok, stop, P, andThen, ret, Item, word, seekTo, numbers, visit}
 use Rattle.bflan.specs.Reading.{curveOf, countOf, keys, target}
 use Rattle.bflan.specs.Walk.{asItems, wordsOf, sat, moved, run, told}
-use Rattle.bflan.proofs.Emits.{sought-on, sought-past}
+use Rattle.bflan.proofs.Emits.{sought-on, sought-past, sought-there, sought-over}
 use Rattle.bflan.proofs.KeyRuns.{asNumbers, num-there, num-short, keys-constant, keys-step, keys-hermite, keys-above, texts-words, words-more, texts-more, tallied-more, moved-fits}
-use Rattle.bflan.proofs.Walks.{before, joined, before-before, put-before, visit-cons, visit-nil, sets-sat}
+use Rattle.bflan.proofs.Walks.{Three, before, joined, before-before, put-before, visit-cons, visit-nil, sets-sat}
 
 -- ---- where the reading stops of a target whose twelve bytes are not all there
 
 module _ (letters base : ℕ) (s : List ℕ) (i : ℕ) where
-  seek-in : base ≤ length s → seekTo base s i ≡ ok base base
-  seek-in h = sought-on s base i base (seek-there s base h)
-
   pub target-out : length s < base → target letters base s i ≡ stop (PastEnd (length s) (base - length s))
   unfolding target
-  target-out h = rw (sought-past s base i _ _ (seek-over s base h))
+  target-out h = rw (sought-over s base i h)
 
   -- in its four single bytes
   short-1 : length s ≡ base → target letters base s i ≡ stop (PastEnd base 1)
   unfolding target
-  short-1 h = rw (seek-in (omega arith), num-short 1 s base (omega arith))
+  short-1 h = rw (sought-there s base i (omega arith), num-short 1 s base (omega arith))
 
   short-2 : length s ≡ base + 1 → target letters base s i ≡ stop (PastEnd (base + 1) 1)
   unfolding target
-  short-2 h = rw (seek-in (omega arith), num-there 1 s base (omega arith), num-short 1 s (base + 1) (omega arith))
+  short-2 h = rw (sought-there s base i (omega arith), num-there 1 s base (omega arith), num-short 1 s (base + 1) (omega arith))
 
   short-3 : length s ≡ base + 1 + 1 → target letters base s i ≡ stop (PastEnd (base + 1 + 1) 1)
   unfolding target
-  short-3 h = rw (seek-in (omega arith), num-there 1 s base (omega arith), num-there 1 s (base + 1) (omega arith), num-short 1 s (base + 1 + 1) (omega arith))
+  short-3 h = rw (sought-there s base i (omega arith), num-there 1 s base (omega arith), num-there 1 s (base + 1) (omega arith), num-short 1 s (base + 1 + 1) (omega arith))
 
   short-4 : length s ≡ base + 1 + 1 + 1 → target letters base s i ≡ stop (PastEnd (base + 1 + 1 + 1) 1)
   unfolding target
   short-4 h =
-      rw (seek-in (omega arith), num-there 1 s base (omega arith), num-there 1 s (base + 1) (omega arith), num-there 1 s (base + 1 + 1) (omega arith), num-short 1 s (base + 1 + 1 + 1) (omega arith))
+      rw (sought-there s base i (omega arith), num-there 1 s base (omega arith), num-there 1 s (base + 1) (omega arith), num-there 1 s (base + 1 + 1) (omega arith), num-short 1 s (base + 1 + 1 + 1) (omega arith))
 
   at-size : (p : ℕ) → length s ≡ p → target letters base s i ≡ stop (PastEnd p 1) → target letters base s i ≡ stop (PastEnd (length s) 1)
   at-size p h e = rw h e
@@ -88,14 +85,14 @@ module _ (letters base : ℕ) (s : List ℕ) (i : ℕ) where
   unfolding target
   target-count h l =
       let e : base + 1 + 1 + 1 + 1 ≡ base + 4 = omega arith in
-      rw (seek-in (omega arith), num-there 1 s base (omega arith), num-there 1 s (base + 1) (omega arith), num-there 1 s (base + 1 + 1) (omega arith), num-there 1 s (base + 1 + 1 + 1) (omega arith), e, num-short 2 s (base + 4) (omega arith))
+      rw (sought-there s base i (omega arith), num-there 1 s base (omega arith), num-there 1 s (base + 1) (omega arith), num-there 1 s (base + 1 + 1) (omega arith), num-there 1 s (base + 1 + 1 + 1) (omega arith), e, num-short 2 s (base + 4) (omega arith))
 
   pub target-reserve : base + 6 ≤ length s → length s < base + 8 → target letters base s i ≡ stop (PastEnd (base + 6) 2)
   unfolding target
   target-reserve h l =
       let e : base + 1 + 1 + 1 + 1 ≡ base + 4 = omega arith in
       let f : base + 4 + 2 ≡ base + 6 = omega arith in
-      rw (seek-in (omega arith), num-there 1 s base (omega arith), num-there 1 s (base + 1) (omega arith), num-there 1 s (base + 1 + 1) (omega arith), num-there 1 s (base + 1 + 1 + 1) (omega arith), e, num-there 2 s (base + 4) (omega arith), f, num-short 2 s (base + 6) (omega arith))
+      rw (sought-there s base i (omega arith), num-there 1 s base (omega arith), num-there 1 s (base + 1) (omega arith), num-there 1 s (base + 1 + 1) (omega arith), num-there 1 s (base + 1 + 1 + 1) (omega arith), e, num-there 2 s (base + 4) (omega arith), f, num-short 2 s (base + 6) (omega arith))
 
   pub target-offset : base + 8 ≤ length s → length s < base + 12 → target letters base s i ≡ stop (PastEnd (base + 8) 4)
   unfolding target
@@ -103,7 +100,7 @@ module _ (letters base : ℕ) (s : List ℕ) (i : ℕ) where
       let e : base + 1 + 1 + 1 + 1 ≡ base + 4 = omega arith in
       let f : base + 4 + 2 ≡ base + 6 = omega arith in
       let g : base + 6 + 2 ≡ base + 8 = omega arith in
-      rw (seek-in (omega arith), num-there 1 s base (omega arith), num-there 1 s (base + 1) (omega arith), num-there 1 s (base + 1 + 1) (omega arith), num-there 1 s (base + 1 + 1 + 1) (omega arith), e, num-there 2 s (base + 4) (omega arith), f, num-there 2 s (base + 6) (omega arith), g, num-short 4 s (base + 8) (omega arith))
+      rw (sought-there s base i (omega arith), num-there 1 s base (omega arith), num-there 1 s (base + 1) (omega arith), num-there 1 s (base + 1 + 1) (omega arith), num-there 1 s (base + 1 + 1 + 1) (omega arith), e, num-there 2 s (base + 4) (omega arith), f, num-there 2 s (base + 6) (omega arith), g, num-short 4 s (base + 8) (omega arith))
 
   -- with all of them there it goes on with its keys, where its offset is in the section
   pub target-on : (p : ℕ) → base + 12 ≤ length s → seekOf s (base + get 4 s (base + 8)) ≡ At p
@@ -114,7 +111,7 @@ module _ (letters base : ℕ) (s : List ℕ) (i : ℕ) where
       let e : base + 2 + 1 + 1 ≡ base + 4 = omega arith in
       let f : base + 4 + 2 ≡ base + 6 = omega arith in
       let g : base + 6 + 2 ≡ base + 8 = omega arith in
-      rw (seek-in (omega arith), num-there 1 s base (omega arith), num-there 1 s (base + 1) (omega arith), d, num-there 1 s (base + 2) (omega arith), num-there 1 s (base + 2 + 1) (omega arith), e, num-there 2 s (base + 4) (omega arith), f, num-there 2 s (base + 6) (omega arith), g, num-there 4 s (base + 8) (omega arith), sought-on s (base + get 4 s (base + 8)) (base + 8 + 4) p k)
+      rw (sought-there s base i (omega arith), num-there 1 s base (omega arith), num-there 1 s (base + 1) (omega arith), d, num-there 1 s (base + 2) (omega arith), num-there 1 s (base + 2 + 1) (omega arith), e, num-there 2 s (base + 4) (omega arith), f, num-there 2 s (base + 6) (omega arith), g, num-there 4 s (base + 8) (omega arith), sought-on s (base + get 4 s (base + 8)) (base + 8 + 4) p k)
 
   pub target-past : (o k : ℕ) → base + 12 ≤ length s → seekOf s (base + get 4 s (base + 8)) ≡ SoughtPast o k → target letters base s i ≡ stop (PastEnd o k)
   unfolding target
@@ -123,7 +120,7 @@ module _ (letters base : ℕ) (s : List ℕ) (i : ℕ) where
       let e : base + 2 + 1 + 1 ≡ base + 4 = omega arith in
       let f : base + 4 + 2 ≡ base + 6 = omega arith in
       let g : base + 6 + 2 ≡ base + 8 = omega arith in
-      rw (seek-in (omega arith), num-there 1 s base (omega arith), num-there 1 s (base + 1) (omega arith), d, num-there 1 s (base + 2) (omega arith), num-there 1 s (base + 2 + 1) (omega arith), e, num-there 2 s (base + 4) (omega arith), f, num-there 2 s (base + 6) (omega arith), g, num-there 4 s (base + 8) (omega arith), sought-past s (base + get 4 s (base + 8)) (base + 8 + 4) o k z)
+      rw (sought-there s base i (omega arith), num-there 1 s base (omega arith), num-there 1 s (base + 1) (omega arith), d, num-there 1 s (base + 2) (omega arith), num-there 1 s (base + 2 + 1) (omega arith), e, num-there 2 s (base + 4) (omega arith), f, num-there 2 s (base + 6) (omega arith), g, num-there 4 s (base + 8) (omega arith), sought-past s (base + get 4 s (base + 8)) (base + 8 + 4) o k z)
 
   -- the same with the fields as code has them
   pub target-fields : (p : ℕ) {layer raw curve n : ℕ} → base + 12 ≤ length s → seekOf s (base + get 4 s (base + 8)) ≡ At p
@@ -255,9 +252,6 @@ wordy-target letters base s i = start (leb base (length s)) refl
 abbrev kept : Walk → List ℕ → List ℕ
 kept (On t p) x = x
 kept (No f) x = []
-
-abbrev Three : Type 0
-Three = Walk × List ℕ × List ℕ
 
 abbrev over : List ℕ → Three → Three
 over x z = (z .0, z .1, kept (z .0) x)

@@ -25,7 +25,7 @@ use Rattle.bflan.specs.Places.{Spot, nowhere, spot, widths, total, fitWidths, a
 use Rattle.bflan.specs.Reader.{Res, ok, stop, Item}
 use Rattle.bflan.specs.Reading.{section}
 use Rattle.bflan.specs.Record.{keyWidths}
-use Rattle.bflan.proofs.Fields.{and-left}
+use Rattle.bflan.proofs.Fields.{unlike, and-left}
 use Rattle.bflan.specs.declared.fault.Fault.{Fault}
 use Rattle.bflan.specs.declared.place.Field.{Field}
 use Rattle.bflan.specs.declared.place.Field.the-variants.{FrameCount, Looping, Layer, Target, Key, Value}
@@ -43,9 +43,6 @@ use Rattle.edit.specs.Journal.{entryWords, capacity, padded, entryOf, fi
 use Rattle.edit.specs.Packing.{unpacked, packed, entryList, readValue, valuesIn, packedOf, oneMost}
 use Rattle.edit.proofs.Calls.{size-some}
 use Rattle.edit.proofs.Entries.{field-size}
-
-unlike : _≡_ {A = Bool} false true → ⊥
-unlike e = let z : _≡_ {A = ℕ} 0 1 = cc in omega arith
 
 -- ---- which values a field takes
 

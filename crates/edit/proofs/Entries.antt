@@ -8,7 +8,7 @@ use native.Mathlib.Omega.{arith}
 use borrow.Author.Tests.{le-leb}
 use lib.ListN.{length, set, take, drop, replicate, length-append, length-drop, length-replicate, take-append-drop}
 use lib.Seq.{sets, length-sets, sets-eq, take-at, drop-at, take-all, drop-drop, length-take-le, take-set-le, drop-set-lt}
-use Rattle.core.proofs.Numbers.{Bytes, bytes-take, bytes-drop, bytes-append, le-get, sets-read}
+use Rattle.core.proofs.Numbers.{Bytes, bytes-take, bytes-drop, bytes-append, bytes-zeros, le-get, sets-read}
 use Rattle.core.proofs.Stores.{sets-sets}
 use Rattle.bflan.specs.Places.{widths, total}
 use Rattle.bflan.specs.Record.{keyWidths}
@@ -68,11 +68,6 @@ module _ (j e : List ℕ) (n : ℕ) where
   entry-below m h = part-sets entryWords (entryWords * m) j (entryWords * n) e (omega arith)
 
 -- ---- the old bytes in an entry
-
-bytes-zeros : (n : ℕ) → Bytes (replicate n 0)
-bytes-zeros zero i = omega arith
-bytes-zeros (suc n) zero = omega arith
-bytes-zeros (suc n) (suc i) = bytes-zeros n i
 
 zeros-zero : (n : ℕ) → allZero (replicate n 0) ≡ true
 unfolding allZero
