@@ -28,7 +28,7 @@ use Rattle.bflan.proofs.Codes.{fleu-lt, fit-lt, letters-own}
 use Rattle.bflan.proofs.Layouts.{size-written, size-row, Stands, stands-left, stands-right, stands-to, stands-all, stands-get, size-table, user-size}
 use Rattle.bflan.proofs.ReadBack.{Reads, reads-as, reads-none, reads-joined, ReadsPart}
 use Rattle.bflan.proofs.Replacing.{Replaces, replaces-to, replaces-left, replaces-right, replaces-whole, replaces-number, length-row, length-changed, no-element, ahead, ahead-even, table-entry, Element, element}
-use Rattle.bflan.proofs.RoundTrip.{datum-reads, content-stands}
+use Rattle.bflan.proofs.RoundTrip.{datum-reads, content-stands, section-stands}
 use Rattle.bflan.proofs.TargetParts.{curve-low, count-low}
 use Rattle.bflan.proofs.Walks.{many-suc}
 
@@ -396,33 +396,13 @@ record Section (s : List ℕ) (r : PaneAnimInfo) : Type 0 where
 
 module _ (s : List ℕ) (short : length s ≤ 16777216) (r : PaneAnimInfo) (f : Fine r) where
   section-there : Stands s 0 (sectionLay r) → Section s r
-  unfolding sectionLay contentTable sectionSize namesEnd size
   section-there h =
-      let h1 = stands-right h in
-      let h2 = stands-right h1 in
-      let h3 = stands-right h2 in
-      let h4 = stands-right h3 in
-      let h5 = stands-right h4 in
-      let h6 = stands-right h5 in
-      let h7 = stands-right h6 in
-      let h8 = stands-right h7 in
-      let h9 = stands-right h8 in
-      let h10 = stands-right h9 in
-      let h11 = stands-right h10 in
-      let h12 = stands-right h11 in
-      let nt : ℕ = length (r .textures) in
-      let nc : ℕ = length (r .contents) in
-      let ne : ℕ = 20 + (4 * nt + size (parts ended (r .textures))) in
-      let at : ℕ = ne + paddingOf ne in
-      let z : length (replicate {A = ℕ} (paddingOf ne) 0) ≡ paddingOf ne = length-replicate (paddingOf ne) 0 in
-      let lt : size (table ended (4 * nt) (r .textures)) ≡ 4 * nt = size-table ended (4 * nt) (r .textures) in
-      let lc : size (table contentLay (at + 4 * nc) (r .contents)) ≡ 4 * nc = size-table contentLay (at + 4 * nc) (r .contents) in
-      let g11 : Stands s at (table contentLay (at + 4 * nc) (r .contents)) = stands-to (stands-left h11) (omega (arith, lt, z)) in
+      let g = section-stands s r h in
       record {
-        count = stands-get (stands-left h6) (f .contentCount);
-        start = stands-get (stands-left h7) (omega (arith, g11 .fits));
-        offsets = g11;
-        contents = stands-to h12 (omega (arith, lt, lc, z));
+        count = stands-get (g .contentCount) (f .contentCount);
+        start = stands-get (g .start) (omega (arith, g .offsets .fits));
+        offsets = g .offsets;
+        contents = g .contents;
       }
 
   module _ (c : ℕ) (look : ℕ → Spot) (say : AnimContent → Found) (up : List ℕ → AnimContent → AnimContent)

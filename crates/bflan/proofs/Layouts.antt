@@ -7,14 +7,16 @@ use mathlib.Core.List.{List, [], _∷_, _++_}
 use native.Mathlib.Nat.{add-zero}
 use native.Mathlib.Omega.{arith}
 use lib.Dec.{eqb}
-use lib.ListN.{length, take, drop, length-append}
+use lib.ListN.{length, take, drop, replicate, length-append, length-replicate}
 use lib.Seq.{take-take, take-append-seam, drop-drop, take-add, take-length, drop-at}
 use Rattle.core.specs.Choice.{pick}
+use Rattle.core.specs.Fill.{paddingOf}
 use Rattle.core.specs.Number.{get}
 use Rattle.core.proofs.Numbers.{length-le, val-le}
-use Rattle.bflan.specs.Layout.{Layout, nothing, number, bytes, _⨾_, size, written, row, parts, table, tableFrom, userLay}
+use Rattle.bflan.specs.Layout.{Layout, nothing, number, bytes, _⨾_, size, written, row, parts, table, ended, tableFrom, userLay, contentLay, namesEnd, contentTable, sectionSize, sectionLay}
 use Rattle.bflan.specs.Places.{total}
 use Rattle.bflan.specs.Reader.{ok, num, numbers}
+use Rattle.bflan.specs.Record.{PaneAnimInfo}
 use Rattle.bflan.proofs.KeyRuns.{num-there}
 
 pub size-written : (l : Layout) → length (written l) ≡ size l
@@ -107,3 +109,16 @@ user-size type total = go (eqb type 2)
     go : (b : Bool) → 32 + size (pick b (number 4 40 ⨾ number 4 total) nothing) ≡ pick b 40 32
     go true = refl
     go false = refl
+
+-- a section's size is the number that stands in it
+pub section-size : (r : PaneAnimInfo) → size (sectionLay r) ≡ sectionSize r
+unfolding sectionLay sectionSize contentTable namesEnd size
+section-size r =
+    let nt : ℕ = length (r .textures) in
+    let nc : ℕ = length (r .contents) in
+    let ne : ℕ = 20 + (4 * nt + size (parts ended (r .textures))) in
+    let at : ℕ = ne + paddingOf ne in
+    let z : length (replicate {A = ℕ} (paddingOf ne) 0) ≡ paddingOf ne = length-replicate (paddingOf ne) 0 in
+    let lt : size (table ended (4 * nt) (r .textures)) ≡ 4 * nt = size-table ended (4 * nt) (r .textures) in
+    let lc : size (table contentLay (at + 4 * nc) (r .contents)) ≡ 4 * nc = size-table contentLay (at + 4 * nc) (r .contents) in
+    omega (arith, z, lt, lc)

@@ -36,7 +36,7 @@ use Rattle.bflan.proofs.ContentParts.{nameSize, contentRest, content-th
 use Rattle.bflan.proofs.Emits.{sought-there, ended-on, shown-part}
 use Rattle.bflan.proofs.KeyRuns.{asNumbers, numbers-run}
 use Rattle.bflan.proofs.SectionParts.{endAt, headWords, section-body, body-there, contents-on}
-use Rattle.bflan.proofs.Layouts.{Stands, stands-left, stands-right, stands-to, stands-all, stands-num, stands-get, size-table, size-written, offsets, table-reads, user-size}
+use Rattle.bflan.proofs.Layouts.{Stands, stands-left, stands-right, stands-to, stands-all, stands-num, stands-get, size-table, size-written, offsets, table-reads, user-size, section-size}
 use Rattle.bflan.proofs.ReadBack.{shownIn, Reads, reads-as, reads-none, reads-before, reads-joined, ReadsPart, ReadsAt, many-reads, visit-reads, key-reads, shown-words, words-shown, texts-shown}
 use Rattle.bflan.proofs.TargetParts.{curve-low, count-low}
 use Rattle.bflan.proofs.Walks.{before, joined, put-before}
@@ -270,9 +270,23 @@ flag-own zero h = refl
 flag-own (suc zero) h = refl
 flag-own (suc (suc b)) h = absurd (omega arith)
 
-pub section-reads : (s : List ℕ) (r : PaneAnimInfo) → Within r → Stands s 0 (sectionLay r) → length s ≤ 16777216 → Reads s (section s 0) (cells r) (size (sectionLay r))
-unfolding sectionLay cells size contentTable sectionSize namesEnd shownIn
-section-reads s r w h short =
+-- a section that stands: each of its fields, at its place
+pub record StandsSection (s : List ℕ) (r : PaneAnimInfo) : Type 0 where
+  pub letters : Stands s 0 (number 4 pai1)
+  pub whole : Stands s 4 (number 4 (sectionSize r))
+  pub frames : Stands s 8 (number 2 (r .frames))
+  pub looping : Stands s 10 (number 1 (r .looping))
+  pub textureCount : Stands s 12 (number 2 (length (r .textures)))
+  pub contentCount : Stands s 14 (number 2 (length (r .contents)))
+  pub start : Stands s 16 (number 4 (contentTable r))
+  pub nameOffsets : Stands s 20 (table ended (4 * length (r .textures)) (r .textures))
+  pub names : Stands s (20 + 4 * length (r .textures)) (parts ended (r .textures))
+  pub offsets : Stands s (contentTable r) (table contentLay (contentTable r + 4 * length (r .contents)) (r .contents))
+  pub contents : Stands s (contentTable r + 4 * length (r .contents)) (parts contentLay (r .contents))
+
+pub section-stands : (s : List ℕ) (r : PaneAnimInfo) → Stands s 0 (sectionLay r) → StandsSection s r
+unfolding sectionLay contentTable sectionSize namesEnd size
+section-stands s r h =
     let h1 = stands-right h in
     let h2 = stands-right h1 in
     let h3 = stands-right h2 in
@@ -285,32 +299,50 @@ section-reads s r w h short =
     let h10 = stands-right h9 in
     let h11 = stands-right h10 in
     let h12 = stands-right h11 in
-    let f : Fine r = w .fine in
     let nt : ℕ = length (r .textures) in
     let nc : ℕ = length (r .contents) in
     let ne : ℕ = 20 + (4 * nt + size (parts ended (r .textures))) in
     let at : ℕ = ne + paddingOf ne in
-    let all : ℕ = at + (4 * nc + size (parts contentLay (r .contents))) in
     let z : length (replicate {A = ℕ} (paddingOf ne) 0) ≡ paddingOf ne = length-replicate (paddingOf ne) 0 in
     let lt : size (table ended (4 * nt) (r .textures)) ≡ 4 * nt = size-table ended (4 * nt) (r .textures) in
     let lc : size (table contentLay (at + 4 * nc) (r .contents)) ≡ 4 * nc = size-table contentLay (at + 4 * nc) (r .contents) in
-    let g8 : Stands s 20 (table ended (4 * nt) (r .textures)) = stands-to (stands-left h8) (omega arith) in
-    let g9 : Stands s (20 + 4 * nt) (parts ended (r .textures)) = stands-to (stands-left h9) (omega (arith, lt)) in
-    let g11 : Stands s at (table contentLay (at + 4 * nc) (r .contents)) = stands-to (stands-left h11) (omega (arith, lt, z)) in
-    let g12 : Stands s (0 + (at + 4 * nc)) (parts contentLay (r .contents)) = stands-to h12 (omega (arith, lt, lc, z)) in
-    let end : all ≤ length s = omega (arith, g12 .fits) in
-    let b8 : 8 ≤ length s = omega (arith, g11 .fits) in
-    let b20 : 20 ≤ length s = omega (arith, g11 .fits) in
-    let el : get 4 s 0 ≡ pai1 = stands-get (stands-left h) (omega arith) in
-    let es : get 4 s 4 ≡ all = stands-get (stands-left h1) (omega (arith, end)) in
-    let ef : get 2 s 8 ≡ r .frames = stands-get (stands-left h2) (f .frames) in
-    let eb : get 1 s 10 ≡ r .looping = stands-get (stands-left h3) (omega (arith, f .looping)) in
-    let et : get 2 s 12 ≡ nt = stands-get (stands-left h5) (f .textureCount) in
-    let ec : get 2 s 14 ≡ nc = stands-get (stands-left h6) (f .contentCount) in
-    let ea : get 4 s 16 ≡ at = stands-get (stands-left h7) (omega (arith, end)) in
-    let to = run-there nt s 20 _ _ (table-reads ended s 20 (4 * nt) (r .textures) (omega (arith, g9 .fits)) g8) in
-    let co = run-there nc s at _ _ (table-reads contentLay s at (at + 4 * nc) (r .contents) (omega (arith, g12 .fits)) g11) in
-    let tv = visit-reads ended textureCells FineText s texture (texture-reads s) 20 (4 * nt) (20 + 4 * nt) (r .textures) (f .textures) g9 in
+    record {
+      letters = stands-left h;
+      whole = stands-left h1;
+      frames = stands-left h2;
+      looping = stands-left h3;
+      textureCount = stands-left h5;
+      contentCount = stands-left h6;
+      start = stands-left h7;
+      nameOffsets = stands-left h8;
+      names = stands-to (stands-left h9) (omega (arith, lt));
+      offsets = stands-to (stands-left h11) (omega (arith, lt, z));
+      contents = stands-to h12 (omega (arith, lt, lc, z));
+    }
+
+pub section-reads : (s : List ℕ) (r : PaneAnimInfo) → Within r → Stands s 0 (sectionLay r) → length s ≤ 16777216 → Reads s (section s 0) (cells r) (size (sectionLay r))
+unfolding sectionLay cells size contentTable sectionSize namesEnd shownIn
+section-reads s r w h short =
+    let g = section-stands s r h in
+    let f : Fine r = w .fine in
+    let nt : ℕ = length (r .textures) in
+    let nc : ℕ = length (r .contents) in
+    let at : ℕ = contentTable r in
+    let all : ℕ = sectionSize r in
+    let g12 : Stands s (0 + (at + 4 * nc)) (parts contentLay (r .contents)) = stands-to (g .contents) (omega arith) in
+    let end : all ≤ length s = omega (arith, g .contents .fits) in
+    let b8 : 8 ≤ length s = omega (arith, g .offsets .fits) in
+    let b20 : 20 ≤ length s = omega (arith, g .offsets .fits) in
+    let el : get 4 s 0 ≡ pai1 = stands-get (g .letters) (omega arith) in
+    let es : get 4 s 4 ≡ all = stands-get (g .whole) (omega (arith, end)) in
+    let ef : get 2 s 8 ≡ r .frames = stands-get (g .frames) (f .frames) in
+    let eb : get 1 s 10 ≡ r .looping = stands-get (g .looping) (omega (arith, f .looping)) in
+    let et : get 2 s 12 ≡ nt = stands-get (g .textureCount) (f .textureCount) in
+    let ec : get 2 s 14 ≡ nc = stands-get (g .contentCount) (f .contentCount) in
+    let ea : get 4 s 16 ≡ at = stands-get (g .start) (omega (arith, end)) in
+    let to = run-there nt s 20 _ _ (table-reads ended s 20 (4 * nt) (r .textures) (omega (arith, g .names .fits)) (g .nameOffsets)) in
+    let co = run-there nc s at _ _ (table-reads contentLay s at (at + 4 * nc) (r .contents) (omega (arith, g .contents .fits)) (g .offsets)) in
+    let tv = visit-reads ended textureCells FineText s texture (texture-reads s) 20 (4 * nt) (20 + 4 * nt) (r .textures) (f .textures) (g .names) in
     let cv = visit-reads contentLay contentCells FineContent s content (content-reads s short) 0 (at + 4 * nc) (at + 4 * nc) (r .contents) (f .contents) g12 in
     let lo : flagOf (get 1 s 10) ≡ r .looping = ap flagOf eb ∙ flag-own (r .looping) (f .looping) in
     let size4 : ℕ = get 4 s 4 in
@@ -324,7 +356,7 @@ section-reads s r w h short =
     reads-joined (λ j. joined (contents (get 4 s 16) (get 2 s 14) s j) (λ k. endAt (seekTo size4 s k))) (reads-as (sym tex) refl refl (tv .here))
     (reads-joined (λ k. endAt (seekTo size4 s k)) (reads-as (sym (cont (tv .next))) refl refl (cv .here)) (last (cv .next))) in
     let nx : numbersOf (get 2 s 12) s 20 ≡ Next (20 + 4 * nt) = ap (λ (n : ℕ). numbersOf n s 20) et ∙ to .next in
-    reads-as (sym (section-body s b8 el ∙ body-there s size4 b20 (20 + 4 * nt) nx)) (rw (ef, lo, et, ec, append-nil)) (omega (arith, lt, lc, z)) (reads-before (headWords s size4) tail)
+    reads-as (sym (section-body s b8 el ∙ body-there s size4 b20 (20 + 4 * nt) nx)) (rw (ef, lo, et, ec, append-nil)) (sym (section-size r)) (reads-before (headWords s size4) tail)
 
 -- the record that was written, read again: its words, its texts, and the end
 pub record ReadsBack (s : List ℕ) (r : PaneAnimInfo) : Type 0 where

@@ -25,7 +25,7 @@ use Rattle.bflan.specs.Reading.{pai1}
 use Rattle.bflan.specs.Record.{ExtendedUserDataAnim, AnimInfo, Standard, ExtendedUserData, AnimContent, keyWidths}
 use Rattle.bflan.specs.Stored.{Ready, laid, behind, listed, targetHead, datumHead, datumFront, nameLay, bodyLay, frameLay, namesLay, outOf, outBy}
 use Rattle.bflan.proofs.Inversion.{TextAt, text-at, times-none, times-more, times-length, WordsAt, row-at, DatumAt, datum-at, info-at, info-extended, info-standard, ContentAt, content-at, SectionAt, section-at, TargetAt, target-at}
-use Rattle.bflan.proofs.Layouts.{size-written}
+use Rattle.bflan.proofs.Layouts.{size-written, section-size}
 use Rattle.bflan.proofs.Measures.{size-parts, size-numbers}
 use Rattle.bflan.proofs.Storing.{laid-fine, behind-fine, listed-size, Wrote, wrote-number, wrote-bytes, wrote-then, wrote-like, wrote-patched, Splits, split-behind, head-ready, head-done, whole-laid, whole-behind, like-ready, like-behind, like-laid}
 
@@ -862,11 +862,6 @@ module _ (w x : List ℕ) {most : ℕ} (h : Ready sectionLay (section w x 0 0) 0
   unfolding sectionSize
   contents-end = ap (λ (k : ℕ). contentTable (h .value) + k) (listed-size contentLay (contentTable (h .value) + 4 * length cs) cs)
 
-  section-size : size (sectionLay (h .value)) ≡ sectionSize (h .value)
-  unfolding frameLay size
-  section-size = sym (size-written (sectionLay (h .value))) ∙ ap length (sym pieces) ∙ size-written (number 4 pai1 ⨾ number 4 (sectionSize (h .value)) ⨾ frameLay (h .value .frames) (h .value .looping) (length ts) (length cs)
-      ⨾ number 4 (contentTable (h .value)) ⨾ namesLay ts ⨾ listed contentLay (contentTable (h .value) + 4 * length cs) cs) ∙ omega (arith, names-end, contents-end)
-
   module _ (n : ℕ) (en : n ≡ getD w 2 0) where
     names-judged : times n (text (wide 4)) w x 4 0 ≡ fine ts (at .word) (at .byte)
     names-judged = rw en (at .textures)
@@ -878,8 +873,8 @@ module _ (w x : List ℕ) {most : ℕ} (h : Ready sectionLay (section w x 0 0) 0
           word = at .word;
           byte = at .byte;
           judged = names-judged;
-          room = omega (arith, names-end, contents-end, section-size, h .room);
-          short = omega (arith, names-end, contents-end, section-size, h .short);
+          room = omega (arith, names-end, contents-end, section-size (h .value), h .room);
+          short = omega (arith, names-end, contents-end, section-size (h .value), h .short);
         }
 
     module _ (q : Pen) (eq : q ≡ behind namesLay (times n (text (wide 4)) w x 4 0) 20) (k : ℕ) (ek : k ≡ getD w 3 0) where
@@ -902,8 +897,8 @@ module _ (w x : List ℕ) {most : ℕ} (h : Ready sectionLay (section w x 0 0) 0
             word = h .word;
             byte = h .byte;
             judged = contents-judged;
-            room = rw (from, table-at) (omega (arith, contents-end, section-size, h .room));
-            short = rw (from, table-at) (omega (arith, contents-end, section-size, h .short));
+            room = rw (from, table-at) (omega (arith, contents-end, section-size (h .value), h .room));
+            short = rw (from, table-at) (omega (arith, contents-end, section-size (h .value), h .short));
           }
 
       pub section-done : (l0 : List ℕ) {l1 l2 l3 l4 l5 l6 : List ℕ} {e : Pen} {p s : ℕ}
