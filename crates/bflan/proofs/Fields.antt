@@ -11,21 +11,20 @@ use lib.Dec.{eqb, ltb}
 use lib.ListN.{length, take, replicate, length-replicate}
 use lib.Seq.{sets}
 use Rattle.core.specs.Choice.{pick}
-use Rattle.core.specs.Fill.{paddingOf}
 use Rattle.core.specs.Number.{get}
 use Rattle.bflan.specs.declared.place.Place.{Place}
 use Rattle.bflan.specs.declared.place.Place.the-variants.{FrameCount, Looping, Layer, Target, Key, Value}
 use Rattle.bflan.specs.declared.place.Field.{Field}
 use Rattle.bflan.specs.declared.place.Field.the-variants.{FrameCount as framesField, Looping as loopingField, Layer as layerField, Target as numberField, Key as keyField, Value as valueField}
 use Rattle.bflan.specs.Letters.{fleu, lettersOf}
-use Rattle.bflan.specs.Layout.{Layout, nothing, number, _⨾_, size, written, row, parts, table, keySkip, keyLay, targetLay, ended, datumLay, infoHead, infoLay, dataOut, infosOut, tableFrom, infosFrom, userLay, contentBody, contentLay, namesEnd, contentTable, sectionSize, sectionLay}
+use Rattle.bflan.specs.Layout.{Layout, nothing, number, _⨾_, size, written, row, parts, table, keySkip, keyLay, targetLay, datumLay, infoHead, infoLay, dataOut, infosOut, tableFrom, infosFrom, userLay, contentBody, contentLay, namesEnd, contentTable, sectionSize, sectionLay}
 use Rattle.bflan.specs.Limits.{All, Fits, FineTarget, FineDatum, FineInfo, FineContent, Fine, Within}
 use Rattle.bflan.specs.Places.{widths, total, fitWidths, first, allowed, fit, Spot, nowhere, spot, stride, keyIn, valueIn, after, targetIn, datumIn, infoTableIn, infoIn, contentIn, locate, ofElement, changed, Found, missing, found, targetOf, datumOf, infoOf, fieldOf, onTarget, onDatum, onContent, onInfo, replaced}
 use Rattle.bflan.specs.Reader.{P, Item, many}
 use Rattle.bflan.specs.Reading.{datum}
 use Rattle.bflan.specs.Record.{AnimTarget, ExtendedUserDataAnim, AnimInfo, Standard, ExtendedUserData, AnimContent, PaneAnimInfo, keyWidths, Cell, each, datumCells}
 use Rattle.bflan.proofs.Codes.{fleu-lt, fit-lt, letters-own}
-use Rattle.bflan.proofs.Layouts.{size-written, size-row, Stands, stands-left, stands-right, stands-to, stands-all, stands-get, size-table, user-size}
+use Rattle.bflan.proofs.Layouts.{size-written, size-row, Stands, stands-left, stands-right, stands-to, stands-all, stands-get, size-table, user-size, section-sizes}
 use Rattle.bflan.proofs.ReadBack.{Reads, reads-as, reads-none, reads-joined, ReadsPart}
 use Rattle.bflan.proofs.Replacing.{Replaces, replaces-to, replaces-left, replaces-right, replaces-whole, replaces-number, length-row, length-changed, no-element, ahead, ahead-even, table-entry, Element, element}
 use Rattle.bflan.proofs.RoundTrip.{datum-reads, content-stands, section-stands}
@@ -376,16 +375,10 @@ section-replaces : (r : PaneAnimInfo) (c : ℕ) (g : AnimContent → AnimContent
 unfolding sectionLay contentTable sectionSize namesEnd size
 section-replaces r c g el bs o q =
     let p = el .replaces g bs o q in
-    let nt : ℕ = length (r .textures) in
-    let nc : ℕ = length (r .contents) in
-    let ne : ℕ = 20 + (4 * nt + size (parts ended (r .textures))) in
-    let at : ℕ = ne + paddingOf ne in
-    let z : length (replicate {A = ℕ} (paddingOf ne) 0) ≡ paddingOf ne = length-replicate (paddingOf ne) 0 in
-    let lt : size (table ended (4 * nt) (r .textures)) ≡ 4 * nt = size-table ended (4 * nt) (r .textures) in
-    let lc : size (table contentLay (at + 4 * nc) (r .contents)) ≡ 4 * nc = size-table contentLay (at + 4 * nc) (r .contents) in
-    rw (length-changed, ← p .same, el .tabled g (at + 4 * nc) (q .same))
+    let z = section-sizes r in
+    rw (length-changed, ← p .same, el .tabled g (contentTable r + 4 * length (r .contents)) (q .same))
     (replaces-to (replaces-right _ (replaces-right _ (replaces-right _ (replaces-right _ (replaces-right _ (replaces-right _ (replaces-right _ (replaces-right _ (replaces-right _ (replaces-right _ (replaces-right _ (replaces-right _ p))))))))))))
-    (omega (arith, z, lt, lc)))
+    (omega (arith, z .offsets, z .fill, z .contentOffsets)))
 
 -- what a section's head says, and where its contents stand
 record Section (s : List ℕ) (r : PaneAnimInfo) : Type 0 where

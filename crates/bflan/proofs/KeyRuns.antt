@@ -19,7 +19,7 @@ use Rattle.bflan.specs.declared.fault.Fault.the-variants.{PastEnd}
 use Rattle.bflan.specs.declared.tally.Tally.{Tally}
 use Rattle.bflan.specs.declared.tally.Walk.{Walk}
 use Rattle.bflan.specs.declared.tally.Walk.the-variants.{On, No}
-use Rattle.bflan.specs.Reader.{Res, ok, stop, P, andThen, _>>=_, ret, Item, word, num, skip, numbers, many}
+use Rattle.bflan.specs.Reader.{Res, ok, stop, P, andThen, ret, Item, word, num, skip, numbers, many}
 use Rattle.bflan.specs.Reading.{keyOf, curveOf, countOf, keys}
 use Rattle.bflan.specs.Walk.{asItems, wordsOf, textsOf, sat, moved, tallied, afterRun, run, told}
 use Rattle.bflan.proofs.Walks.{before, joined, before-nil, put-before, many-suc, told-ok}
@@ -34,6 +34,10 @@ asNumbers (Cut o k) vs = stop (PastEnd o k)
 pub num-there : (k : ℕ) (s : List ℕ) (p : ℕ) → p + k ≤ length s → num k s p ≡ ok (get k s p) (p + k)
 unfolding num
 num-there k s p h = rw (read-there k s p h)
+
+-- the same, with the place behind it by its name
+pub num-to : (k : ℕ) (s : List ℕ) (p q : ℕ) → p + k ≡ q → q ≤ length s → num k s p ≡ ok (get k s p) q
+num-to k s p q e h = num-there k s p (omega arith) ∙ ap (ok (get k s p)) e
 
 pub num-short : (k : ℕ) (s : List ℕ) (p : ℕ) → length s < p + k → num k s p ≡ stop (PastEnd p k)
 unfolding num

@@ -7,13 +7,13 @@ use mathlib.Core.List.{List, [], _∷_, _++_}
 use native.Mathlib.Nat.{add-zero}
 use native.Mathlib.Omega.{arith}
 use lib.Dec.{eqb}
-use lib.ListN.{length, take, drop, replicate, length-append, length-replicate}
+use lib.ListN.{length, take, drop, length-append, length-replicate}
 use lib.Seq.{take-take, take-append-seam, drop-drop, take-add, take-length, drop-at}
 use Rattle.core.specs.Choice.{pick}
 use Rattle.core.specs.Fill.{paddingOf}
 use Rattle.core.specs.Number.{get}
 use Rattle.core.proofs.Numbers.{length-le, val-le}
-use Rattle.bflan.specs.Layout.{Layout, nothing, number, bytes, _⨾_, size, written, row, parts, table, ended, tableFrom, userLay, contentLay, namesEnd, contentTable, sectionSize, sectionLay}
+use Rattle.bflan.specs.Layout.{Layout, nothing, number, bytes, _⨾_, size, written, zeros, row, parts, table, ended, tableFrom, userLay, contentLay, namesEnd, contentTable, sectionSize, sectionLay}
 use Rattle.bflan.specs.Places.{total}
 use Rattle.bflan.specs.Reader.{ok, num, numbers}
 use Rattle.bflan.specs.Record.{PaneAnimInfo}
@@ -110,15 +110,17 @@ user-size type total = go (eqb type 2)
     go true = refl
     go false = refl
 
--- a section's size is the number that stands in it
+-- the parts of a section whose sizes its layout does not show
+pub record SectionSizes (r : PaneAnimInfo) : Type 0 where
+  pub offsets : size (table ended (4 * length (r .textures)) (r .textures)) ≡ 4 * length (r .textures)
+  pub fill : size (zeros (paddingOf (namesEnd r))) ≡ paddingOf (namesEnd r)
+  pub contentOffsets : size (table contentLay (contentTable r + 4 * length (r .contents)) (r .contents)) ≡ 4 * length (r .contents)
+
+pub section-sizes : (r : PaneAnimInfo) → SectionSizes r
+unfolding size
+section-sizes r = record { offsets = size-table ended _ _; fill = length-replicate _ 0; contentOffsets = size-table contentLay _ _ }
+
+-- its size is the number that stands in it
 pub section-size : (r : PaneAnimInfo) → size (sectionLay r) ≡ sectionSize r
 unfolding sectionLay sectionSize contentTable namesEnd size
-section-size r =
-    let nt : ℕ = length (r .textures) in
-    let nc : ℕ = length (r .contents) in
-    let ne : ℕ = 20 + (4 * nt + size (parts ended (r .textures))) in
-    let at : ℕ = ne + paddingOf ne in
-    let z : length (replicate {A = ℕ} (paddingOf ne) 0) ≡ paddingOf ne = length-replicate (paddingOf ne) 0 in
-    let lt : size (table ended (4 * nt) (r .textures)) ≡ 4 * nt = size-table ended (4 * nt) (r .textures) in
-    let lc : size (table contentLay (at + 4 * nc) (r .contents)) ≡ 4 * nc = size-table contentLay (at + 4 * nc) (r .contents) in
-    omega (arith, z, lt, lc)
+section-size r = let z = section-sizes r in omega (arith, z .offsets, z .fill, z .contentOffsets)

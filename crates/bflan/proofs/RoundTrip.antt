@@ -11,7 +11,6 @@ use lib.Dec.{eqb}
 use lib.ListN.{length, take, drop, replicate, length-replicate, take-append-drop}
 use lib.Seq.{slice, take-add, drop-drop}
 use Rattle.core.specs.Choice.{pick}
-use Rattle.core.specs.Fill.{paddingOf}
 use Rattle.core.specs.Number.{le, get, val}
 use Rattle.core.specs.Run.{numbersAt, numbersOf}
 use Rattle.core.specs.declared.run.Run.{Run}
@@ -36,7 +35,7 @@ use Rattle.bflan.proofs.ContentParts.{nameSize, contentRest, content-th
 use Rattle.bflan.proofs.Emits.{sought-there, ended-on, shown-part}
 use Rattle.bflan.proofs.KeyRuns.{asNumbers, numbers-run}
 use Rattle.bflan.proofs.SectionParts.{endAt, headWords, section-body, body-there, contents-on}
-use Rattle.bflan.proofs.Layouts.{Stands, stands-left, stands-right, stands-to, stands-all, stands-num, stands-get, size-table, size-written, offsets, table-reads, user-size, section-size}
+use Rattle.bflan.proofs.Layouts.{Stands, stands-left, stands-right, stands-to, stands-all, stands-num, stands-get, size-table, size-written, offsets, table-reads, user-size, section-sizes, section-size}
 use Rattle.bflan.proofs.ReadBack.{shownIn, Reads, reads-as, reads-none, reads-before, reads-joined, ReadsPart, ReadsAt, many-reads, visit-reads, key-reads, shown-words, words-shown, texts-shown}
 use Rattle.bflan.proofs.TargetParts.{curve-low, count-low}
 use Rattle.bflan.proofs.Walks.{before, joined, put-before}
@@ -299,13 +298,7 @@ section-stands s r h =
     let h10 = stands-right h9 in
     let h11 = stands-right h10 in
     let h12 = stands-right h11 in
-    let nt : ℕ = length (r .textures) in
-    let nc : ℕ = length (r .contents) in
-    let ne : ℕ = 20 + (4 * nt + size (parts ended (r .textures))) in
-    let at : ℕ = ne + paddingOf ne in
-    let z : length (replicate {A = ℕ} (paddingOf ne) 0) ≡ paddingOf ne = length-replicate (paddingOf ne) 0 in
-    let lt : size (table ended (4 * nt) (r .textures)) ≡ 4 * nt = size-table ended (4 * nt) (r .textures) in
-    let lc : size (table contentLay (at + 4 * nc) (r .contents)) ≡ 4 * nc = size-table contentLay (at + 4 * nc) (r .contents) in
+    let z = section-sizes r in
     record {
       letters = stands-left h;
       whole = stands-left h1;
@@ -315,9 +308,9 @@ section-stands s r h =
       contentCount = stands-left h6;
       start = stands-left h7;
       nameOffsets = stands-left h8;
-      names = stands-to (stands-left h9) (omega (arith, lt));
-      offsets = stands-to (stands-left h11) (omega (arith, lt, z));
-      contents = stands-to h12 (omega (arith, lt, lc, z));
+      names = stands-to (stands-left h9) (omega (arith, z .offsets));
+      offsets = stands-to (stands-left h11) (omega (arith, z .offsets, z .fill));
+      contents = stands-to h12 (omega (arith, z .offsets, z .fill, z .contentOffsets));
     }
 
 pub section-reads : (s : List ℕ) (r : PaneAnimInfo) → Within r → Stands s 0 (sectionLay r) → length s ≤ 16777216 → Reads s (section s 0) (cells r) (size (sectionLay r))

@@ -449,16 +449,14 @@ module _ (w x : List ℕ) (i j at : ℕ) {most : ℕ} (h : Ready infoLay (info w
       go (ExtendedUserData ds) k = omega (arith, k)
 
   module _ (l n : ℕ) (el : l ≡ getD w i 0) (en : n ≡ getD w (i + 1) 0) where
-    extended-splits : l ≡ fleu → Splits infoLay (info w x i j) (λ (z : Layout). z) (fine (infoHead l n) (i + 2) j) (parts datumLay) (times n datum w x (i + 2) j)
-    unfolding infoLay written
-    extended-splits f =
-        info-extended w x i j (h .judged) (sym el ∙ f) λ ds q r.
-        let k : times n datum w x (i + 2) j ≡ fine ds (h .word) (h .byte) = rw en r in
-        let z : length ds ≡ n = times-length datum w x n (i + 2) j k in
+    -- the head, and what follows it
+    head-splits : {Y : Type 0} {lay : Y → Layout} {r : Judged Y} (ys : Y) → r ≡ fine ys (h .word) (h .byte) → written (infoLay (h .value)) ≡ written (infoHead l n) ++ written (lay ys)
+        → Splits infoLay (info w x i j) (λ (z : Layout). z) (fine (infoHead l n) (i + 2) j) lay r
+    head-splits ys k e =
         record {
           whole = h .value;
           first = infoHead l n;
-          rest = ds;
+          rest = ys;
           word = h .word;
           byte = h .byte;
           next-word = i + 2;
@@ -466,8 +464,16 @@ module _ (w x : List ℕ) (i j at : ℕ) {most : ℕ} (h : Ready infoLay (info w
           all = h .judged;
           starts = refl;
           goes-on = k;
-          same = ap (λ (a : AnimInfo). written (infoLay a)) q ∙ rw (z, f);
+          same = e;
         }
+
+    extended-splits : l ≡ fleu → Splits infoLay (info w x i j) (λ (z : Layout). z) (fine (infoHead l n) (i + 2) j) (parts datumLay) (times n datum w x (i + 2) j)
+    unfolding infoLay written
+    extended-splits f =
+        info-extended w x i j (h .judged) (sym el ∙ f) λ ds q r.
+        let k : times n datum w x (i + 2) j ≡ fine ds (h .word) (h .byte) = rw en r in
+        let z : length ds ≡ n = times-length datum w x n (i + 2) j k in
+        head-splits ds k (ap (λ (a : AnimInfo). written (infoLay a)) q ∙ rw (z, f))
 
     standard-splits : (l ≡ fleu → ⊥) → Splits infoLay (info w x i j) (λ (z : Layout). z) (fine (infoHead l n) (i + 2) j)
         (listed targetLay (at + 8 + 4 * n - at)) (times n (target l) w [] (i + 2) j)
@@ -477,19 +483,7 @@ module _ (w x : List ℕ) (i j at : ℕ) {most : ℕ} (h : Ready infoLay (info w
         let k : times n (target l) w [] (i + 2) j ≡ fine ts (h .word) (h .byte) = blind-times (target l) (blind-target l) n w [] x (i + 2) j ∙ rw (en, el) r in
         let z : length ts ≡ n = times-length (target l) w [] n (i + 2) j k in
         let m : at + 8 + 4 * n - at ≡ 8 + 4 * n = omega arith in
-        record {
-          whole = h .value;
-          first = infoHead l n;
-          rest = ts;
-          word = h .word;
-          byte = h .byte;
-          next-word = i + 2;
-          next-byte = j;
-          all = h .judged;
-          starts = refl;
-          goes-on = k;
-          same = ap (λ (a : AnimInfo). written (infoLay a)) q ∙ rw (z, m, el);
-        }
+        head-splits ts k (ap (λ (a : AnimInfo). written (infoLay a)) q ∙ rw (z, m, el))
 
     eight : 8 ≡ size (infoHead l n)
     unfolding infoHead size
