@@ -300,22 +300,18 @@ abbrev under : Base → (ℕ → Spot) → Spot
 under (From b) f = f b
 under Missing f = nowhere
 
+pick-under : (t : Bool) (b : ℕ) (f : ℕ → Spot) → pick t (f b) nowhere ≡ under (pick t (From b) Missing) f
+pick-under true b f = refl
+pick-under false b f = refl
+
 module _ (s : List ℕ) where
   content-under : (c : ℕ) (f : ℕ → Spot) → contentIn s c f ≡ under (contentBase s c) f
   unfolding contentIn contentBase
-  content-under c f = go (ltb c (get 2 s 14))
-    where
-      go : (t : Bool) → pick t (f (get 4 s (get 4 s 16 + 4 * c))) nowhere ≡ under (pick t (From (get 4 s (get 4 s 16 + 4 * c))) Missing) f
-      go true = refl
-      go false = refl
+  content-under c f = pick-under (ltb c (get 2 s 14)) (get 4 s (get 4 s 16 + 4 * c)) f
 
   info-under : (b i : ℕ) (f : ℕ → Spot) → infoIn s b i f ≡ under (infoBase s b i) f
   unfolding infoIn infoBase
-  info-under b i f = go (ltb i (get 1 s (b + 28)))
-    where
-      go : (t : Bool) → pick t (f (b + get 4 s (infoTableIn s b + 4 * i))) nowhere ≡ under (pick t (From (b + get 4 s (infoTableIn s b + 4 * i))) Missing) f
-      go true = refl
-      go false = refl
+  info-under b i f = pick-under (ltb i (get 1 s (b + 28))) (b + get 4 s (infoTableIn s b + 4 * i)) f
 
   target-under : (b t : ℕ) (f : ℕ → Spot) → targetIn s b t f ≡ under (targetBase s b t) f
   unfolding targetIn targetBase
@@ -323,8 +319,7 @@ module _ (s : List ℕ) where
     where
       go : (x y : Bool) → pick x nowhere (pick y (f (b + get 4 s (b + 8 + 4 * t))) nowhere) ≡ under (pick x Missing (pick y (From (b + get 4 s (b + 8 + 4 * t))) Missing)) f
       go true y = refl
-      go false true = refl
-      go false false = refl
+      go false y = pick-under y (b + get 4 s (b + 8 + 4 * t)) f
 
   datum-under : (b d : ℕ) (f : ℕ → Spot) → datumIn s b d f ≡ under (datumBase s b d) f
   unfolding datumIn datumBase afterBase
