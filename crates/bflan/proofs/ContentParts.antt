@@ -20,11 +20,11 @@ use Rattle.core.proofs.Zeros.{before-le}
 use Rattle.bflan.specs.declared.fault.Fault.{Fault}
 use Rattle.bflan.specs.declared.fault.Fault.the-variants.{PastEnd}
 use Rattle.bflan.specs.declared.tally.Tally.{Tally}
-use Rattle.bflan.specs.Reader.{Res, ok, stop, andThen, _>>=_, ret, Item, word, text, seekTo, fixedText, numbers, visit}
+use Rattle.bflan.specs.Reader.{Res, ok, stop, andThen, _>>=_, ret, Item, word, text, fixedText, numbers, visit}
 use Rattle.bflan.specs.Reading.{info, typeOf, infoTable, content}
 use Rattle.bflan.specs.Walk.{shownAt, moved, named, run}
-use Rattle.bflan.proofs.Emits.{sought-on, sought-past, run-put2, run-named}
-use Rattle.bflan.proofs.KeyRuns.{num-there, num-short, numbers-run}
+use Rattle.bflan.proofs.Emits.{sought-on, sought-past, sought-there, sought-over, run-put2, run-named}
+use Rattle.bflan.proofs.KeyRuns.{num-there, num-to, num-short, numbers-run}
 use Rattle.bflan.proofs.Walks.{before, before-before, put-before}
 
 -- ---- the name
@@ -54,9 +54,6 @@ pub name-part : (s : List ℕ) (base r : ℕ) → r ≡ beforeZero (take (base +
 name-part s base r e = let m : base + 28 - base ≡ 28 = omega arith in rw m at e
 
 module _ (base : ℕ) (s : List ℕ) (i : ℕ) where
-  seek-base : base ≤ length s → seekTo base s i ≡ ok base base
-  seek-base h = sought-on s base i base (seek-there s base h)
-
   whole-name : base + 28 ≤ length s → fixedText 28 s base ≡ ok (text base (nameSize s base)) (base + 28)
   whole-name h = let e : base + min 28 (length s - base) ≡ base + 28 = omega arith in name-there s base (omega arith) ∙ ap (λ (n : ℕ). ok (text base (nameSize s base)) n) e
 
@@ -64,11 +61,11 @@ module _ (base : ℕ) (s : List ℕ) (i : ℕ) where
 
   pub content-short0 : length s < base → content base s i ≡ stop (PastEnd (length s) (base - length s))
   unfolding content
-  content-short0 h = rw (sought-past s base i _ _ (seek-over s base h))
+  content-short0 h = rw (sought-over s base i h)
 
   pub content-none : length s ≡ base → content base s i ≡ stop (PastEnd base 28)
   unfolding content
-  content-none h = let k : base ≤ length s = omega arith in let l : length s ≤ base = omega arith in rw (seek-base k, name-none s base l)
+  content-none h = let k : base ≤ length s = omega arith in let l : length s ≤ base = omega arith in rw (sought-there s base i k, name-none s base l)
 
   pub content-short29 : base < length s → length s < base + 29 → content base s i ≡ stop (PastEnd (length s) 1)
   unfolding content
@@ -76,29 +73,15 @@ module _ (base : ℕ) (s : List ℕ) (i : ℕ) where
       let b : base ≤ length s = omega arith in
       let e : base + min 28 (length s - base) ≡ length s = omega arith in
       let l : length s < length s + 1 = omega arith in
-      rw (seek-base b, name-there s base h, e, num-short 1 s (length s) l)
+      rw (sought-there s base i b, name-there s base h, e, num-short 1 s (length s) l)
 
   pub content-short30 : base + 29 ≤ length s → length s < base + 30 → content base s i ≡ stop (PastEnd (base + 29) 1)
   unfolding content
-  content-short30 h k =
-      let b : base ≤ length s = omega arith in
-      let w : base + 28 ≤ length s = omega arith in
-      let a : base + 28 + 1 ≤ length s = omega arith in
-      let e : base + 28 + 1 ≡ base + 29 = omega arith in
-      let l : length s < base + 29 + 1 = omega arith in
-      rw (seek-base b, whole-name w, num-there 1 s (base + 28) a, e, num-short 1 s (base + 29) l)
+  content-short30 h k = rw (sought-there s base i (omega arith), whole-name (omega arith), num-to 1 s (base + 28) (base + 29) (omega arith) (omega arith), num-short 1 s (base + 29) (omega arith))
 
   pub content-short32 : base + 30 ≤ length s → length s < base + 32 → content base s i ≡ stop (PastEnd (base + 30) 2)
   unfolding content
-  content-short32 h k =
-      let b : base ≤ length s = omega arith in
-      let w : base + 28 ≤ length s = omega arith in
-      let a : base + 28 + 1 ≤ length s = omega arith in
-      let e : base + 28 + 1 ≡ base + 29 = omega arith in
-      let a2 : base + 29 + 1 ≤ length s = omega arith in
-      let e2 : base + 29 + 1 ≡ base + 30 = omega arith in
-      let l : length s < base + 30 + 2 = omega arith in
-      rw (seek-base b, whole-name w, num-there 1 s (base + 28) a, e, num-there 1 s (base + 29) a2, e2, num-short 2 s (base + 30) l)
+  content-short32 h k = rw (sought-there s base i (omega arith), whole-name (omega arith), num-to 1 s (base + 28) (base + 29) (omega arith) (omega arith), num-to 1 s (base + 29) (base + 30) (omega arith) (omega arith), num-short 2 s (base + 30) (omega arith))
 
   -- ---- behind them
 
@@ -115,16 +98,7 @@ module _ (base : ℕ) (s : List ℕ) (i : ℕ) where
 
   pub content-there : base + 32 ≤ length s → content base s i ≡ contentRest (get 1 s (base + 28)) (get 1 s (base + 29))
   unfolding content
-  content-there h =
-      let b : base ≤ length s = omega arith in
-      let w : base + 28 ≤ length s = omega arith in
-      let a : base + 28 + 1 ≤ length s = omega arith in
-      let e : base + 28 + 1 ≡ base + 29 = omega arith in
-      let a2 : base + 29 + 1 ≤ length s = omega arith in
-      let e2 : base + 29 + 1 ≡ base + 30 = omega arith in
-      let a3 : base + 30 + 2 ≤ length s = omega arith in
-      let e3 : base + 30 + 2 ≡ base + 32 = omega arith in
-      rw (seek-base b, whole-name w, num-there 1 s (base + 28) a, e, num-there 1 s (base + 29) a2, e2, num-there 2 s (base + 30) a3, e3)
+  content-there h = rw (sought-there s base i (omega arith), whole-name (omega arith), num-to 1 s (base + 28) (base + 29) (omega arith) (omega arith), num-to 1 s (base + 29) (base + 30) (omega arith) (omega arith), num-to 2 s (base + 30) (base + 32) (omega arith) (omega arith))
 
   pub rest-at : (n type q : ℕ) → infoTable base type s (base + 32) ≡ ok q q → contentRest n type ≡ contentTable n type q
   rest-at n type q e = rw e

@@ -10,7 +10,7 @@ use lib.ListN.{length, set, take, drop}
 use lib.Seq.{sets, slice, length-slice, length-sets}
 use Rattle.core.specs.Choice.{pick}
 use Rattle.core.specs.Utf8.{decode, decodedSize}
-use Rattle.core.proofs.Seeks.{seek-there}
+use Rattle.core.proofs.Seeks.{seek-there, seek-over}
 use Rattle.core.proofs.Stores.{sets-append}
 use Rattle.core.proofs.utf8.Laws.{decode-bound}
 use Rattle.core.proofs.utf8.Turns.{part-is}
@@ -91,6 +91,13 @@ module _ (s : List ℕ) (to i : ℕ) where
   pub sought-past : (offset requested : ℕ) → seekOf s to ≡ SoughtPast offset requested → seekTo to s i ≡ stop (PastEnd offset requested)
   unfolding seekTo
   sought-past offset requested e = rw e
+
+  -- within the section, and beyond it
+  pub sought-there : to ≤ length s → seekTo to s i ≡ ok to to
+  sought-there h = sought-on to (seek-there s to h)
+
+  pub sought-over : length s < to → seekTo to s i ≡ stop (PastEnd (length s) (to - length s))
+  sought-over h = sought-past _ _ (seek-over s to h)
 
 -- ---- a number, by core's answer
 

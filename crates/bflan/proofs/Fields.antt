@@ -11,26 +11,28 @@ use lib.Dec.{eqb, ltb}
 use lib.ListN.{length, take, replicate, length-replicate}
 use lib.Seq.{sets}
 use Rattle.core.specs.Choice.{pick}
-use Rattle.core.specs.Fill.{paddingOf}
 use Rattle.core.specs.Number.{get}
 use Rattle.bflan.specs.declared.place.Place.{Place}
 use Rattle.bflan.specs.declared.place.Place.the-variants.{FrameCount, Looping, Layer, Target, Key, Value}
 use Rattle.bflan.specs.declared.place.Field.{Field}
 use Rattle.bflan.specs.declared.place.Field.the-variants.{FrameCount as framesField, Looping as loopingField, Layer as layerField, Target as numberField, Key as keyField, Value as valueField}
 use Rattle.bflan.specs.Letters.{fleu, lettersOf}
-use Rattle.bflan.specs.Layout.{Layout, nothing, number, _⨾_, size, written, row, parts, table, keySkip, keyLay, targetLay, ended, datumLay, infoHead, infoLay, dataOut, infosOut, tableFrom, infosFrom, userLay, contentBody, contentLay, namesEnd, contentTable, sectionSize, sectionLay}
+use Rattle.bflan.specs.Layout.{Layout, nothing, number, _⨾_, size, written, row, parts, table, keySkip, keyLay, targetLay, datumLay, infoHead, infoLay, dataOut, infosOut, tableFrom, infosFrom, userLay, contentBody, contentLay, namesEnd, contentTable, sectionSize, sectionLay}
 use Rattle.bflan.specs.Limits.{All, Fits, FineTarget, FineDatum, FineInfo, FineContent, Fine, Within}
 use Rattle.bflan.specs.Places.{widths, total, fitWidths, first, allowed, fit, Spot, nowhere, spot, stride, keyIn, valueIn, after, targetIn, datumIn, infoTableIn, infoIn, contentIn, locate, ofElement, changed, Found, missing, found, targetOf, datumOf, infoOf, fieldOf, onTarget, onDatum, onContent, onInfo, replaced}
 use Rattle.bflan.specs.Reader.{P, Item, many}
 use Rattle.bflan.specs.Reading.{datum}
 use Rattle.bflan.specs.Record.{AnimTarget, ExtendedUserDataAnim, AnimInfo, Standard, ExtendedUserData, AnimContent, PaneAnimInfo, keyWidths, Cell, each, datumCells}
 use Rattle.bflan.proofs.Codes.{fleu-lt, fit-lt, letters-own}
-use Rattle.bflan.proofs.Layouts.{size-written, Stands, stands-left, stands-right, stands-to, stands-all, stands-get, size-table, user-size}
+use Rattle.bflan.proofs.Layouts.{size-written, size-row, Stands, stands-left, stands-right, stands-to, stands-all, stands-get, size-table, user-size, section-sizes}
 use Rattle.bflan.proofs.ReadBack.{Reads, reads-as, reads-none, reads-joined, ReadsPart}
-use Rattle.bflan.proofs.Replacing.{Replaces, replaces-to, replaces-left, replaces-right, replaces-whole, replaces-number, size-row, length-row, length-changed, no-element, ahead, ahead-even, table-entry, Element, element}
-use Rattle.bflan.proofs.RoundTrip.{datum-reads, content-stands}
+use Rattle.bflan.proofs.Replacing.{Replaces, replaces-to, replaces-left, replaces-right, replaces-whole, replaces-number, length-row, length-changed, no-element, ahead, ahead-even, table-entry, Element, element}
+use Rattle.bflan.proofs.RoundTrip.{datum-reads, content-stands, section-stands}
 use Rattle.bflan.proofs.TargetParts.{curve-low, count-low}
 use Rattle.bflan.proofs.Walks.{many-suc}
+
+pub unlike : _≡_ {A = Bool} false true → ⊥
+unlike e = let z : _≡_ {A = ℕ} 0 1 = cc in omega arith
 
 -- ---- what values fit
 
@@ -40,10 +42,7 @@ and-left false b e = e
 
 pub and-right : (a b : Bool) → (a && b) ≡ true → b ≡ true
 and-right true b e = e
-and-right false b e = absurd (no e)
-  where
-    no : _≡_ {A = Bool} false true → ⊥
-    no e = let z : _≡_ {A = ℕ} 0 1 = cc in omega arith
+and-right false b e = absurd (unlike e)
 
 fits-widths : (ks vs : List ℕ) → fitWidths ks vs ≡ true → Fits ks vs
 unfolding fitWidths
@@ -376,16 +375,10 @@ section-replaces : (r : PaneAnimInfo) (c : ℕ) (g : AnimContent → AnimContent
 unfolding sectionLay contentTable sectionSize namesEnd size
 section-replaces r c g el bs o q =
     let p = el .replaces g bs o q in
-    let nt : ℕ = length (r .textures) in
-    let nc : ℕ = length (r .contents) in
-    let ne : ℕ = 20 + (4 * nt + size (parts ended (r .textures))) in
-    let at : ℕ = ne + paddingOf ne in
-    let z : length (replicate {A = ℕ} (paddingOf ne) 0) ≡ paddingOf ne = length-replicate (paddingOf ne) 0 in
-    let lt : size (table ended (4 * nt) (r .textures)) ≡ 4 * nt = size-table ended (4 * nt) (r .textures) in
-    let lc : size (table contentLay (at + 4 * nc) (r .contents)) ≡ 4 * nc = size-table contentLay (at + 4 * nc) (r .contents) in
-    rw (length-changed, ← p .same, el .tabled g (at + 4 * nc) (q .same))
+    let z = section-sizes r in
+    rw (length-changed, ← p .same, el .tabled g (contentTable r + 4 * length (r .contents)) (q .same))
     (replaces-to (replaces-right _ (replaces-right _ (replaces-right _ (replaces-right _ (replaces-right _ (replaces-right _ (replaces-right _ (replaces-right _ (replaces-right _ (replaces-right _ (replaces-right _ (replaces-right _ p))))))))))))
-    (omega (arith, z, lt, lc)))
+    (omega (arith, z .offsets, z .fill, z .contentOffsets)))
 
 -- what a section's head says, and where its contents stand
 record Section (s : List ℕ) (r : PaneAnimInfo) : Type 0 where
@@ -396,33 +389,13 @@ record Section (s : List ℕ) (r : PaneAnimInfo) : Type 0 where
 
 module _ (s : List ℕ) (short : length s ≤ 16777216) (r : PaneAnimInfo) (f : Fine r) where
   section-there : Stands s 0 (sectionLay r) → Section s r
-  unfolding sectionLay contentTable sectionSize namesEnd size
   section-there h =
-      let h1 = stands-right h in
-      let h2 = stands-right h1 in
-      let h3 = stands-right h2 in
-      let h4 = stands-right h3 in
-      let h5 = stands-right h4 in
-      let h6 = stands-right h5 in
-      let h7 = stands-right h6 in
-      let h8 = stands-right h7 in
-      let h9 = stands-right h8 in
-      let h10 = stands-right h9 in
-      let h11 = stands-right h10 in
-      let h12 = stands-right h11 in
-      let nt : ℕ = length (r .textures) in
-      let nc : ℕ = length (r .contents) in
-      let ne : ℕ = 20 + (4 * nt + size (parts ended (r .textures))) in
-      let at : ℕ = ne + paddingOf ne in
-      let z : length (replicate {A = ℕ} (paddingOf ne) 0) ≡ paddingOf ne = length-replicate (paddingOf ne) 0 in
-      let lt : size (table ended (4 * nt) (r .textures)) ≡ 4 * nt = size-table ended (4 * nt) (r .textures) in
-      let lc : size (table contentLay (at + 4 * nc) (r .contents)) ≡ 4 * nc = size-table contentLay (at + 4 * nc) (r .contents) in
-      let g11 : Stands s at (table contentLay (at + 4 * nc) (r .contents)) = stands-to (stands-left h11) (omega (arith, lt, z)) in
+      let g = section-stands s r h in
       record {
-        count = stands-get (stands-left h6) (f .contentCount);
-        start = stands-get (stands-left h7) (omega (arith, g11 .fits));
-        offsets = g11;
-        contents = stands-to h12 (omega (arith, lt, lc, z));
+        count = stands-get (g .contentCount) (f .contentCount);
+        start = stands-get (g .start) (omega (arith, g .offsets .fits));
+        offsets = g .offsets;
+        contents = g .contents;
       }
 
   module _ (c : ℕ) (look : ℕ → Spot) (say : AnimContent → Found) (up : List ℕ → AnimContent → AnimContent)

@@ -11,43 +11,34 @@ use Rattle.core.specs.Number.{get}
 use Rattle.core.specs.Run.{numbersAt}
 use Rattle.core.specs.declared.run.Run.the-variants.{Next, Cut}
 use Rattle.core.specs.Run.{numbersOf}
-use Rattle.core.proofs.Seeks.{seek-there, seek-over}
 use Rattle.bflan.specs.declared.fault.Fault.the-variants.{PastEnd}
 use Rattle.bflan.specs.Letters.{fleu, lettersOf}
-use Rattle.bflan.specs.Reader.{Res, ok, stop, _>>=_, ret, given, Item, word, seekTo, numbers, many, visit}
+use Rattle.bflan.specs.Reader.{Res, ok, stop, _>>=_, ret, given, Item, word, numbers, many, visit}
 use Rattle.bflan.specs.Reading.{target, datum, info}
-use Rattle.bflan.proofs.Emits.{sought-on, sought-past}
-use Rattle.bflan.proofs.KeyRuns.{num-there, num-short, numbers-run}
+use Rattle.bflan.proofs.Emits.{sought-there, sought-over}
+use Rattle.bflan.proofs.KeyRuns.{num-to, num-short, numbers-run}
 use Rattle.bflan.proofs.Walks.{before, put-before}
 
 module _ (base : ℕ) (s : List ℕ) (i : ℕ) where
-  seek-base : base ≤ length s → seekTo base s i ≡ ok base base
-  seek-base h = sought-on s base i base (seek-there s base h)
-
   pub info-short0 : length s < base → info base s i ≡ stop (PastEnd (length s) (base - length s))
   unfolding info
-  info-short0 h = rw (sought-past s base i _ _ (seek-over s base h))
+  info-short0 h = rw (sought-over s base i h)
 
   pub info-short4 : base ≤ length s → length s < base + 4 → info base s i ≡ stop (PastEnd base 4)
   unfolding info
-  info-short4 h k = rw (seek-base h, num-short 4 s base k)
+  info-short4 h k = rw (sought-there s base i h, num-short 4 s base k)
 
   pub info-short5 : base + 4 ≤ length s → length s < base + 5 → info base s i ≡ stop (PastEnd (base + 4) 1)
   unfolding info
-  info-short5 h k = rw (seek-base (omega arith), num-there 4 s base h, num-short 1 s (base + 4) (omega arith))
+  info-short5 h k = rw (sought-there s base i (omega arith), num-to 4 s base (base + 4) (omega arith) (omega arith), num-short 1 s (base + 4) (omega arith))
 
   pub info-short6 : base + 5 ≤ length s → length s < base + 6 → info base s i ≡ stop (PastEnd (base + 5) 1)
   unfolding info
-  info-short6 h k =
-      let e : base + 4 + 1 ≡ base + 5 = omega arith in
-      rw (seek-base (omega arith), num-there 4 s base (omega arith), num-there 1 s (base + 4) (omega arith), e, num-short 1 s (base + 5) (omega arith))
+  info-short6 h k = rw (sought-there s base i (omega arith), num-to 4 s base (base + 4) (omega arith) (omega arith), num-to 1 s (base + 4) (base + 5) (omega arith) (omega arith), num-short 1 s (base + 5) (omega arith))
 
   pub info-short8 : base + 6 ≤ length s → length s < base + 8 → info base s i ≡ stop (PastEnd (base + 6) 2)
   unfolding info
-  info-short8 h k =
-      let e : base + 4 + 1 ≡ base + 5 = omega arith in
-      let d : base + 5 + 1 ≡ base + 6 = omega arith in
-      rw (seek-base (omega arith), num-there 4 s base (omega arith), num-there 1 s (base + 4) (omega arith), e, num-there 1 s (base + 5) (omega arith), d, num-short 2 s (base + 6) (omega arith))
+  info-short8 h k = rw (sought-there s base i (omega arith), num-to 4 s base (base + 4) (omega arith) (omega arith), num-to 1 s (base + 4) (base + 5) (omega arith) (omega arith), num-to 1 s (base + 5) (base + 6) (omega arith) (omega arith), num-short 2 s (base + 6) (omega arith))
 
   -- what follows the head, by its letters and its count
   abbrev pub infoRest : ℕ → ℕ → Res (List Item)
@@ -59,11 +50,7 @@ module _ (base : ℕ) (s : List ℕ) (i : ℕ) where
 
   pub info-there : base + 8 ≤ length s → info base s i ≡ infoRest (get 4 s base) (get 1 s (base + 4))
   unfolding info
-  info-there h =
-      let e : base + 4 + 1 ≡ base + 5 = omega arith in
-      let d : base + 5 + 1 ≡ base + 6 = omega arith in
-      let g : base + 6 + 2 ≡ base + 8 = omega arith in
-      rw (seek-base (omega arith), num-there 4 s base (omega arith), num-there 1 s (base + 4) (omega arith), e, num-there 1 s (base + 5) (omega arith), d, num-there 2 s (base + 6) (omega arith), g)
+  info-there h = rw (sought-there s base i (omega arith), num-to 4 s base (base + 4) (omega arith) (omega arith), num-to 1 s (base + 4) (base + 5) (omega arith) (omega arith), num-to 1 s (base + 5) (base + 6) (omega arith) (omega arith), num-to 2 s (base + 6) (base + 8) (omega arith) (omega arith))
 
   -- an extended info
   pub rest-extended : (letters n : ℕ) → letters ≡ fleu → infoRest letters n ≡ before (word fleu ∷ word n ∷ []) (many n datum s (base + 8))

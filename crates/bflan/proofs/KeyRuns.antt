@@ -19,9 +19,10 @@ use Rattle.bflan.specs.declared.fault.Fault.the-variants.{PastEnd}
 use Rattle.bflan.specs.declared.tally.Tally.{Tally}
 use Rattle.bflan.specs.declared.tally.Walk.{Walk}
 use Rattle.bflan.specs.declared.tally.Walk.the-variants.{On, No}
-use Rattle.bflan.specs.Reader.{Res, ok, stop, P, andThen, _>>=_, ret, Item, word, num, skip, numbers, many}
+use Rattle.bflan.specs.Reader.{Res, ok, stop, P, andThen, ret, Item, word, num, skip, numbers, many}
 use Rattle.bflan.specs.Reading.{keyOf, curveOf, countOf, keys}
 use Rattle.bflan.specs.Walk.{asItems, wordsOf, textsOf, sat, moved, tallied, afterRun, run, told}
+use Rattle.bflan.proofs.Walks.{before, joined, before-nil, put-before, many-suc, told-ok}
 
 -- a run's answer, with its words
 abbrev pub asNumbers : Run → List ℕ → Res (List ℕ)
@@ -33,6 +34,10 @@ asNumbers (Cut o k) vs = stop (PastEnd o k)
 pub num-there : (k : ℕ) (s : List ℕ) (p : ℕ) → p + k ≤ length s → num k s p ≡ ok (get k s p) (p + k)
 unfolding num
 num-there k s p h = rw (read-there k s p h)
+
+-- the same, with the place behind it by its name
+pub num-to : (k : ℕ) (s : List ℕ) (p q : ℕ) → p + k ≡ q → q ≤ length s → num k s p ≡ ok (get k s p) q
+num-to k s p q e h = num-there k s p (omega arith) ∙ ap (ok (get k s p)) e
 
 pub num-short : (k : ℕ) (s : List ℕ) (p : ℕ) → length s < p + k → num k s p ≡ stop (PastEnd p k)
 unfolding num
@@ -102,18 +107,9 @@ numbers-run (suc n) s p = numbers-turn n s p (numbers-run n s (p + 4))
 
 -- ---- parts one after another
 
--- items in front of a reading
-abbrev pub joined : List Item → Res (List Item) → Res (List Item)
-joined x (ok xs q) = ok (x ++ xs) q
-joined x (stop f) = stop f
-
-joined-is : (x : List Item) (r : Res (List Item)) (s : List ℕ) → andThen r (λ xs. ret (x ++ xs)) s ≡ joined x r
-joined-is x (ok xs q) s = refl
-joined-is x (stop f) s = refl
-
-pub many-on : (n : ℕ) (k : P (List Item)) (s : List ℕ) (p : ℕ) {x : List Item} {q : ℕ} → k s p ≡ ok x q → many (suc n) k s p ≡ joined x (many n k s q)
+pub many-on : (n : ℕ) (k : P (List Item)) (s : List ℕ) (p : ℕ) {x : List Item} {q : ℕ} → k s p ≡ ok x q → many (suc n) k s p ≡ before x (many n k s q)
 unfolding many
-many-on n k s p {x} {q} e = rw e (joined-is x (many n k s q) s)
+many-on n k s p {x} {q} e = rw e (put-before x (many n k s q) s)
 
 pub many-stop : (n : ℕ) (k : P (List Item)) (s : List ℕ) (p : ℕ) {f : Fault} → k s p ≡ stop f → many (suc n) k s p ≡ stop f
 unfolding many
@@ -121,65 +117,48 @@ many-stop n k s p e = rw e
 
 -- ---- keys of numbers of four bytes: k numbers each
 
-joined-items : (v : ℕ) (r : Res (List ℕ)) → joined (word v ∷ []) (asItems r) ≡ asItems (front v r)
-joined-items v (ok vs q) = refl
-joined-items v (stop f) = refl
+before-items : (v : ℕ) (r : Res (List ℕ)) → before (word v ∷ []) (asItems r) ≡ asItems (front v r)
+before-items v (ok vs q) = refl
+before-items v (stop f) = refl
 
--- numbers, then more numbers
-abbrev both : Res (List Item) → (ℕ → Res (List Item)) → Res (List Item)
-both (ok x q) f = joined x (f q)
-both (stop g) f = stop g
-
-both-front : (v : ℕ) (r : Res (List ℕ)) (f : ℕ → Res (List Item)) → both (asItems (front v r)) f ≡ joined (word v ∷ []) (both (asItems r) f)
-both-front v (ok vs q) f = go (f q)
+joined-front : (v : ℕ) (r : Res (List ℕ)) (f : ℕ → Res (List Item)) → joined (asItems (front v r)) f ≡ before (word v ∷ []) (joined (asItems r) f)
+joined-front v (ok vs q) f = go (f q)
   where
-    go : (r : Res (List Item)) → joined (word v ∷ map word vs) r ≡ joined (word v ∷ []) (joined (map word vs) r)
+    go : (r : Res (List Item)) → before (word v ∷ map word vs) r ≡ before (word v ∷ []) (before (map word vs) r)
     go (ok xs o) = refl
     go (stop g) = refl
-both-front v (stop g) f = refl
+joined-front v (stop g) f = refl
 
-joined-none : (r : Res (List Item)) → joined [] r ≡ r
-joined-none (ok xs q) = refl
-joined-none (stop f) = refl
-
-both-turn : (a b : ℕ) (s : List ℕ) (p : ℕ) → asItems (numbers (a + b) s (p + 4)) ≡ both (asItems (numbers a s (p + 4))) (λ q. asItems (numbers b s q))
-    → asItems (numbers (suc (a + b)) s p) ≡ both (asItems (numbers (suc a) s p)) (λ q. asItems (numbers b s q))
-both-turn a b s p i = go (leb (p + 4) (length s)) refl
+joined-turn : (a b : ℕ) (s : List ℕ) (p : ℕ) → asItems (numbers (a + b) s (p + 4)) ≡ joined (asItems (numbers a s (p + 4))) (λ q. asItems (numbers b s q))
+    → asItems (numbers (suc (a + b)) s p) ≡ joined (asItems (numbers (suc a) s p)) (λ q. asItems (numbers b s q))
+joined-turn a b s p i = go (leb (p + 4) (length s)) refl
   where
-    go : (t : Bool) → leb (p + 4) (length s) ≡ t → asItems (numbers (suc (a + b)) s p) ≡ both (asItems (numbers (suc a) s p)) (λ q. asItems (numbers b s q))
+    go : (t : Bool) → leb (p + 4) (length s) ≡ t → asItems (numbers (suc (a + b)) s p) ≡ joined (asItems (numbers (suc a) s p)) (λ q. asItems (numbers b s q))
     go true e =
         let h = leb-true (p + 4) (length s) e in
         rw (numbers-first (a + b) s p h, numbers-first a s p h)
-        (sym (joined-items (get 4 s p) (numbers (a + b) s (p + 4))) ∙ ap (joined (word (get 4 s p) ∷ [])) i ∙ sym (both-front (get 4 s p) (numbers a s (p + 4)) (λ q. asItems (numbers b s q))))
+        (sym (before-items (get 4 s p) (numbers (a + b) s (p + 4))) ∙ ap (before (word (get 4 s p) ∷ [])) i ∙ sym (joined-front (get 4 s p) (numbers a s (p + 4)) (λ q. asItems (numbers b s q))))
     go false e =
         let h = leb-false (p + 4) (length s) e in
         rw (numbers-stop (a + b) s p h, numbers-stop a s p h)
 
-numbers-both : (a b : ℕ) (s : List ℕ) (p : ℕ) → asItems (numbers (a + b) s p) ≡ both (asItems (numbers a s p)) (λ q. asItems (numbers b s q))
+numbers-joined : (a b : ℕ) (s : List ℕ) (p : ℕ) → asItems (numbers (a + b) s p) ≡ joined (asItems (numbers a s p)) (λ q. asItems (numbers b s q))
 unfolding numbers
-numbers-both zero b s p = let e : 0 + b ≡ b = omega arith in rw e (sym (joined-none (asItems (numbers b s p))))
-numbers-both (suc a) b s p = let e : suc a + b ≡ suc (a + b) = omega arith in rw e (both-turn a b s p (numbers-both a b s (p + 4)))
+numbers-joined zero b s p = let e : 0 + b ≡ b = omega arith in rw e (sym (before-nil (asItems (numbers b s p))))
+numbers-joined (suc a) b s p = let e : suc a + b ≡ suc (a + b) = omega arith in rw e (joined-turn a b s p (numbers-joined a b s (p + 4)))
 
 -- n parts of a numbers each are a * n numbers
-many-both : (n : ℕ) (k : P (List Item)) (s : List ℕ) (p : ℕ) → many (suc n) k s p ≡ both (k s p) (λ q. many n k s q)
-unfolding many
-many-both n k s p = go (k s p)
-  where
-    go : (r : Res (List Item)) → andThen r (λ x. λ s i. andThen (many n k s i) (λ xs. ret (x ++ xs)) s) s ≡ both r (λ q. many n k s q)
-    go (ok x q) = joined-is x (many n k s q) s
-    go (stop f) = refl
-
-both-same : (r : Res (List Item)) (f g : ℕ → Res (List Item)) → ((q : ℕ) → f q ≡ g q) → both r f ≡ both r g
-both-same (ok x q) f g e = ap (joined x) (e q)
-both-same (stop h) f g e = refl
+joined-same : (r : Res (List Item)) (f g : ℕ → Res (List Item)) → ((q : ℕ) → f q ≡ g q) → joined r f ≡ joined r g
+joined-same (ok x q) f g e = ap (before x) (e q)
+joined-same (stop h) f g e = refl
 
 pub many-numbers : (a n : ℕ) (k : P (List Item)) (s : List ℕ) (p : ℕ) → ((q : ℕ) → k s q ≡ asItems (numbers a s q)) → many n k s p ≡ asItems (numbers (a * n) s p)
 unfolding many numbers
 many-numbers a zero k s p e = let z : a * 0 ≡ 0 = omega arith in rw z
 many-numbers a (suc n) k s p e =
     let z : a * suc n ≡ a + a * n = omega arith in
-    rw (z, many-both n k s p, e p, numbers-both a (a * n) s p)
-    (both-same (asItems (numbers a s p)) (λ q. many n k s q) (λ q. asItems (numbers (a * n) s q)) (λ q. many-numbers a n k s q e))
+    rw (z, many-suc n k s p, e p, numbers-joined a (a * n) s p)
+    (joined-same (asItems (numbers a s p)) (λ q. many n k s q) (λ q. asItems (numbers (a * n) s q)) (λ q. many-numbers a n k s q e))
 
 -- ---- one key
 
@@ -258,7 +237,7 @@ key-second s p h l = rw (num-there 4 s p h, num-short 2 s (p + 4) l)
 key-first : (s : List ℕ) (p : ℕ) → length s < p + 4 → keyOf 1 s p ≡ stop (PastEnd p 4)
 key-first s p l = rw (num-short 4 s p l)
 
-joined-pair : (a b : ℕ) (r : Run) (vs : List ℕ) → joined (word a ∷ word b ∷ []) (asItems (asNumbers r vs)) ≡ asItems (asNumbers r (a ∷ b ∷ vs))
+joined-pair : (a b : ℕ) (r : Run) (vs : List ℕ) → before (word a ∷ word b ∷ []) (asItems (asNumbers r vs)) ≡ asItems (asNumbers r (a ∷ b ∷ vs))
 joined-pair a b (Next q) vs = refl
 joined-pair a b (Cut o k) vs = refl
 
@@ -377,11 +356,6 @@ pub told-pairs : (s : List ℕ) (t : Tally) (w x : List ℕ) (n p : ℕ) {r : Ru
     → told a out x ≡ run s t w x (keys 1 n s p)
 told-pairs s t w x n p h e o d = rw (d, o, e, keys-step n s p) (rw length-pairs at (told-run s t w x (pairsOf n s p) (pairsAt n s p) h))
 
--- no items
-pub told-none : (s : List ℕ) (t : Tally) (w x : List ℕ) (p : ℕ) → told (On t p) w x ≡ run s t w x (ok [] p)
-unfolding told run tallied wordsOf textsOf
-told-none s t w x p = refl
-
 -- the arms over a run's answer
 pub after-next : (t : Tally) (n q : ℕ) {r : Run} {u : Tally} → r ≡ Next q → u ≡ moved t n → On u q ≡ afterRun r t n
 unfolding afterRun
@@ -403,4 +377,4 @@ module _ (s : List ℕ) (t : Tally) (w x : List ℕ) {curve : ℕ} (n p : ℕ) w
   run-hermite e = rw (e, keys-hermite n s p)
 
   pub run-above : 2 < curve → told (On t p) w x ≡ run s t w x (keys curve n s p)
-  run-above h = rw (keys-above curve n s p h) (told-none s t w x p)
+  run-above h = rw (keys-above curve n s p h) (told-ok s t w x p)

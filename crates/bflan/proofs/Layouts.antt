@@ -7,13 +7,16 @@ use mathlib.Core.List.{List, [], _∷_, _++_}
 use native.Mathlib.Nat.{add-zero}
 use native.Mathlib.Omega.{arith}
 use lib.Dec.{eqb}
-use lib.ListN.{length, take, drop, length-append}
+use lib.ListN.{length, take, drop, length-append, length-replicate}
 use lib.Seq.{take-take, take-append-seam, drop-drop, take-add, take-length, drop-at}
 use Rattle.core.specs.Choice.{pick}
+use Rattle.core.specs.Fill.{paddingOf}
 use Rattle.core.specs.Number.{get}
 use Rattle.core.proofs.Numbers.{length-le, val-le}
-use Rattle.bflan.specs.Layout.{Layout, nothing, number, bytes, _⨾_, size, written, parts, table, tableFrom, userLay}
+use Rattle.bflan.specs.Layout.{Layout, nothing, number, bytes, _⨾_, size, written, zeros, row, parts, table, ended, tableFrom, userLay, contentLay, namesEnd, contentTable, sectionSize, sectionLay}
+use Rattle.bflan.specs.Places.{total}
 use Rattle.bflan.specs.Reader.{ok, num, numbers}
+use Rattle.bflan.specs.Record.{PaneAnimInfo}
 use Rattle.bflan.proofs.KeyRuns.{num-there}
 
 pub size-written : (l : Layout) → length (written l) ≡ size l
@@ -22,6 +25,12 @@ size-written nothing = refl
 size-written (number k n) = length-le k n
 size-written (bytes bs) = refl
 size-written (a ⨾ b) = rw (length-append, size-written a, size-written b)
+
+pub size-row : (ks vs : List ℕ) → size (row ks vs) ≡ total ks
+unfolding size row total
+size-row [] vs = refl
+size-row (k ∷ ks) [] = ap (λ (n : ℕ). k + n) (size-row ks [])
+size-row (k ∷ ks) (v ∷ vs) = ap (λ (n : ℕ). k + n) (size-row ks vs)
 
 -- the layout's bytes stand in s from i on
 pub record Stands (s : List ℕ) (i : ℕ) (l : Layout) : Type 0 where
@@ -100,3 +109,18 @@ user-size type total = go (eqb type 2)
     go : (b : Bool) → 32 + size (pick b (number 4 40 ⨾ number 4 total) nothing) ≡ pick b 40 32
     go true = refl
     go false = refl
+
+-- the parts of a section whose sizes its layout does not show
+pub record SectionSizes (r : PaneAnimInfo) : Type 0 where
+  pub offsets : size (table ended (4 * length (r .textures)) (r .textures)) ≡ 4 * length (r .textures)
+  pub fill : size (zeros (paddingOf (namesEnd r))) ≡ paddingOf (namesEnd r)
+  pub contentOffsets : size (table contentLay (contentTable r + 4 * length (r .contents)) (r .contents)) ≡ 4 * length (r .contents)
+
+pub section-sizes : (r : PaneAnimInfo) → SectionSizes r
+unfolding size
+section-sizes r = record { offsets = size-table ended _ _; fill = length-replicate _ 0; contentOffsets = size-table contentLay _ _ }
+
+-- its size is the number that stands in it
+pub section-size : (r : PaneAnimInfo) → size (sectionLay r) ≡ sectionSize r
+unfolding sectionLay sectionSize contentTable namesEnd size
+section-size r = let z = section-sizes r in omega (arith, z .offsets, z .fill, z .contentOffsets)

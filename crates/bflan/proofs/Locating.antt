@@ -13,7 +13,6 @@ use Rattle.core.specs.Run.{numbersAt, numbersOf}
 use Rattle.core.specs.declared.run.Run.{Run}
 use Rattle.core.specs.declared.run.Run.the-variants.{Next, Cut}
 use Rattle.core.proofs.Runs.{table-fits, numbers-next}
-use Rattle.core.proofs.Seeks.{seek-there, seek-over}
 use Rattle.bflan.specs.declared.fault.Fault.{Fault}
 use Rattle.bflan.specs.declared.fault.Fault.the-variants.{NotPai1}
 use Rattle.bflan.specs.declared.place.Field.{Field}
@@ -39,10 +38,10 @@ use Rattle.bflan.specs.declared.tally.Walk.{Walk}
 use Rattle.bflan.specs.declared.tally.Walk.the-variants.{On, No}
 use Rattle.bflan.proofs.Answers.{told-answer, stopped, whole}
 use Rattle.bflan.proofs.ContentParts.{nameSize, name-there, name-none}
-use Rattle.bflan.proofs.Emits.{sought-on, sought-past}
+use Rattle.bflan.proofs.Emits.{sought-there, sought-over}
 use Rattle.bflan.proofs.Fields.{and-left, and-right}
-use Rattle.bflan.proofs.KeyRuns.{asNumbers, num-there, num-short, numbers-run, joined, many-on}
-use Rattle.bflan.proofs.Walks.{on-no}
+use Rattle.bflan.proofs.KeyRuns.{asNumbers, num-there, num-short, numbers-run, many-on}
+use Rattle.bflan.proofs.Walks.{before, on-no, on-place}
 
 -- ---- what holds where a reading is not stopped, of its value and of the place behind it
 
@@ -98,8 +97,8 @@ module _ (s : List ℕ) {B : Type 0} {Q : B → ℕ → Type 0} where
   sought to i q f = go (leb to (length s)) refl
     where
       go : (b : Bool) → leb to (length s) ≡ b → If Q (andThen (seekTo to s i) q s)
-      go true t = let h = leb-true to (length s) t in rw (sought-on s to i to (seek-there s to h)) (f h)
-      go false t = rw (sought-past s to i _ _ (seek-over s to (leb-false to (length s) t))) (no _)
+      go true t = let h = leb-true to (length s) t in rw (sought-there s to i h) (f h)
+      go false t = rw (sought-over s to i (leb-false to (length s) t)) (no _)
 
   pub table : (n i : ℕ) (q : List ℕ → P B) → i ≤ length s → (i + 4 * n ≤ length s → If Q (q (numbersAt n s i) s (i + 4 * n))) → If Q (andThen (numbers n s i) q s)
   table n i q h f = go (numbersOf n s i) refl
@@ -184,7 +183,7 @@ module _ (s : List ℕ) where
 ok-at : {A : Type 0} {v w : A} {i j : ℕ} → _≡_ {A = Res A} (ok v i) (ok w j) → i ≡ j
 ok-at e = cc
 
-joined-at : (x is : List Item) (r : Res (List Item)) (q : ℕ) {X : Type 0} → joined x r ≡ ok is q → ((xs : List Item) → r ≡ ok xs q → X) → X
+joined-at : (x is : List Item) (r : Res (List Item)) (q : ℕ) {X : Type 0} → before x r ≡ ok is q → ((xs : List Item) → r ≡ ok xs q → X) → X
 joined-at x is (ok xs j) q e f = f xs (ap (λ (k : ℕ). ok xs k) (ok-at e))
 joined-at x is (stop g) q e f = absurd (let z : _≡_ {A = ℕ} 0 1 = cc in omega arith)
 
@@ -246,8 +245,8 @@ module _ (s : List ℕ) where
           last l to i = go (leb to (length s)) refl
             where
               go : (t : Bool) → leb to (length s) ≡ t → If (λ v j. (j ≡ to) × (to ≤ length s) × (get 1 s (b + 29) ≡ 2 → b + 36 ≤ length s)) (seekTo to s i)
-              go true d = let m = leb-true to (length s) d in rw (sought-on s to i to (seek-there s to m)) (yes (refl, m, λ x. l))
-              go false d = rw (sought-past s to i _ _ (seek-over s to (leb-false to (length s) d))) (no _)
+              go true d = let m = leb-true to (length s) d in rw (sought-there s to i m) (yes (refl, m, λ x. l))
+              go false d = rw (sought-over s to i (leb-false to (length s) d)) (no _)
       kind false e = yes (refl, h, λ x. absurd (eqb-false (get 1 s (b + 29)) 2 e x))
 
   content-at : (b i : ℕ) → If (λ is j. ContentAt s b) (content b s i)
@@ -301,22 +300,18 @@ abbrev under : Base → (ℕ → Spot) → Spot
 under (From b) f = f b
 under Missing f = nowhere
 
+pick-under : (t : Bool) (b : ℕ) (f : ℕ → Spot) → pick t (f b) nowhere ≡ under (pick t (From b) Missing) f
+pick-under true b f = refl
+pick-under false b f = refl
+
 module _ (s : List ℕ) where
   content-under : (c : ℕ) (f : ℕ → Spot) → contentIn s c f ≡ under (contentBase s c) f
   unfolding contentIn contentBase
-  content-under c f = go (ltb c (get 2 s 14))
-    where
-      go : (t : Bool) → pick t (f (get 4 s (get 4 s 16 + 4 * c))) nowhere ≡ under (pick t (From (get 4 s (get 4 s 16 + 4 * c))) Missing) f
-      go true = refl
-      go false = refl
+  content-under c f = pick-under (ltb c (get 2 s 14)) (get 4 s (get 4 s 16 + 4 * c)) f
 
   info-under : (b i : ℕ) (f : ℕ → Spot) → infoIn s b i f ≡ under (infoBase s b i) f
   unfolding infoIn infoBase
-  info-under b i f = go (ltb i (get 1 s (b + 28)))
-    where
-      go : (t : Bool) → pick t (f (b + get 4 s (infoTableIn s b + 4 * i))) nowhere ≡ under (pick t (From (b + get 4 s (infoTableIn s b + 4 * i))) Missing) f
-      go true = refl
-      go false = refl
+  info-under b i f = pick-under (ltb i (get 1 s (b + 28))) (b + get 4 s (infoTableIn s b + 4 * i)) f
 
   target-under : (b t : ℕ) (f : ℕ → Spot) → targetIn s b t f ≡ under (targetBase s b t) f
   unfolding targetIn targetBase
@@ -324,8 +319,7 @@ module _ (s : List ℕ) where
     where
       go : (x y : Bool) → pick x nowhere (pick y (f (b + get 4 s (b + 8 + 4 * t))) nowhere) ≡ under (pick x Missing (pick y (From (b + get 4 s (b + 8 + 4 * t))) Missing)) f
       go true y = refl
-      go false true = refl
-      go false false = refl
+      go false y = pick-under y (b + get 4 s (b + 8 + 4 * t)) f
 
   datum-under : (b d : ℕ) (f : ℕ → Spot) → datumIn s b d f ≡ under (datumBase s b d) f
   unfolding datumIn datumBase afterBase
@@ -463,9 +457,6 @@ module _ (s : List ℕ) (h : SectionAt s) (at : ℕ) (f : Field) where
   located-inside (Value c i d l v) e = along c i _ e (λ a x z. to-datum a d _ x z (λ b y w. value-inside b l v y w))
 
 -- ---- the steps and the fields as the code has them
-
-on-place : (t u : Tally) (p q : ℕ) → On t p ≡ On u q → p ≡ q
-on-place t u p q e = cc
 
 module _ (s : List ℕ) where
   pub content-yes : (c : ℕ) {n table off : ℕ} → n ≡ get 2 s 14 → c < n → table ≡ get 4 s 16 → off ≡ get 4 s (table + 4 * c) → From off ≡ contentBase s c

@@ -16,12 +16,13 @@ use Rattle.bflan.specs.declared.judge.Verdict.{Verdict}
 use Rattle.bflan.specs.declared.judge.Verdict.the-variants.{Fine, BadWord, BadText}
 use Rattle.bflan.specs.Judge.{Judged, fine, badWord, badText, J, andThen, ret, word, chars, text, times, wide, row, target, datum, info, content, ends, section}
 use Rattle.bflan.specs.Letters.{fleu, lettersFit, targetFits}
-use Rattle.bflan.specs.Layout.{zeros, targetLay, datumLay, infoHead, infoLay, infosOut, tableFrom, infosFrom, contentBody, contentLay, namesEnd, contentTable, sectionLay, number, size, parts, keySkip, keyLay, ended, row as rowLay}
+use Rattle.bflan.specs.Layout.{zeros, targetLay, datumLay, infoHead, infoLay, infosOut, tableFrom, infosFrom, contentBody, contentLay, namesEnd, contentTable, sectionLay, number, size, parts, keySkip, keyLay, ended}
 use Rattle.bflan.specs.Measure.{measured}
 use Rattle.bflan.specs.MeasureParts.{fits, grown, filledUp, padded, Behind, behind, named, ending, headed}
+use Rattle.bflan.specs.Places.{total}
 use Rattle.bflan.specs.Record.{AnimTarget, Standard, AnimInfo, AnimContent, PaneAnimInfo, keyWidths}
 use Rattle.bflan.specs.Walk.{sat}
-use Rattle.bflan.proofs.Layouts.{size-table, user-size}
+use Rattle.bflan.proofs.Layouts.{size-row, size-table, user-size}
 use Rattle.bflan.proofs.Inversion.{times-length}
 use Rattle.bflan.proofs.Measures.{marked, measured-padded, sat-filled, grown-sat, was-word, was-text, was-fine, measured-by, measured-grown, measured-made, then-grown, word-fine, word-bad, times-none, times-turn, steps-as, steps-word, steps-row, steps-times, ran, steps-measured, size-parts, size-numbers}
 
@@ -102,16 +103,6 @@ module _ (w : List ℕ) (small : (k : ℕ) → getD w k 0 < 4294967296) (x : Lis
 
 -- ---- keys
 
-abbrev widths : List ℕ → ℕ
-widths [] = 0
-widths (k ∷ ks) = k + widths ks
-
-row-size : (ks vs : List ℕ) → size (rowLay ks vs) ≡ widths ks
-unfolding rowLay size
-row-size [] vs = refl
-row-size (k ∷ ks) [] = ap (λ (n : ℕ). k + n) (row-size ks [])
-row-size (k ∷ ks) (v ∷ vs) = ap (λ (n : ℕ). k + n) (row-size ks vs)
-
 -- keys whose words are all of four bytes are a run of words
 module _ (w : List ℕ) (small : (k : ℕ) → getD w k 0 < 4294967296) (x : List ℕ) (i j : ℕ) where
   keys-run : (curve k m n : ℕ) → keyWidths curve ≡ replicate k 4 → ((ks : List ℕ) → size (keyLay curve ks) ≡ k * 4) → n * k ≡ m → n * (k * 4) ≡ m * 4
@@ -123,13 +114,13 @@ module _ (w : List ℕ) (small : (k : ℕ) → getD w k 0 < 4294967296) (x : Lis
 
   pub keys-constant : (curve n : ℕ) → curve ≡ 0
       → measured (λ vs. size (parts (number 4) vs)) (times n (word (wide 4)) w x i j) ≡ measured (λ ks. size (parts (keyLay curve) ks)) (times n (row (keyWidths curve)) w x i j)
-  keys-constant curve n e = rw e (keys-run 0 1 n n (unfold keyWidths in refl) (λ ks. unfold keyLay keyWidths keySkip size in rw (row-size (4 ∷ []) ks)) (omega arith) (omega arith))
+  keys-constant curve n e = rw e (keys-run 0 1 n n (unfold keyWidths in refl) (λ ks. unfold keyLay keyWidths keySkip size total in rw (size-row (4 ∷ []) ks)) (omega arith) (omega arith))
 
   pub keys-hermite : (curve n : ℕ) → 2 ≤ curve
       → measured (λ vs. size (parts (number 4) vs)) (times (3 * n) (word (wide 4)) w x i j) ≡ measured (λ ks. size (parts (keyLay curve) ks)) (times n (row (keyWidths curve)) w x i j)
   keys-hermite zero n h = absurd (omega arith)
   keys-hermite (suc zero) n h = absurd (omega arith)
-  keys-hermite (suc (suc c)) n h = keys-run (suc (suc c)) 3 (3 * n) n (unfold keyWidths in refl) (λ ks. unfold keyLay keyWidths keySkip size in rw (row-size (4 ∷ 4 ∷ 4 ∷ []) ks, ne-eqb (suc (suc c)) 1 (λ e. omega arith))) (omega arith) (omega arith)
+  keys-hermite (suc (suc c)) n h = keys-run (suc (suc c)) 3 (3 * n) n (unfold keyWidths in refl) (λ ks. unfold keyLay keyWidths keySkip size total in rw (size-row (4 ∷ 4 ∷ 4 ∷ []) ks, ne-eqb (suc (suc c)) 1 (λ e. omega arith))) (omega arith) (omega arith)
 
 -- pairs: the second word is of two bytes, and a loop looks at each
 module _ (w x : List ℕ) (left at j c : ℕ) (whole : Verdict) (e : measured (λ ks. c) (times left (row (keyWidths 1)) w x at j) ≡ whole) where
@@ -157,7 +148,7 @@ pairs-size w x n i j =
     measured-by (λ ks. 8 * n) (λ ks. size (parts (keyLay 1) ks)) (times n (row (keyWidths 1)) w x i j)
     (λ ks u v e.
     let l = times-length (row (keyWidths 1)) w x n i j e in
-    let s = size-parts (keyLay 1) 8 (λ k. unfold keyLay keyWidths keySkip size in rw (row-size (4 ∷ 2 ∷ []) k)) ks in
+    let s = size-parts (keyLay 1) 8 (λ k. unfold keyLay keyWidths keySkip size total in rw (size-row (4 ∷ 2 ∷ []) k)) ks in
     omega (arith, l, s))
 
 pub keys-step : (w x : List ℕ) (i j curve n : ℕ) → curve ≡ 1

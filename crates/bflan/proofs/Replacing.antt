@@ -11,7 +11,7 @@ use Rattle.core.specs.Number.{le, get}
 use Rattle.bflan.specs.Layout.{Layout, number, _⨾_, size, written, row, parts, table}
 use Rattle.bflan.specs.Limits.{All}
 use Rattle.bflan.specs.Places.{total, first, Found, missing, ofElement, changed}
-use Rattle.bflan.proofs.Layouts.{size-written, Stands, stands-left, stands-right, stands-to, stands-get}
+use Rattle.bflan.proofs.Layouts.{size-written, size-row, Stands, stands-left, stands-right, stands-to, stands-get}
 
 -- ---- a run of stores in a list of two parts
 
@@ -68,12 +68,6 @@ replaces-whole l m e =
     record { inside = omega (arith, n); same = e; writes = sets-whole (written l) (written m) (n ∙ sym (size-written l)) }
 
 -- ---- rows
-
-pub size-row : (ks vs : List ℕ) → size (row ks vs) ≡ total ks
-unfolding size row total
-size-row [] vs = refl
-size-row (k ∷ ks) [] = ap (λ (n : ℕ). k + n) (size-row ks [])
-size-row (k ∷ ks) (v ∷ vs) = ap (λ (n : ℕ). k + n) (size-row ks vs)
 
 pub length-row : (ks vs : List ℕ) → length (written (row ks vs)) ≡ total ks
 length-row ks vs = size-written (row ks vs) ∙ size-row ks vs

@@ -11,7 +11,6 @@ use lib.Dec.{eqb}
 use lib.ListN.{length, take, drop, replicate, length-replicate, take-append-drop}
 use lib.Seq.{slice, take-add, drop-drop}
 use Rattle.core.specs.Choice.{pick}
-use Rattle.core.specs.Fill.{paddingOf}
 use Rattle.core.specs.Number.{le, get, val}
 use Rattle.core.specs.Run.{numbersAt, numbersOf}
 use Rattle.core.specs.declared.run.Run.{Run}
@@ -33,18 +32,13 @@ use Rattle.bflan.specs.Record.{Standard, ExtendedUserData, AnimContent, 
 use Rattle.bflan.specs.Walk.{shownAt, wordsOf, textsOf}
 use Rattle.bflan.proofs.Codes.{fits-lt, fits-own, fit-lt, letters-own}
 use Rattle.bflan.proofs.ContentParts.{nameSize, contentRest, content-there, rest-at}
-use Rattle.bflan.proofs.Emits.{sought-on, ended-on, shown-part}
+use Rattle.bflan.proofs.Emits.{sought-there, ended-on, shown-part}
 use Rattle.bflan.proofs.KeyRuns.{asNumbers, numbers-run}
 use Rattle.bflan.proofs.SectionParts.{endAt, headWords, section-body, body-there, contents-on}
-use Rattle.bflan.proofs.Layouts.{Stands, stands-left, stands-right, stands-to, stands-all, stands-num, stands-get, size-table, size-written, offsets, table-reads, user-size}
+use Rattle.bflan.proofs.Layouts.{Stands, stands-left, stands-right, stands-to, stands-all, stands-num, stands-get, size-table, size-written, offsets, table-reads, user-size, section-sizes, section-size}
 use Rattle.bflan.proofs.ReadBack.{shownIn, Reads, reads-as, reads-none, reads-before, reads-joined, ReadsPart, ReadsAt, many-reads, visit-reads, key-reads, shown-words, words-shown, texts-shown}
 use Rattle.bflan.proofs.TargetParts.{curve-low, count-low}
 use Rattle.bflan.proofs.Walks.{before, joined, put-before}
-
--- ---- seeks
-
-sought : (s : List ℕ) (to i : ℕ) → to ≤ length s → seekTo to s i ≡ ok to to
-sought s to i h = sought-on s to i to (seek-there s to h)
 
 -- ---- texts
 
@@ -69,7 +63,7 @@ texture-reads s b i t f h =
     let l : b ≤ length s = omega (arith, h .fits) in
     record {
       next = b + length t + 1;
-      here = record { items = text b (length t) ∷ []; reads = rw (sought s b i l) (ended-reads s b t f h); shows = ap (λ (z : List ℕ). chars z ∷ []) (shown-there s b t f (unfold ended in stands-left h)) };
+      here = record { items = text b (length t) ∷ []; reads = rw (sought-there s b i l) (ended-reads s b t f h); shows = ap (λ (z : List ℕ). chars z ∷ []) (shown-there s b t f (unfold ended in stands-left h)) };
     }
 
 -- ---- targets
@@ -90,7 +84,7 @@ target-reads letters s b i t f h =
     let low : t .curve ≤ 2 = omega (arith, f .curve) in
     let k = many-reads (keyLay (t .curve)) (map wordCell) (Fits (keyWidths (t .curve))) s (keyOf (t .curve)) (key-reads (t .curve) (f .curve) s) (b + 12) (t .keys) (f .keys) (stands-to h7 (omega arith)) in
     let e : target letters b s i ≡ before (word (t .layer) ∷ word (t .target) ∷ word (t .curve) ∷ word (length (t .keys)) ∷ []) (many (length (t .keys)) (keyOf (t .curve)) s (b + 12)) =
-    rw (sought s b i l, stands-num (stands-left h) (f .layer), stands-num (stands-left h1) (fits-lt letters (t .target) (f .target)), stands-num (stands-left h2) c, stands-num (stands-left h3) (omega arith), stands-num (stands-left h4) (f .count), stands-num (stands-left h5) (omega arith), stands-num (stands-left h6) (omega arith), sought s (b + 12) (b + 1 + 1 + 1 + 1 + 2 + 2 + 4) l12, curve-low (t .curve) (length (t .keys)) low, count-low (t .curve) (length (t .keys)) low, fits-own letters (t .target) (f .target))
+    rw (sought-there s b i l, stands-num (stands-left h) (f .layer), stands-num (stands-left h1) (fits-lt letters (t .target) (f .target)), stands-num (stands-left h2) c, stands-num (stands-left h3) (omega arith), stands-num (stands-left h4) (f .count), stands-num (stands-left h5) (omega arith), stands-num (stands-left h6) (omega arith), sought-there s (b + 12) (b + 1 + 1 + 1 + 1 + 2 + 2 + 4) l12, curve-low (t .curve) (length (t .keys)) low, count-low (t .curve) (length (t .keys)) low, fits-own letters (t .target) (f .target))
     (put-before (word (t .layer) ∷ word (t .target) ∷ word (t .curve) ∷ word (length (t .keys)) ∷ []) (many (length (t .keys)) (keyOf (t .curve)) s (b + 12)) s) in
     record { next = b + 12 + size (parts (keyLay (t .curve)) (t .keys)); here = reads-as (sym e) refl refl (reads-before (word (t .layer) ∷ word (t .target) ∷ word (t .curve) ∷ word (length (t .keys)) ∷ []) k) }
 
@@ -125,7 +119,7 @@ datum-reads s i d f h =
     let z = reads-before hs (reads-before (map word (d .values)) (text-reads s (j + 4) (d .key) (f .key) h7)) in
     let n = size-ended (d .key) in
     reads-as
-    (rw (stands-num (stands-left h) (f .headerSize), stands-num (stands-left h1) (f .unk1), stands-num (stands-left h2) (f .unk2), stands-num (stands-left h3) (f .baseCount), stands-num (stands-left h4) (f .unk3), ← f .count, values-read s (i + 4 + 2 + 2 + 4 + 4) (d .values) (f .values) (stands-left h5), stands-num (stands-left h6) (omega arith), sought s (j + 4) (j + 4) l, ended-reads s (j + 4) (d .key) (f .key) h7))
+    (rw (stands-num (stands-left h) (f .headerSize), stands-num (stands-left h1) (f .unk1), stands-num (stands-left h2) (f .unk2), stands-num (stands-left h3) (f .baseCount), stands-num (stands-left h4) (f .unk3), ← f .count, values-read s (i + 4 + 2 + 2 + 4 + 4) (d .values) (f .values) (stands-left h5), stands-num (stands-left h6) (omega arith), sought-there s (j + 4) (j + 4) l, ended-reads s (j + 4) (d .key) (f .key) h7))
     (ap (λ (vs : List Cell). wordCell (d .headerSize) ∷ wordCell (d .unk1) ∷ wordCell (d .unk2) ∷ wordCell (d .baseCount) ∷ wordCell (d .unk3) ∷ (vs ++ (chars (d .key) ∷ []))) (shown-words s (d .values)))
     (omega (arith, n))
     z
@@ -148,7 +142,7 @@ module _ (s : List ℕ) (short : length s ≤ 16777216) where
       let o = table-reads targetLay s (b + 4 + 1 + 1 + 2) (8 + 4 * n) ts lp (stands-to (stands-left h1) (omega arith)) in
       let v = visit-reads targetLay targetCells (FineTarget letters) s (target letters) (target-reads letters s) b (8 + 4 * n) (b + 4 + 1 + 1 + 2 + 4 * n) ts (f .targets) (stands-to (stands-right h1) (omega (arith, lt))) in
       let e : info b s i ≡ before (word letters ∷ word n ∷ []) (visit b (target letters) (offsets targetLay (8 + 4 * n) ts) s (b + 4 + 1 + 1 + 2 + 4 * n)) =
-      rw (sought s b i l, stands-num (stands-left g) (fit-lt letters (f .letters)), stands-num (stands-left g1) (f .count), stands-num (stands-left g2) (omega arith), stands-num g3 (omega arith), ne-eqb letters fleu (f .standard), o, letters-own letters (f .letters))
+      rw (sought-there s b i l, stands-num (stands-left g) (fit-lt letters (f .letters)), stands-num (stands-left g1) (f .count), stands-num (stands-left g2) (omega arith), stands-num g3 (omega arith), ne-eqb letters fleu (f .standard), o, letters-own letters (f .letters))
       (put-before (word letters ∷ word n ∷ []) (visit b (target letters) (offsets targetLay (8 + 4 * n) ts) s (b + 4 + 1 + 1 + 2 + 4 * n)) s) in
       record { next = v .next; here = reads-as (sym e) refl refl (reads-before (word letters ∷ word n ∷ []) (v .here)) }
   info-reads b i (ExtendedUserData ds) f h =
@@ -160,7 +154,7 @@ module _ (s : List ℕ) (short : length s ≤ 16777216) where
       let l : b ≤ length s = omega (arith, h .fits) in
       let m = many-reads datumLay datumCells FineDatum s datum (datum-reads s) (b + 4 + 1 + 1 + 2) ds (f .1) (stands-to (stands-right h) (omega arith)) in
       let e : info b s i ≡ before (word fleu ∷ word n ∷ []) (many n datum s (b + 4 + 1 + 1 + 2)) =
-      rw (sought s b i l, stands-num (stands-left g) (omega arith), stands-num (stands-left g1) (f .0), stands-num (stands-left g2) (omega arith), stands-num g3 (omega arith))
+      rw (sought-there s b i l, stands-num (stands-left g) (omega arith), stands-num (stands-left g1) (f .0), stands-num (stands-left g2) (omega arith), stands-num g3 (omega arith))
       (put-before (word fleu ∷ word n ∷ []) (many n datum s (b + 4 + 1 + 1 + 2)) s) in
       record { next = b + 4 + 1 + 1 + 2 + size (parts datumLay ds); here = reads-as (sym e) refl refl (reads-before (word fleu ∷ word n ∷ []) m) }
 
@@ -172,7 +166,7 @@ module _ (s : List ℕ) (short : length s ≤ 16777216) where
     where
       go : (u : Bool) → b + 32 + size (pick u (number 4 40 ⨾ number 4 total) nothing) ≤ length s → Stands s (b + 32) (pick u (number 4 40 ⨾ number 4 total) nothing)
           → given u (_>>=_ (num 4) (λ offset. seekTo (b + offset))) here s (b + 32) ≡ ok (b + pick u 40 32) (b + pick u 40 32)
-      go true l h = let k : b + 40 ≤ length s = omega arith in rw (stands-num (stands-left h) (omega arith), sought s (b + 40) (b + 32 + 4) k)
+      go true l h = let k : b + 40 ≤ length s = omega arith in rw (stands-num (stands-left h) (omega arith), sought-there s (b + 40) (b + 32 + 4) k)
       go false l h = refl
 
   zeros-before : (n : ℕ) → beforeZero (replicate n 0) ≡ 0
@@ -275,9 +269,23 @@ flag-own zero h = refl
 flag-own (suc zero) h = refl
 flag-own (suc (suc b)) h = absurd (omega arith)
 
-pub section-reads : (s : List ℕ) (r : PaneAnimInfo) → Within r → Stands s 0 (sectionLay r) → length s ≤ 16777216 → Reads s (section s 0) (cells r) (size (sectionLay r))
-unfolding sectionLay cells size contentTable sectionSize namesEnd shownIn
-section-reads s r w h short =
+-- a section that stands: each of its fields, at its place
+pub record StandsSection (s : List ℕ) (r : PaneAnimInfo) : Type 0 where
+  pub letters : Stands s 0 (number 4 pai1)
+  pub whole : Stands s 4 (number 4 (sectionSize r))
+  pub frames : Stands s 8 (number 2 (r .frames))
+  pub looping : Stands s 10 (number 1 (r .looping))
+  pub textureCount : Stands s 12 (number 2 (length (r .textures)))
+  pub contentCount : Stands s 14 (number 2 (length (r .contents)))
+  pub start : Stands s 16 (number 4 (contentTable r))
+  pub nameOffsets : Stands s 20 (table ended (4 * length (r .textures)) (r .textures))
+  pub names : Stands s (20 + 4 * length (r .textures)) (parts ended (r .textures))
+  pub offsets : Stands s (contentTable r) (table contentLay (contentTable r + 4 * length (r .contents)) (r .contents))
+  pub contents : Stands s (contentTable r + 4 * length (r .contents)) (parts contentLay (r .contents))
+
+pub section-stands : (s : List ℕ) (r : PaneAnimInfo) → Stands s 0 (sectionLay r) → StandsSection s r
+unfolding sectionLay contentTable sectionSize namesEnd size
+section-stands s r h =
     let h1 = stands-right h in
     let h2 = stands-right h1 in
     let h3 = stands-right h2 in
@@ -290,37 +298,49 @@ section-reads s r w h short =
     let h10 = stands-right h9 in
     let h11 = stands-right h10 in
     let h12 = stands-right h11 in
+    let z = section-sizes r in
+    record {
+      letters = stands-left h;
+      whole = stands-left h1;
+      frames = stands-left h2;
+      looping = stands-left h3;
+      textureCount = stands-left h5;
+      contentCount = stands-left h6;
+      start = stands-left h7;
+      nameOffsets = stands-left h8;
+      names = stands-to (stands-left h9) (omega (arith, z .offsets));
+      offsets = stands-to (stands-left h11) (omega (arith, z .offsets, z .fill));
+      contents = stands-to h12 (omega (arith, z .offsets, z .fill, z .contentOffsets));
+    }
+
+pub section-reads : (s : List ℕ) (r : PaneAnimInfo) → Within r → Stands s 0 (sectionLay r) → length s ≤ 16777216 → Reads s (section s 0) (cells r) (size (sectionLay r))
+unfolding sectionLay cells size contentTable sectionSize namesEnd shownIn
+section-reads s r w h short =
+    let g = section-stands s r h in
     let f : Fine r = w .fine in
     let nt : ℕ = length (r .textures) in
     let nc : ℕ = length (r .contents) in
-    let ne : ℕ = 20 + (4 * nt + size (parts ended (r .textures))) in
-    let at : ℕ = ne + paddingOf ne in
-    let all : ℕ = at + (4 * nc + size (parts contentLay (r .contents))) in
-    let z : length (replicate {A = ℕ} (paddingOf ne) 0) ≡ paddingOf ne = length-replicate (paddingOf ne) 0 in
-    let lt : size (table ended (4 * nt) (r .textures)) ≡ 4 * nt = size-table ended (4 * nt) (r .textures) in
-    let lc : size (table contentLay (at + 4 * nc) (r .contents)) ≡ 4 * nc = size-table contentLay (at + 4 * nc) (r .contents) in
-    let g8 : Stands s 20 (table ended (4 * nt) (r .textures)) = stands-to (stands-left h8) (omega arith) in
-    let g9 : Stands s (20 + 4 * nt) (parts ended (r .textures)) = stands-to (stands-left h9) (omega (arith, lt)) in
-    let g11 : Stands s at (table contentLay (at + 4 * nc) (r .contents)) = stands-to (stands-left h11) (omega (arith, lt, z)) in
-    let g12 : Stands s (0 + (at + 4 * nc)) (parts contentLay (r .contents)) = stands-to h12 (omega (arith, lt, lc, z)) in
-    let end : all ≤ length s = omega (arith, g12 .fits) in
-    let b8 : 8 ≤ length s = omega (arith, g11 .fits) in
-    let b20 : 20 ≤ length s = omega (arith, g11 .fits) in
-    let el : get 4 s 0 ≡ pai1 = stands-get (stands-left h) (omega arith) in
-    let es : get 4 s 4 ≡ all = stands-get (stands-left h1) (omega (arith, end)) in
-    let ef : get 2 s 8 ≡ r .frames = stands-get (stands-left h2) (f .frames) in
-    let eb : get 1 s 10 ≡ r .looping = stands-get (stands-left h3) (omega (arith, f .looping)) in
-    let et : get 2 s 12 ≡ nt = stands-get (stands-left h5) (f .textureCount) in
-    let ec : get 2 s 14 ≡ nc = stands-get (stands-left h6) (f .contentCount) in
-    let ea : get 4 s 16 ≡ at = stands-get (stands-left h7) (omega (arith, end)) in
-    let to = run-there nt s 20 _ _ (table-reads ended s 20 (4 * nt) (r .textures) (omega (arith, g9 .fits)) g8) in
-    let co = run-there nc s at _ _ (table-reads contentLay s at (at + 4 * nc) (r .contents) (omega (arith, g12 .fits)) g11) in
-    let tv = visit-reads ended textureCells FineText s texture (texture-reads s) 20 (4 * nt) (20 + 4 * nt) (r .textures) (f .textures) g9 in
+    let at : ℕ = contentTable r in
+    let all : ℕ = sectionSize r in
+    let g12 : Stands s (0 + (at + 4 * nc)) (parts contentLay (r .contents)) = stands-to (g .contents) (omega arith) in
+    let end : all ≤ length s = omega (arith, g .contents .fits) in
+    let b8 : 8 ≤ length s = omega (arith, g .offsets .fits) in
+    let b20 : 20 ≤ length s = omega (arith, g .offsets .fits) in
+    let el : get 4 s 0 ≡ pai1 = stands-get (g .letters) (omega arith) in
+    let es : get 4 s 4 ≡ all = stands-get (g .whole) (omega (arith, end)) in
+    let ef : get 2 s 8 ≡ r .frames = stands-get (g .frames) (f .frames) in
+    let eb : get 1 s 10 ≡ r .looping = stands-get (g .looping) (omega (arith, f .looping)) in
+    let et : get 2 s 12 ≡ nt = stands-get (g .textureCount) (f .textureCount) in
+    let ec : get 2 s 14 ≡ nc = stands-get (g .contentCount) (f .contentCount) in
+    let ea : get 4 s 16 ≡ at = stands-get (g .start) (omega (arith, end)) in
+    let to = run-there nt s 20 _ _ (table-reads ended s 20 (4 * nt) (r .textures) (omega (arith, g .names .fits)) (g .nameOffsets)) in
+    let co = run-there nc s at _ _ (table-reads contentLay s at (at + 4 * nc) (r .contents) (omega (arith, g .contents .fits)) (g .offsets)) in
+    let tv = visit-reads ended textureCells FineText s texture (texture-reads s) 20 (4 * nt) (20 + 4 * nt) (r .textures) (f .textures) (g .names) in
     let cv = visit-reads contentLay contentCells FineContent s content (content-reads s short) 0 (at + 4 * nc) (at + 4 * nc) (r .contents) (f .contents) g12 in
     let lo : flagOf (get 1 s 10) ≡ r .looping = ap flagOf eb ∙ flag-own (r .looping) (f .looping) in
     let size4 : ℕ = get 4 s 4 in
     let last : (k : ℕ) → Reads s (endAt (seekTo size4 s k)) [] all =
-    λ k. reads-as (sym (ap endAt (ap (λ (m : ℕ). seekTo m s k) es ∙ sought s all k end))) refl refl (reads-none all) in
+    λ k. reads-as (sym (ap endAt (ap (λ (m : ℕ). seekTo m s k) es ∙ sought-there s all k end))) refl refl (reads-none all) in
     let cont : (j : ℕ) → contents (get 4 s 16) (get 2 s 14) s j ≡ visit 0 content (offsets contentLay (at + 4 * nc) (r .contents)) s (at + 4 * nc) =
     λ j. ap₂ (λ (a n : ℕ). contents a n s j) ea ec ∙ contents-on s at nc j at (at + 4 * nc) (seek-there s at (omega (arith, end))) (co .next) ∙ ap (λ (vs : List ℕ). visit 0 content vs s (at + 4 * nc)) (co .values) in
     let tex : visit 20 texture (numbersAt (get 2 s 12) s 20) s (20 + 4 * nt) ≡ visit 20 texture (offsets ended (4 * nt) (r .textures)) s (20 + 4 * nt) =
@@ -329,7 +349,7 @@ section-reads s r w h short =
     reads-joined (λ j. joined (contents (get 4 s 16) (get 2 s 14) s j) (λ k. endAt (seekTo size4 s k))) (reads-as (sym tex) refl refl (tv .here))
     (reads-joined (λ k. endAt (seekTo size4 s k)) (reads-as (sym (cont (tv .next))) refl refl (cv .here)) (last (cv .next))) in
     let nx : numbersOf (get 2 s 12) s 20 ≡ Next (20 + 4 * nt) = ap (λ (n : ℕ). numbersOf n s 20) et ∙ to .next in
-    reads-as (sym (section-body s b8 el ∙ body-there s size4 b20 (20 + 4 * nt) nx)) (rw (ef, lo, et, ec, append-nil)) (omega (arith, lt, lc, z)) (reads-before (headWords s size4) tail)
+    reads-as (sym (section-body s b8 el ∙ body-there s size4 b20 (20 + 4 * nt) nx)) (rw (ef, lo, et, ec, append-nil)) (sym (section-size r)) (reads-before (headWords s size4) tail)
 
 -- the record that was written, read again: its words, its texts, and the end
 pub record ReadsBack (s : List ℕ) (r : PaneAnimInfo) : Type 0 where

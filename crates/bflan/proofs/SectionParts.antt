@@ -58,7 +58,7 @@ module _ (s : List ℕ) where
 
   pub section-body : 8 ≤ length s → get 4 s 0 ≡ pai1 → section s 0 ≡ body (get 4 s 4) s 8
   unfolding section
-  section-body h e = let a : 4 ≤ length s = omega arith in rw (num-there 4 s 0 a, num-there 4 s 4 h, eq-eqb (get 4 s 0) pai1 e)
+  section-body h e = rw (num-there 4 s 0 (omega arith), num-there 4 s 4 h, eq-eqb (get 4 s 0) pai1 e)
 
   -- ---- the next twelve
 
@@ -73,31 +73,22 @@ module _ (s : List ℕ) where
 
     pub body-short12 : 11 ≤ length s → length s < 12 → body size s 8 ≡ stop (PastEnd 11 1)
     unfolding body
-    body-short12 h k = let a : 10 ≤ length s = omega arith in rw (num-there 2 s 8 a, num-there 1 s 10 h, num-short 1 s 11 k)
+    body-short12 h k = rw (num-there 2 s 8 (omega arith), num-there 1 s 10 h, num-short 1 s 11 k)
 
     pub body-short14 : 12 ≤ length s → length s < 14 → body size s 8 ≡ stop (PastEnd 12 2)
     unfolding body
     body-short14 h k =
-        let a : 10 ≤ length s = omega arith in
-        let b : 11 ≤ length s = omega arith in
-        rw (num-there 2 s 8 a, num-there 1 s 10 b, num-there 1 s 11 h, num-short 2 s 12 k)
+        rw (num-there 2 s 8 (omega arith), num-there 1 s 10 (omega arith), num-there 1 s 11 h, num-short 2 s 12 k)
 
     pub body-short16 : 14 ≤ length s → length s < 16 → body size s 8 ≡ stop (PastEnd 14 2)
     unfolding body
     body-short16 h k =
-        let a : 10 ≤ length s = omega arith in
-        let b : 11 ≤ length s = omega arith in
-        let c : 12 ≤ length s = omega arith in
-        rw (num-there 2 s 8 a, num-there 1 s 10 b, num-there 1 s 11 c, num-there 2 s 12 h, num-short 2 s 14 k)
+        rw (num-there 2 s 8 (omega arith), num-there 1 s 10 (omega arith), num-there 1 s 11 (omega arith), num-there 2 s 12 h, num-short 2 s 14 k)
 
     pub body-short20 : 16 ≤ length s → length s < 20 → body size s 8 ≡ stop (PastEnd 16 4)
     unfolding body
     body-short20 h k =
-        let a : 10 ≤ length s = omega arith in
-        let b : 11 ≤ length s = omega arith in
-        let c : 12 ≤ length s = omega arith in
-        let d : 14 ≤ length s = omega arith in
-        rw (num-there 2 s 8 a, num-there 1 s 10 b, num-there 1 s 11 c, num-there 2 s 12 d, num-there 2 s 14 h, num-short 4 s 16 k)
+        rw (num-there 2 s 8 (omega arith), num-there 1 s 10 (omega arith), num-there 1 s 11 (omega arith), num-there 2 s 12 (omega arith), num-there 2 s 14 h, num-short 4 s 16 k)
 
     -- the four words of the head
     abbrev pub headWords : List Item
@@ -107,25 +98,15 @@ module _ (s : List ℕ) where
       pub body-cut : (o k : ℕ) → numbersOf (get 2 s 12) s 20 ≡ Cut o k → body size s 8 ≡ stop (PastEnd o k)
       unfolding body
       body-cut o k t =
-          let a : 10 ≤ length s = omega arith in
-          let b : 11 ≤ length s = omega arith in
-          let c : 12 ≤ length s = omega arith in
-          let d : 14 ≤ length s = omega arith in
-          let e : 16 ≤ length s = omega arith in
           let r : numbers (get 2 s 12) s 20 ≡ stop (PastEnd o k) = numbers-run (get 2 s 12) s 20 ∙ rw t in
-          rw (num-there 2 s 8 a, num-there 1 s 10 b, num-there 1 s 11 c, num-there 2 s 12 d, num-there 2 s 14 e, num-there 4 s 16 h, r)
+          rw (num-there 2 s 8 (omega arith), num-there 1 s 10 (omega arith), num-there 1 s 11 (omega arith), num-there 2 s 12 (omega arith), num-there 2 s 14 (omega arith), num-there 4 s 16 h, r)
 
       pub body-there : (q : ℕ) → numbersOf (get 2 s 12) s 20 ≡ Next q
           → body size s 8 ≡ before headWords (joined (visit 20 texture (numbersAt (get 2 s 12) s 20) s q) (λ j. joined (contents (get 4 s 16) (get 2 s 14) s j) (λ k. endAt (seekTo size s k))))
       unfolding body
       body-there q t =
-          let a : 10 ≤ length s = omega arith in
-          let b : 11 ≤ length s = omega arith in
-          let c : 12 ≤ length s = omega arith in
-          let d : 14 ≤ length s = omega arith in
-          let e : 16 ≤ length s = omega arith in
           let r : numbers (get 2 s 12) s 20 ≡ ok (numbersAt (get 2 s 12) s 20) q = numbers-run (get 2 s 12) s 20 ∙ rw t in
-          rw (num-there 2 s 8 a, num-there 1 s 10 b, num-there 1 s 11 c, num-there 2 s 12 d, num-there 2 s 14 e, num-there 4 s 16 h, r)
+          rw (num-there 2 s 8 (omega arith), num-there 1 s 10 (omega arith), num-there 1 s 11 (omega arith), num-there 2 s 12 (omega arith), num-there 2 s 14 (omega arith), num-there 4 s 16 h, r)
           (chain headWords s size (get 4 s 16) (get 2 s 14) (visit 20 texture (numbersAt (get 2 s 12) s 20) s q))
 
 -- ---- the contents

@@ -15,6 +15,7 @@ use Rattle.core.specs.Fill.{paddingOf}
 use Rattle.core.specs.Number.{le, put}
 use Rattle.core.specs.Run.{numbersLe, pairsLe}
 use Rattle.core.proofs.Numbers.{put-put}
+use Rattle.core.proofs.Runs.{numbers-le-append}
 use Rattle.bflan.specs.declared.writer.Pen.{Pen}
 use Rattle.bflan.specs.Judge.{Judged, fine, badWord, badText, J, andThen, _>>=_, word, text, times, wide, row, target, datum, info, content, section}
 use Rattle.bflan.specs.Layout.{Layout, nothing, number, bytes, _⨾_, size, written, row as rowLay, parts, keySkip, keyLay, targetLay, ended, datumLay, infoHead, infoLay, zeros, dataOut, infosOut, tableFrom, infosFrom, userLay, contentBody, contentLay, namesEnd, contentTable, sectionSize, sectionLay}
@@ -24,7 +25,7 @@ use Rattle.bflan.specs.Reading.{pai1}
 use Rattle.bflan.specs.Record.{ExtendedUserDataAnim, AnimInfo, Standard, ExtendedUserData, AnimContent, keyWidths}
 use Rattle.bflan.specs.Stored.{Ready, laid, behind, listed, targetHead, datumHead, datumFront, nameLay, bodyLay, frameLay, namesLay, outOf, outBy}
 use Rattle.bflan.proofs.Inversion.{TextAt, text-at, times-none, times-more, times-length, WordsAt, row-at, DatumAt, datum-at, info-at, info-extended, info-standard, ContentAt, content-at, SectionAt, section-at, TargetAt, target-at}
-use Rattle.bflan.proofs.Layouts.{size-written}
+use Rattle.bflan.proofs.Layouts.{size-written, section-size}
 use Rattle.bflan.proofs.Measures.{size-parts, size-numbers}
 use Rattle.bflan.proofs.Storing.{laid-fine, behind-fine, listed-size, Wrote, wrote-number, wrote-bytes, wrote-then, wrote-like, wrote-patched, Splits, split-behind, head-ready, head-done, whole-laid, whole-behind, like-ready, like-behind, like-laid}
 
@@ -184,14 +185,9 @@ pub record Coded (curve c m : ℕ) (enc : List ℕ → List ℕ) : Type 0 where
   more : (vs us : List ℕ) → length vs ≡ c → enc (vs ++ us) ≡ enc vs ++ enc us
   key : (vs : List ℕ) → length vs ≡ c → written (keyLay curve vs) ≡ enc vs
 
-numbers-append : (a b : List ℕ) → numbersLe (a ++ b) ≡ numbersLe a ++ numbersLe b
-unfolding numbersLe
-numbers-append [] b = refl
-numbers-append (v ∷ a) b = rw (numbers-append a b, append-assoc)
-
 coded-constant : Coded 0 1 4 numbersLe
 unfolding keyWidths keyLay keySkip rowLay size written numbersLe
-coded-constant = record { words = refl; sizes = one-size; none = refl; more = λ vs us e. numbers-append vs us; key = one-key }
+coded-constant = record { words = refl; sizes = one-size; none = refl; more = λ vs us e. numbers-le-append vs us; key = one-key }
   where
     one-size : (vs : List ℕ) → size (keyLay 0 vs) ≡ 4
     one-size [] = refl
@@ -225,7 +221,7 @@ coded-step = record { words = refl; sizes = two-size; none = refl; more = two-mo
 
 coded-hermite : Coded 2 3 12 numbersLe
 unfolding keyWidths keyLay keySkip rowLay size written numbersLe
-coded-hermite = record { words = refl; sizes = three-size; none = refl; more = λ vs us e. numbers-append vs us; key = three-key }
+coded-hermite = record { words = refl; sizes = three-size; none = refl; more = λ vs us e. numbers-le-append vs us; key = three-key }
   where
     three-size : (vs : List ℕ) → size (keyLay 2 vs) ≡ 12
     three-size [] = refl
@@ -453,16 +449,14 @@ module _ (w x : List ℕ) (i j at : ℕ) {most : ℕ} (h : Ready infoLay (info w
       go (ExtendedUserData ds) k = omega (arith, k)
 
   module _ (l n : ℕ) (el : l ≡ getD w i 0) (en : n ≡ getD w (i + 1) 0) where
-    extended-splits : l ≡ fleu → Splits infoLay (info w x i j) (λ (z : Layout). z) (fine (infoHead l n) (i + 2) j) (parts datumLay) (times n datum w x (i + 2) j)
-    unfolding infoLay written
-    extended-splits f =
-        info-extended w x i j (h .judged) (sym el ∙ f) λ ds q r.
-        let k : times n datum w x (i + 2) j ≡ fine ds (h .word) (h .byte) = rw en r in
-        let z : length ds ≡ n = times-length datum w x n (i + 2) j k in
+    -- the head, and what follows it
+    head-splits : {Y : Type 0} {lay : Y → Layout} {r : Judged Y} (ys : Y) → r ≡ fine ys (h .word) (h .byte) → written (infoLay (h .value)) ≡ written (infoHead l n) ++ written (lay ys)
+        → Splits infoLay (info w x i j) (λ (z : Layout). z) (fine (infoHead l n) (i + 2) j) lay r
+    head-splits ys k e =
         record {
           whole = h .value;
           first = infoHead l n;
-          rest = ds;
+          rest = ys;
           word = h .word;
           byte = h .byte;
           next-word = i + 2;
@@ -470,8 +464,16 @@ module _ (w x : List ℕ) (i j at : ℕ) {most : ℕ} (h : Ready infoLay (info w
           all = h .judged;
           starts = refl;
           goes-on = k;
-          same = ap (λ (a : AnimInfo). written (infoLay a)) q ∙ rw (z, f);
+          same = e;
         }
+
+    extended-splits : l ≡ fleu → Splits infoLay (info w x i j) (λ (z : Layout). z) (fine (infoHead l n) (i + 2) j) (parts datumLay) (times n datum w x (i + 2) j)
+    unfolding infoLay written
+    extended-splits f =
+        info-extended w x i j (h .judged) (sym el ∙ f) λ ds q r.
+        let k : times n datum w x (i + 2) j ≡ fine ds (h .word) (h .byte) = rw en r in
+        let z : length ds ≡ n = times-length datum w x n (i + 2) j k in
+        head-splits ds k (ap (λ (a : AnimInfo). written (infoLay a)) q ∙ rw (z, f))
 
     standard-splits : (l ≡ fleu → ⊥) → Splits infoLay (info w x i j) (λ (z : Layout). z) (fine (infoHead l n) (i + 2) j)
         (listed targetLay (at + 8 + 4 * n - at)) (times n (target l) w [] (i + 2) j)
@@ -481,19 +483,7 @@ module _ (w x : List ℕ) (i j at : ℕ) {most : ℕ} (h : Ready infoLay (info w
         let k : times n (target l) w [] (i + 2) j ≡ fine ts (h .word) (h .byte) = blind-times (target l) (blind-target l) n w [] x (i + 2) j ∙ rw (en, el) r in
         let z : length ts ≡ n = times-length (target l) w [] n (i + 2) j k in
         let m : at + 8 + 4 * n - at ≡ 8 + 4 * n = omega arith in
-        record {
-          whole = h .value;
-          first = infoHead l n;
-          rest = ts;
-          word = h .word;
-          byte = h .byte;
-          next-word = i + 2;
-          next-byte = j;
-          all = h .judged;
-          starts = refl;
-          goes-on = k;
-          same = ap (λ (a : AnimInfo). written (infoLay a)) q ∙ rw (z, m, el);
-        }
+        head-splits ts k (ap (λ (a : AnimInfo). written (infoLay a)) q ∙ rw (z, m, el))
 
     eight : 8 ≡ size (infoHead l n)
     unfolding infoHead size
@@ -866,11 +856,6 @@ module _ (w x : List ℕ) {most : ℕ} (h : Ready sectionLay (section w x 0 0) 0
   unfolding sectionSize
   contents-end = ap (λ (k : ℕ). contentTable (h .value) + k) (listed-size contentLay (contentTable (h .value) + 4 * length cs) cs)
 
-  section-size : size (sectionLay (h .value)) ≡ sectionSize (h .value)
-  unfolding frameLay size
-  section-size = sym (size-written (sectionLay (h .value))) ∙ ap length (sym pieces) ∙ size-written (number 4 pai1 ⨾ number 4 (sectionSize (h .value)) ⨾ frameLay (h .value .frames) (h .value .looping) (length ts) (length cs)
-      ⨾ number 4 (contentTable (h .value)) ⨾ namesLay ts ⨾ listed contentLay (contentTable (h .value) + 4 * length cs) cs) ∙ omega (arith, names-end, contents-end)
-
   module _ (n : ℕ) (en : n ≡ getD w 2 0) where
     names-judged : times n (text (wide 4)) w x 4 0 ≡ fine ts (at .word) (at .byte)
     names-judged = rw en (at .textures)
@@ -882,8 +867,8 @@ module _ (w x : List ℕ) {most : ℕ} (h : Ready sectionLay (section w x 0 0) 0
           word = at .word;
           byte = at .byte;
           judged = names-judged;
-          room = omega (arith, names-end, contents-end, section-size, h .room);
-          short = omega (arith, names-end, contents-end, section-size, h .short);
+          room = omega (arith, names-end, contents-end, section-size (h .value), h .room);
+          short = omega (arith, names-end, contents-end, section-size (h .value), h .short);
         }
 
     module _ (q : Pen) (eq : q ≡ behind namesLay (times n (text (wide 4)) w x 4 0) 20) (k : ℕ) (ek : k ≡ getD w 3 0) where
@@ -906,8 +891,8 @@ module _ (w x : List ℕ) {most : ℕ} (h : Ready sectionLay (section w x 0 0) 0
             word = h .word;
             byte = h .byte;
             judged = contents-judged;
-            room = rw (from, table-at) (omega (arith, contents-end, section-size, h .room));
-            short = rw (from, table-at) (omega (arith, contents-end, section-size, h .short));
+            room = rw (from, table-at) (omega (arith, contents-end, section-size (h .value), h .room));
+            short = rw (from, table-at) (omega (arith, contents-end, section-size (h .value), h .short));
           }
 
       pub section-done : (l0 : List ℕ) {l1 l2 l3 l4 l5 l6 : List ℕ} {e : Pen} {p s : ℕ}

@@ -21,40 +21,36 @@ use Rattle.bflan.specs.declared.tally.Tally.{Tally}
 use Rattle.bflan.specs.declared.tally.Walk.{Walk}
 use Rattle.bflan.specs.declared.tally.Walk.the-variants.{On, No}
 use Rattle.bflan.specs.Letters.{targetOf}
-use Rattle.bflan.specs.Reader.{Res, ok, stop, P, andThen, ret, Item, word, seekTo, numbers, visit}
+use Rattle.bflan.specs.Reader.{Res, ok, stop, P, andThen, _>>=_, ret, Item, word, seekTo, numbers, visit}
 use Rattle.bflan.specs.Reading.{curveOf, countOf, keys, target}
 use Rattle.bflan.specs.Walk.{asItems, wordsOf, sat, moved, run, told}
-use Rattle.bflan.proofs.Emits.{sought-on, sought-past}
-use Rattle.bflan.proofs.KeyRuns.{asNumbers, num-there, num-short, keys-constant, keys-step, keys-hermite, keys-above, texts-words, words-more, texts-more, tallied-more, moved-fits}
-use Rattle.bflan.proofs.Walks.{before, joined, before-before, put-before, visit-cons, visit-nil, sets-sat}
+use Rattle.bflan.proofs.Emits.{sought-on, sought-past, sought-there, sought-over}
+use Rattle.bflan.proofs.KeyRuns.{asNumbers, num-to, num-short, keys-constant, keys-step, keys-hermite, keys-above, texts-words, words-more, texts-more, tallied-more, moved-fits}
+use Rattle.bflan.proofs.Walks.{Three, before, joined, before-before, put-before, visit-cons, visit-nil, sets-sat}
 
 -- ---- where the reading stops of a target whose twelve bytes are not all there
 
 module _ (letters base : ℕ) (s : List ℕ) (i : ℕ) where
-  seek-in : base ≤ length s → seekTo base s i ≡ ok base base
-  seek-in h = sought-on s base i base (seek-there s base h)
-
   pub target-out : length s < base → target letters base s i ≡ stop (PastEnd (length s) (base - length s))
   unfolding target
-  target-out h = rw (sought-past s base i _ _ (seek-over s base h))
+  target-out h = rw (sought-over s base i h)
 
   -- in its four single bytes
   short-1 : length s ≡ base → target letters base s i ≡ stop (PastEnd base 1)
   unfolding target
-  short-1 h = rw (seek-in (omega arith), num-short 1 s base (omega arith))
+  short-1 h = rw (sought-there s base i (omega arith), num-short 1 s base (omega arith))
 
   short-2 : length s ≡ base + 1 → target letters base s i ≡ stop (PastEnd (base + 1) 1)
   unfolding target
-  short-2 h = rw (seek-in (omega arith), num-there 1 s base (omega arith), num-short 1 s (base + 1) (omega arith))
+  short-2 h = rw (sought-there s base i (omega arith), num-to 1 s base (base + 1) (omega arith) (omega arith), num-short 1 s (base + 1) (omega arith))
 
-  short-3 : length s ≡ base + 1 + 1 → target letters base s i ≡ stop (PastEnd (base + 1 + 1) 1)
+  short-3 : length s ≡ base + 2 → target letters base s i ≡ stop (PastEnd (base + 2) 1)
   unfolding target
-  short-3 h = rw (seek-in (omega arith), num-there 1 s base (omega arith), num-there 1 s (base + 1) (omega arith), num-short 1 s (base + 1 + 1) (omega arith))
+  short-3 h = rw (sought-there s base i (omega arith), num-to 1 s base (base + 1) (omega arith) (omega arith), num-to 1 s (base + 1) (base + 2) (omega arith) (omega arith), num-short 1 s (base + 2) (omega arith))
 
-  short-4 : length s ≡ base + 1 + 1 + 1 → target letters base s i ≡ stop (PastEnd (base + 1 + 1 + 1) 1)
+  short-4 : length s ≡ base + 3 → target letters base s i ≡ stop (PastEnd (base + 3) 1)
   unfolding target
-  short-4 h =
-      rw (seek-in (omega arith), num-there 1 s base (omega arith), num-there 1 s (base + 1) (omega arith), num-there 1 s (base + 1 + 1) (omega arith), num-short 1 s (base + 1 + 1 + 1) (omega arith))
+  short-4 h = rw (sought-there s base i (omega arith), num-to 1 s base (base + 1) (omega arith) (omega arith), num-to 1 s (base + 1) (base + 2) (omega arith) (omega arith), num-to 1 s (base + 2) (base + 3) (omega arith) (omega arith), num-short 1 s (base + 3) (omega arith))
 
   at-size : (p : ℕ) → length s ≡ p → target letters base s i ≡ stop (PastEnd p 1) → target letters base s i ≡ stop (PastEnd (length s) 1)
   at-size p h e = rw h e
@@ -76,54 +72,41 @@ module _ (letters base : ℕ) (s : List ℕ) (i : ℕ) where
       go true ea true eb false ed =
           let x = leb-true (base + 2) (length s) eb in
           let y = leb-false (base + 3) (length s) ed in
-          let q : length s ≡ base + 1 + 1 = omega arith in
-          at-size (base + 1 + 1) q (short-3 q)
+          let q : length s ≡ base + 2 = omega arith in
+          at-size (base + 2) q (short-3 q)
       go true ea true eb true ed =
           let x = leb-true (base + 3) (length s) ed in
-          let q : length s ≡ base + 1 + 1 + 1 = omega arith in
-          at-size (base + 1 + 1 + 1) q (short-4 q)
+          let q : length s ≡ base + 3 = omega arith in
+          at-size (base + 3) q (short-4 q)
 
   -- in its key count, in the two bytes behind it, and in its offset
   pub target-count : base + 4 ≤ length s → length s < base + 6 → target letters base s i ≡ stop (PastEnd (base + 4) 2)
   unfolding target
-  target-count h l =
-      let e : base + 1 + 1 + 1 + 1 ≡ base + 4 = omega arith in
-      rw (seek-in (omega arith), num-there 1 s base (omega arith), num-there 1 s (base + 1) (omega arith), num-there 1 s (base + 1 + 1) (omega arith), num-there 1 s (base + 1 + 1 + 1) (omega arith), e, num-short 2 s (base + 4) (omega arith))
+  target-count h l = rw (sought-there s base i (omega arith), num-to 1 s base (base + 1) (omega arith) (omega arith), num-to 1 s (base + 1) (base + 2) (omega arith) (omega arith), num-to 1 s (base + 2) (base + 3) (omega arith) (omega arith), num-to 1 s (base + 3) (base + 4) (omega arith) (omega arith), num-short 2 s (base + 4) (omega arith))
 
   pub target-reserve : base + 6 ≤ length s → length s < base + 8 → target letters base s i ≡ stop (PastEnd (base + 6) 2)
   unfolding target
-  target-reserve h l =
-      let e : base + 1 + 1 + 1 + 1 ≡ base + 4 = omega arith in
-      let f : base + 4 + 2 ≡ base + 6 = omega arith in
-      rw (seek-in (omega arith), num-there 1 s base (omega arith), num-there 1 s (base + 1) (omega arith), num-there 1 s (base + 1 + 1) (omega arith), num-there 1 s (base + 1 + 1 + 1) (omega arith), e, num-there 2 s (base + 4) (omega arith), f, num-short 2 s (base + 6) (omega arith))
+  target-reserve h l = rw (sought-there s base i (omega arith), num-to 1 s base (base + 1) (omega arith) (omega arith), num-to 1 s (base + 1) (base + 2) (omega arith) (omega arith), num-to 1 s (base + 2) (base + 3) (omega arith) (omega arith), num-to 1 s (base + 3) (base + 4) (omega arith) (omega arith), num-to 2 s (base + 4) (base + 6) (omega arith) (omega arith), num-short 2 s (base + 6) (omega arith))
 
   pub target-offset : base + 8 ≤ length s → length s < base + 12 → target letters base s i ≡ stop (PastEnd (base + 8) 4)
   unfolding target
-  target-offset h l =
-      let e : base + 1 + 1 + 1 + 1 ≡ base + 4 = omega arith in
-      let f : base + 4 + 2 ≡ base + 6 = omega arith in
-      let g : base + 6 + 2 ≡ base + 8 = omega arith in
-      rw (seek-in (omega arith), num-there 1 s base (omega arith), num-there 1 s (base + 1) (omega arith), num-there 1 s (base + 1 + 1) (omega arith), num-there 1 s (base + 1 + 1 + 1) (omega arith), e, num-there 2 s (base + 4) (omega arith), f, num-there 2 s (base + 6) (omega arith), g, num-short 4 s (base + 8) (omega arith))
+  target-offset h l = rw (sought-there s base i (omega arith), num-to 1 s base (base + 1) (omega arith) (omega arith), num-to 1 s (base + 1) (base + 2) (omega arith) (omega arith), num-to 1 s (base + 2) (base + 3) (omega arith) (omega arith), num-to 1 s (base + 3) (base + 4) (omega arith) (omega arith), num-to 2 s (base + 4) (base + 6) (omega arith) (omega arith), num-to 2 s (base + 6) (base + 8) (omega arith) (omega arith), num-short 4 s (base + 8) (omega arith))
 
   -- with all of them there it goes on with its keys, where its offset is in the section
+  abbrev targetRest : ℕ → ℕ → ℕ → ℕ → ℕ → Res (List Item)
+  targetRest layer raw curve n offset =
+      _>>=_ (seekTo (base + offset)) (λ at. _>>=_ (keys curve n) (λ ks. ret (word layer ∷ word (targetOf letters raw) ∷ word (curveOf curve) ∷ word (countOf curve n) ∷ ks))) s (base + 12)
+
+  target-there : base + 12 ≤ length s → target letters base s i ≡ targetRest (get 1 s base) (get 1 s (base + 1)) (get 1 s (base + 2)) (get 2 s (base + 4)) (get 4 s (base + 8))
+  unfolding target
+  target-there h = rw (sought-there s base i (omega arith), num-to 1 s base (base + 1) (omega arith) (omega arith), num-to 1 s (base + 1) (base + 2) (omega arith) (omega arith), num-to 1 s (base + 2) (base + 3) (omega arith) (omega arith), num-to 1 s (base + 3) (base + 4) (omega arith) (omega arith), num-to 2 s (base + 4) (base + 6) (omega arith) (omega arith), num-to 2 s (base + 6) (base + 8) (omega arith) (omega arith), num-to 4 s (base + 8) (base + 12) (omega arith) (omega arith))
+
   pub target-on : (p : ℕ) → base + 12 ≤ length s → seekOf s (base + get 4 s (base + 8)) ≡ At p
       → target letters base s i ≡ andThen (keys (get 1 s (base + 2)) (get 2 s (base + 4)) s p) (λ ks. ret (word (get 1 s base) ∷ word (targetOf letters (get 1 s (base + 1))) ∷ word (curveOf (get 1 s (base + 2))) ∷ word (countOf (get 1 s (base + 2)) (get 2 s (base + 4))) ∷ ks)) s
-  unfolding target
-  target-on p h k =
-      let d : base + 1 + 1 ≡ base + 2 = omega arith in
-      let e : base + 2 + 1 + 1 ≡ base + 4 = omega arith in
-      let f : base + 4 + 2 ≡ base + 6 = omega arith in
-      let g : base + 6 + 2 ≡ base + 8 = omega arith in
-      rw (seek-in (omega arith), num-there 1 s base (omega arith), num-there 1 s (base + 1) (omega arith), d, num-there 1 s (base + 2) (omega arith), num-there 1 s (base + 2 + 1) (omega arith), e, num-there 2 s (base + 4) (omega arith), f, num-there 2 s (base + 6) (omega arith), g, num-there 4 s (base + 8) (omega arith), sought-on s (base + get 4 s (base + 8)) (base + 8 + 4) p k)
+  target-on p h k = target-there h ∙ rw (sought-on s (base + get 4 s (base + 8)) (base + 12) p k)
 
   pub target-past : (o k : ℕ) → base + 12 ≤ length s → seekOf s (base + get 4 s (base + 8)) ≡ SoughtPast o k → target letters base s i ≡ stop (PastEnd o k)
-  unfolding target
-  target-past o k h z =
-      let d : base + 1 + 1 ≡ base + 2 = omega arith in
-      let e : base + 2 + 1 + 1 ≡ base + 4 = omega arith in
-      let f : base + 4 + 2 ≡ base + 6 = omega arith in
-      let g : base + 6 + 2 ≡ base + 8 = omega arith in
-      rw (seek-in (omega arith), num-there 1 s base (omega arith), num-there 1 s (base + 1) (omega arith), d, num-there 1 s (base + 2) (omega arith), num-there 1 s (base + 2 + 1) (omega arith), e, num-there 2 s (base + 4) (omega arith), f, num-there 2 s (base + 6) (omega arith), g, num-there 4 s (base + 8) (omega arith), sought-past s (base + get 4 s (base + 8)) (base + 8 + 4) o k z)
+  target-past o k h z = target-there h ∙ rw (sought-past s (base + get 4 s (base + 8)) (base + 12) o k z)
 
   -- the same with the fields as code has them
   pub target-fields : (p : ℕ) {layer raw curve n : ℕ} → base + 12 ≤ length s → seekOf s (base + get 4 s (base + 8)) ≡ At p
@@ -255,9 +238,6 @@ wordy-target letters base s i = start (leb base (length s)) refl
 abbrev kept : Walk → List ℕ → List ℕ
 kept (On t p) x = x
 kept (No f) x = []
-
-abbrev Three : Type 0
-Three = Walk × List ℕ × List ℕ
 
 abbrev over : List ℕ → Three → Three
 over x z = (z .0, z .1, kept (z .0) x)

@@ -149,7 +149,7 @@ run-before s t w x is (ok js q) h k =
 
 -- the answer of a callee, in the two forms that its caller's arms have
 
-abbrev Three : Type 0
+abbrev pub Three : Type 0
 Three = Walk × List ℕ × List ℕ
 
 first : (a b : Three) → a ≡ b → a .0 ≡ b .0
@@ -167,7 +167,7 @@ on-no t q f e = let z : _≡_ {A = ℕ} 0 1 = cc in omega arith
 pub on-tally : (t u : Tally) (p q : ℕ) → On t p ≡ On u q → t ≡ u
 on-tally t u p q e = cc
 
-on-place : (t u : Tally) (p q : ℕ) → On t p ≡ On u q → p ≡ q
+pub on-place : (t u : Tally) (p q : ℕ) → On t p ≡ On u q → p ≡ q
 on-place t u p q e = cc
 
 pub no-fault : (f g : Fault) → No f ≡ No g → f ≡ g

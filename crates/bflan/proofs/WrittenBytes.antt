@@ -1,14 +1,14 @@
 -- What is written is bytes, and a field has 1, 2, 4, 6 or 12 of them.
 -- Assumes nothing.
-use Prim.Native.Nat.{ℕ, zero, suc, _-_}
+use Prim.Native.Nat.{ℕ, _-_}
 use mathlib.Core.Bool.{Bool, true, false}
 use mathlib.Core.List.{List, [], _∷_}
 use native.Mathlib.Omega.{arith}
 use lib.Dec.{eqb}
-use lib.ListN.{length, replicate}
+use lib.ListN.{length}
 use Rattle.core.specs.Choice.{pick}
 use Rattle.core.specs.Fill.{paddingOf}
-use Rattle.core.proofs.Numbers.{Bytes, bytes-le, bytes-append}
+use Rattle.core.proofs.Numbers.{Bytes, bytes-le, bytes-append, bytes-zeros}
 use Rattle.core.proofs.utf8.Bounds.{well-bytes}
 use Rattle.bflan.specs.Layout.{Layout, nothing, number, bytes, _⨾_, size, written, zeros, row, parts, table, keySkip, keyLay, targetLay, ended, datumLay, infoHead, infoLay, userLay, contentBody, contentLay, namesEnd, sectionLay}
 use Rattle.bflan.specs.Limits.{All, FineText, FineDatum, FineInfo, FineContent, Fine, Within}
@@ -31,14 +31,9 @@ _then_ : {a b : Layout} → Laid a → Laid b → Laid (a ⨾ b)
 unfolding written
 _then_ {a} {b} h k = record { bytes = bytes-append (written a) (written b) (h .bytes) (k .bytes) }
 
-zeros-small : (n : ℕ) → Bytes (replicate n 0)
-zeros-small zero i = omega arith
-zeros-small (suc n) zero = omega arith
-zeros-small (suc n) (suc i) = zeros-small n i
-
 fill : (n : ℕ) → Laid (zeros n)
 unfolding written
-fill n = record { bytes = zeros-small n }
+fill n = record { bytes = bytes-zeros n }
 
 chars : {t : List ℕ} → FineText t → Laid (bytes t)
 unfolding written

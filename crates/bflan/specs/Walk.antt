@@ -13,8 +13,8 @@ use Rattle.core.specs.declared.run.Run.the-variants.{Next, Cut}
 use Rattle.bflan.specs.declared.fault.Fault.the-variants.{PastEnd}
 use Rattle.bflan.specs.declared.texture.Name.{Name}
 use Rattle.bflan.specs.declared.texture.Name.the-variants.{Found, Missing}
-use Rattle.bflan.specs.declared.content.Place.{Place}
-use Rattle.bflan.specs.declared.content.Place.the-variants.{There, Stop}
+use Rattle.bflan.specs.declared.content.TableAt.{TableAt}
+use Rattle.bflan.specs.declared.content.TableAt.the-variants.{There, Stop}
 use Rattle.bflan.specs.declared.tally.Tally.{Tally}
 use Rattle.bflan.specs.declared.tally.Walk.{Walk}
 use Rattle.bflan.specs.declared.tally.Walk.the-variants.{On, No}
@@ -87,10 +87,10 @@ unfoldable pub told : Walk → List ℕ → List ℕ → Walk × List ℕ × Lis
 told (On t p) w x = (On t p, w, x)
 told (No f) w x = (No f, [], [])
 
--- a place that was looked for
-abbrev pub asPlace : Place → Res ℕ
-asPlace (There p) = ok p p
-asPlace (Stop f) = stop f
+-- an info table that was looked for
+abbrev pub asTable : TableAt → Res ℕ
+asTable (There p) = ok p p
+asTable (Stop f) = stop f
 
 -- a name that was looked for, and where it ends
 abbrev pub asName : Name → Res (List Item)

@@ -8,7 +8,7 @@ ghost use Rattle.core.specs.Run.{numbersAt};
 ghost use Rattle.core.specs.Text.{beforeZero};
 ghost use Rattle.bflan.specs.Reader.{ok, stop, andThen, ret, word, text, visit};
 ghost use Rattle.bflan.specs.Reading.{info, typeOf, infoTable, content, contents};
-ghost use Rattle.bflan.specs.Walk.{run, told, asPlace};
+ghost use Rattle.bflan.specs.Walk.{run, told, asTable};
 use crate::emit::put_text;
 use crate::emit::put2;
 use crate::fault::Fault;
@@ -23,8 +23,8 @@ use core::seek::Sought;
 use core::seek::seek;
 use core::text::first_zero;
 
-// A place that was looked for.
-pub enum Place {
+// An info table that was looked for: where it stands, or what stopped the search.
+pub enum TableAt {
     There(usize),
     Stop(Fault),
 }
@@ -51,20 +51,20 @@ fn short(s: &[u8], base: usize) -> Fault
 }
 
 // Where the info table of a content stands, `p` being the place behind its head.
-fn table_of(s: &[u8], base: usize, kind: u32, p: usize) -> Place
+fn table_of(s: &[u8], base: usize, kind: u32, p: usize) -> TableAt
     requires { ⌜ (p ≤ length (now s)) × (base ≤ 8589934592) ⌝ }
-    ensures { λ r. ⌜ asPlace r ≡ infoTable base kind (now (s .entry)) p ⌝ }
+    ensures { λ r. ⌜ asTable r ≡ infoTable base kind (now (s .entry)) p ⌝ }
 {
     if kind != 2 {
-        return Place::There(p);
+        return TableAt::There(p);
     }
     if s.len() - p < 4 {
-        return Place::Stop(Fault::PastEnd(p, 4));
+        return TableAt::Stop(Fault::PastEnd(p, 4));
     }
     let to = base + offset_at(s, p);
     match seek(s, to) {
-        Sought::At(q) => Place::There(q),
-        Sought::Past(offset, requested) => Place::Stop(Fault::PastEnd(offset, requested)),
+        Sought::At(q) => TableAt::There(q),
+        Sought::Past(offset, requested) => TableAt::Stop(Fault::PastEnd(offset, requested)),
     }
 }
 
@@ -145,8 +145,8 @@ pub(crate) fn content_at(
     let n = byte_at(s, base + 28);
     let kind = byte_at(s, base + 29);
     match table_of(s, base, kind, base + 32) {
-        Place::Stop(f) => Walk::No(f),
-        Place::There(q) => with_table(s, base, kind, n, q, words, texts, t),
+        TableAt::Stop(f) => Walk::No(f),
+        TableAt::There(q) => with_table(s, base, kind, n, q, words, texts, t),
     }
 }
 

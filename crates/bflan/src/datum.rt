@@ -13,7 +13,7 @@ use crate::keys::values;
 use crate::tally::Tally;
 use crate::tally::Walk;
 use crate::tally::more_words;
-use crate::texture::texture_at;
+use crate::texture::text_at;
 use core::number::Read;
 use core::number::read_u16;
 use core::number::read_u32;
@@ -81,7 +81,7 @@ fn key_text(s: &[u8], p: usize, words: &mut [u32], texts: &mut [u8], t: Tally) -
     ensures { λ r. ⌜ told r (now (words .exit)) (now (texts .exit)) ≡ run (now (s .entry)) t (now (words .entry)) (now (texts .entry)) (keyText (now (s .entry)) p) ⌝ }
 {
     match read_u32(s, p) {
-        Read::Value(offset, _) => texture_at(s, p + (offset as usize), words, texts, t),
+        Read::Value(offset, _) => text_at(s, p + (offset as usize), words, texts, t),
         Read::Past(o, k) => Walk::No(Fault::PastEnd(o, k)),
     }
 }

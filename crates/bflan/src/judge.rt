@@ -16,13 +16,13 @@ use crate::judge::word::below;
 use crate::judge::word::word_of;
 use crate::tally::add;
 
-pub mod content;
-pub mod datum;
-pub mod info;
-pub mod run;
-pub mod size;
-pub mod target;
-pub mod text;
+mod content;
+mod datum;
+mod info;
+mod run;
+mod size;
+mod target;
+mod text;
 pub mod word;
 
 // Where the walk stands behind a part that is within the limits: the next word, the next text byte, and the bytes that the part has in the

@@ -1,4 +1,4 @@
-// Texture names: texts that end at a zero, each at an offset of a table.
+// Texts that end at a zero: texture names, each at an offset of a table, and single ones.
 ghost use mathlib.Core.Path.{_≡_};
 ghost use Prim.Native.Nat.{ℕ, _+_, _*_, _≤_};
 ghost use lib.ListN.{length};
@@ -63,14 +63,8 @@ fn guess_at(s: &[u8], at: usize, left: usize, off: usize) -> usize
     next - off - 1
 }
 
-// The texture name that starts at `base`, stored.
-pub(crate) fn texture_at(
-    s: &[u8],
-    base: usize,
-    words: &mut [u32],
-    texts: &mut [u8],
-    t: Tally,
-) -> Walk
+// The text that starts at `base`, read as a texture name is, and stored. A datum's key text is such a one.
+pub(crate) fn text_at(s: &[u8], base: usize, words: &mut [u32], texts: &mut [u8], t: Tally) -> Walk
     requires { ⌜ length (now s) ≤ 16777216 ⌝ }
     ensures { λ r. ⌜ ((i : ℕ) → told r (now (words .exit)) (now (texts .exit)) ≡ run (now (s .entry)) t (now (words .entry)) (now (texts .entry)) (texture base (now (s .entry)) i)) ⌝ }
 {

@@ -9,7 +9,7 @@ use native.Mathlib.Numerals.{add-one}
 use native.Mathlib.Omega.{arith}
 use borrow.Author.Tests.{leb-true, leb-false, le-leb, lt-leb}
 use lib.Dec.{leb}
-use lib.ListN.{length, getD, set, take, drop, length-drop}
+use lib.ListN.{length, getD, set, take, drop, replicate, length-drop}
 use lib.Seq.{sets, length-sets, sets-eq, take-nil, drop-nil, drop-at, take-at, length-take-le, getD-drop, set-getD}
 use Rattle.core.specs.Choice.{pick}
 use Rattle.core.specs.Number.{le, val, get, put, readOf}
@@ -36,6 +36,11 @@ pub bytes-append : (s t : List ℕ) → Bytes s → Bytes t → Bytes (s ++ t)
 bytes-append [] t h k i = k i
 bytes-append (x ∷ s) t h k zero = h 0
 bytes-append (x ∷ s) t h k (suc i) = bytes-append s t (λ j. h (suc j)) k i
+
+pub bytes-zeros : (n : ℕ) → Bytes (replicate n 0)
+bytes-zeros zero i = omega arith
+bytes-zeros (suc n) zero = omega arith
+bytes-zeros (suc n) (suc i) = bytes-zeros n i
 
 bytes-set : (s : List ℕ) (i x : ℕ) → Bytes s → x < 256 → Bytes (set s i x)
 bytes-set [] i x h b j = h j

@@ -18,7 +18,7 @@ use Rattle.edit.specs.declared.journal.Entry.{Entry}
 use Rattle.edit.specs.declared.journal.Packed.{Packed}
 use Rattle.edit.specs.declared.undo.UndoAnswer.the-variants.{Undone, TooLong, NothingToUndo, BadJournal}
 use Rattle.edit.specs.Editing.{ofUndoing, restored, undoing}
-use Rattle.edit.specs.Journal.{capacity, entryAt, bytesIn, fieldSize, allZero, sound}
+use Rattle.edit.specs.Journal.{entryWords, capacity, entryAt, bytesIn, fieldSize, allZero, sound}
 use Rattle.edit.specs.Packing.{unpacked, entryList}
 
 -- ---- zeros behind the bytes of a number
@@ -205,13 +205,13 @@ five (a ∷ b ∷ c ∷ []) h = absurd (omega arith)
 five (a ∷ b ∷ c ∷ d ∷ []) h = absurd (omega arith)
 five (a ∷ b ∷ c ∷ d ∷ e ∷ l) h = refl
 
-pub entry-read : (j : List ℕ) (n : ℕ) → 5 * n + 5 ≤ length j
-    → getD j (5 * n) 0 ∷ getD j (5 * n + 1) 0 ∷ getD j (5 * n + 2) 0 ∷ getD j (5 * n + 3) 0 ∷ getD j (5 * n + 4) 0 ∷ [] ≡ entryAt j n
+pub entry-read : (j : List ℕ) (n : ℕ) → entryWords * n + entryWords ≤ length j
+    → getD j (entryWords * n) 0 ∷ getD j (entryWords * n + 1) 0 ∷ getD j (entryWords * n + 2) 0 ∷ getD j (entryWords * n + 3) 0 ∷ getD j (entryWords * n + 4) 0 ∷ [] ≡ entryAt j n
 unfolding entryAt
 entry-read j n h =
-    let k : 5 ≤ length (drop (5 * n) j) = rw (length-drop (5 * n) j) (omega arith) in
-    let f = five (drop (5 * n) j) k in
-    rw (getD-drop (5 * n) j 0 0, getD-drop (5 * n) j 1 0, getD-drop (5 * n) j 2 0, getD-drop (5 * n) j 3 0, getD-drop (5 * n) j 4 0, add-zero) at f
+    let k : entryWords ≤ length (drop (entryWords * n) j) = rw (length-drop (entryWords * n) j) (omega arith) in
+    let f = five (drop (entryWords * n) j) k in
+    rw (getD-drop (entryWords * n) j 0 0, getD-drop (entryWords * n) j 1 0, getD-drop (entryWords * n) j 2 0, getD-drop (entryWords * n) j 3 0, getD-drop (entryWords * n) j 4 0, add-zero) at f
 
 module _ (e : Entry) (size : ℕ) where
   pub sound-filled : (t : Bool) → t ≡ fieldSize (e .count) && allZero (drop (e .count) (unpacked (e .old))) → t ≡ true → leb (e .at + e .count) size ≡ sound size (entryList e)
@@ -255,12 +255,12 @@ module _ (s j : List ℕ) (count : ℕ) (h : length s ≤ 16777216) where
   undo-none e = rw (le-leb (length s) limit h, eq-eqb count 0 e)
 
   module _ (k : count ≡ 0 → ⊥) where
-    pub undo-above : length j / 5 < count → (ofUndoing (BadJournal count), s) ≡ undoing s j count
+    pub undo-above : length j / entryWords < count → (ofUndoing (BadJournal count), s) ≡ undoing s j count
     unfolding ofUndoing undoing capacity
-    undo-above l = rw (le-leb (length s) limit h, ne-eqb count 0 k, lt-leb count (length j / 5) l)
+    undo-above l = rw (le-leb (length s) limit h, ne-eqb count 0 k, lt-leb count (length j / entryWords) l)
 
-    module _ (l : count ≤ length j / 5) where
-      pub undo-room : 5 * (count - 1) + 5 ≤ length j
+    module _ (l : count ≤ length j / entryWords) where
+      pub undo-room : entryWords * (count - 1) + entryWords ≤ length j
       undo-room = omega arith
 
       pub undo-bad : (e : Entry) (t : Bool) → entryList e ≡ entryAt j (count - 1) → t ≡ sound (length s) (entryList e) → t ≡ false
@@ -268,11 +268,11 @@ module _ (s j : List ℕ) (count : ℕ) (h : length s ≤ 16777216) where
       unfolding ofUndoing undoing capacity
       undo-bad e t d f g =
           let z : sound (length s) (entryAt j (count - 1)) ≡ false = rw (← d) (sym f ∙ g) in
-          rw (le-leb (length s) limit h, ne-eqb count 0 k, le-leb count (length j / 5) l, z)
+          rw (le-leb (length s) limit h, ne-eqb count 0 k, le-leb count (length j / entryWords) l, z)
 
       pub undo-good : (e : Entry) (t : Bool) (s′ : List ℕ) → entryList e ≡ entryAt j (count - 1) → t ≡ sound (length s) (entryList e) → t ≡ true → s′ ≡ restored s (entryList e)
           → (ofUndoing (Undone (count - 1)), s′) ≡ undoing s j count
       unfolding ofUndoing undoing capacity
       undo-good e t s′ d f g r =
           let z : sound (length s) (entryAt j (count - 1)) ≡ true = rw (← d) (sym f ∙ g) in
-          rw (le-leb (length s) limit h, ne-eqb count 0 k, le-leb count (length j / 5) l, z, ← d, r)
+          rw (le-leb (length s) limit h, ne-eqb count 0 k, le-leb count (length j / entryWords) l, z, ← d, r)

@@ -1,9 +1,9 @@
 -- A change: which values a field takes, its bytes as they are written, the entry of the bytes that stood there, and what the call answers.
 -- Assumes nothing.
-use Prim.Native.Nat.{ℕ, zero, suc, _+_, _-_, _*_, _/_, _^_, _<_, _≤_, min}
+use Prim.Native.Nat.{ℕ, zero, suc, _+_, _-_, _*_, _/_, _%_, _^_, _<_, _≤_, min}
 use mathlib.Core.Path.{_≡_, refl, sym, ap, _∙_}
 use mathlib.Core.Bool.{Bool, true, false, _&&_}
-use mathlib.Core.List.{List, [], _∷_, _++_}
+use mathlib.Core.List.{List, [], _∷_, _++_, append-nil}
 use native.Mathlib.Nat.{add-zero}
 use native.Mathlib.Omega.{arith}
 use borrow.Author.Tests.{leb-true, leb-false, lt-ltb, le-ltb}
@@ -25,7 +25,7 @@ use Rattle.bflan.specs.Places.{Spot, nowhere, spot, widths, total, fitWidths, a
 use Rattle.bflan.specs.Reader.{Res, ok, stop, Item}
 use Rattle.bflan.specs.Reading.{section}
 use Rattle.bflan.specs.Record.{keyWidths}
-use Rattle.bflan.proofs.Fields.{and-left}
+use Rattle.bflan.proofs.Fields.{unlike, and-left}
 use Rattle.bflan.specs.declared.fault.Fault.{Fault}
 use Rattle.bflan.specs.declared.place.Field.{Field}
 use Rattle.bflan.specs.declared.place.Field.the-variants.{FrameCount, Looping, Layer, Target, Key, Value}
@@ -42,10 +42,7 @@ use Rattle.edit.specs.Format.{pai1}
 use Rattle.edit.specs.Journal.{entryWords, capacity, padded, entryOf, fieldSize}
 use Rattle.edit.specs.Packing.{unpacked, packed, entryList, readValue, valuesIn, packedOf, oneMost}
 use Rattle.edit.proofs.Calls.{size-some}
-use Rattle.edit.proofs.Entries.{field-size}
-
-unlike : _≡_ {A = Bool} false true → ⊥
-unlike e = let z : _≡_ {A = ℕ} 0 1 = cc in omega arith
+use Rattle.edit.proofs.Entries.{of-widths, field-size}
 
 -- ---- which values a field takes
 
@@ -179,44 +176,34 @@ module _ (a : ℕ) (b : ℕ) (vs : List ℕ) (k : ℕ) where
 abbrev Written : List ℕ → Values → Type 0
 Written ks v = fitWidths ks (valuesIn v) ≡ true → take (total ks) (unpacked (packedOf v)) ≡ written (row ks (valuesIn v))
 
-written-1 : (v : Values) → Written (1 ∷ []) v
-unfolding total unpacked packedOf written row valuesIn le
-written-1 (One a) e = refl
-written-1 (Two a b) e = absurd (none-more a b [] 1 e)
-written-1 (Three a b c) e = absurd (none-more a b (c ∷ []) 1 e)
+first-bytes : (k m a : ℕ) (bs : List ℕ) → k ≤ m → take k (le m a ++ bs) ≡ le k a
+unfolding le
+first-bytes zero m a bs h = refl
+first-bytes (suc k) zero a bs h = absurd (omega arith)
+first-bytes (suc k) (suc m) a bs h = ap (λ (l : List ℕ). a % 256 ∷ l) (first-bytes k m (a / 256) bs (omega arith))
 
-written-2 : (v : Values) → Written (2 ∷ []) v
-unfolding total unpacked packedOf written row valuesIn le
-written-2 (One a) e = refl
-written-2 (Two a b) e = absurd (none-more a b [] 2 e)
-written-2 (Three a b c) e = absurd (none-more a b (c ∷ []) 2 e)
+written-one : (k : ℕ) → k ≤ 4 → (v : Values) → Written (k ∷ []) v
+unfolding total unpacked packedOf written row valuesIn
+written-one k h (One a) e = rw (add-zero, append-nil) (first-bytes k 4 a (le 4 0 ++ le 4 0) h)
+written-one k h (Two a b) e = absurd (none-more a b [] k e)
+written-one k h (Three a b c) e = absurd (none-more a b (c ∷ []) k e)
 
-written-4 : (v : Values) → Written (4 ∷ []) v
+written-step : (v : Values) → Written (4 ∷ 2 ∷ []) v
 unfolding total unpacked packedOf written row valuesIn le
-written-4 (One a) e = refl
-written-4 (Two a b) e = absurd (none-more a b [] 4 e)
-written-4 (Three a b c) e = absurd (none-more a b (c ∷ []) 4 e)
+written-step (One a) e = absurd (unlike (step-one a ∙ e))
+written-step (Two a b) e = refl
+written-step (Three a b c) e = absurd (unlike (step-three a b c ∙ e))
 
-written-key : (c : ℕ) (v : Values) → Written (keyWidths c) v
-unfolding total unpacked packedOf written row valuesIn le keyWidths fitWidths
-written-key zero v e = written-4 v e
-written-key (suc zero) (One a) e = absurd (unlike (step-one a ∙ e))
-written-key (suc zero) (Two a b) e = refl
-written-key (suc zero) (Three a b c) e = absurd (unlike (step-three a b c ∙ e))
-written-key (suc (suc k)) (One a) e = absurd (unlike (hermite-one a ∙ e))
-written-key (suc (suc k)) (Two a b) e = absurd (unlike (hermite-two a b ∙ e))
-written-key (suc (suc k)) (Three a b c) e = refl
+written-hermite : (v : Values) → Written (4 ∷ 4 ∷ 4 ∷ []) v
+unfolding total unpacked packedOf written row valuesIn le
+written-hermite (One a) e = absurd (unlike (hermite-one a ∙ e))
+written-hermite (Two a b) e = absurd (unlike (hermite-two a b ∙ e))
+written-hermite (Three a b c) e = refl
 
 pub new-bytes : (f : Field) (v : Values) → fit f (valuesIn v) ≡ true → take (total (widths f)) (unpacked (packedOf v)) ≡ written (row (widths f) (valuesIn v))
-new-bytes f v e = go f (and-left (fitWidths (widths f) (valuesIn v)) (allowed f (valuesIn v)) (unfold fit in e))
-  where
-    go : (g : Field) → Written (widths g) v
-    go FrameCount = unfold widths in written-2 v
-    go Looping = unfold widths in written-1 v
-    go Layer = unfold widths in written-1 v
-    go (Target letters) = unfold widths in written-1 v
-    go (Key curve) = unfold widths in written-key curve v
-    go Value = unfold widths in written-4 v
+new-bytes f v e =
+    of-widths (λ ks. Written ks v) (written-one 1 (omega arith) v) (written-one 2 (omega arith) v) (written-one 4 (omega arith) v) (written-step v) (written-hermite v) f
+    (and-left (fitWidths (widths f) (valuesIn v)) (allowed f (valuesIn v)) (unfold fit in e))
 
 -- ---- the bytes that stood there
 
@@ -291,7 +278,7 @@ module _ (n : ℕ) (s : List ℕ) (at : ℕ) where
 -- ---- the entry
 
 pub entry-kept : (j s : List ℕ) (count at n m : ℕ) (old : Packed) → n ≡ m → old ≡ packed (take n (drop at s)) → at + m ≤ length s
-    → sets j (5 * count) (entryList (record { at = at; count = n; old = old })) ≡ sets j (entryWords * count) (entryOf at (oldAt s at m))
+    → sets j (entryWords * count) (entryList (record { at = at; count = n; old = old })) ≡ sets j (entryWords * count) (entryOf at (oldAt s at m))
 unfolding entryList packed entryOf
 entry-kept j s count at n m old en eo h =
     let l : length (take m (drop at s)) ≡ m = length-take-le m (drop at s) (rw length-drop (omega arith)) in
@@ -318,14 +305,14 @@ module _ (s j : List ℕ) (count at : ℕ) (f : Field) (vs : List ℕ) (t : Bool
   spot-unfit e = rw (sym et ∙ e)
 
   module _ (e : t ≡ true) where
-    pub spot-full : length j / 5 ≤ count → (ofEditing (JournalFull (length j / 5)), s, j) ≡ atSpot s j count vs (spot at f)
+    pub spot-full : length j / entryWords ≤ count → (ofEditing (JournalFull (length j / entryWords)), s, j) ≡ atSpot s j count vs (spot at f)
     unfolding ofEditing atSpot capacity
-    spot-full h = rw (sym et ∙ e, le-ltb count (length j / 5) h)
+    spot-full h = rw (sym et ∙ e, le-ltb count (length j / entryWords) h)
 
-    pub spot-edited : count < length j / 5 → {s′ j′ : List ℕ} → s′ ≡ sets s at (written (row (widths f) vs)) → j′ ≡ sets j (entryWords * count) (entryOf at (oldAt s at (total (widths f))))
+    pub spot-edited : count < length j / entryWords → {s′ j′ : List ℕ} → s′ ≡ sets s at (written (row (widths f) vs)) → j′ ≡ sets j (entryWords * count) (entryOf at (oldAt s at (total (widths f))))
         → (ofEditing (Edited (count + 1)), s′, j′) ≡ atSpot s j count vs (spot at f)
     unfolding ofEditing atSpot capacity
-    spot-edited h es ej = rw (sym et ∙ e, lt-ltb count (length j / 5) h, es, ej)
+    spot-edited h es ej = rw (sym et ∙ e, lt-ltb count (length j / entryWords) h, es, ej)
 
 -- ---- the call, by where its field is
 

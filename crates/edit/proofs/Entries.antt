@@ -8,7 +8,7 @@ use native.Mathlib.Omega.{arith}
 use borrow.Author.Tests.{le-leb}
 use lib.ListN.{length, set, take, drop, replicate, length-append, length-drop, length-replicate, take-append-drop}
 use lib.Seq.{sets, length-sets, sets-eq, take-at, drop-at, take-all, drop-drop, length-take-le, take-set-le, drop-set-lt}
-use Rattle.core.proofs.Numbers.{Bytes, bytes-take, bytes-drop, bytes-append, le-get, sets-read}
+use Rattle.core.proofs.Numbers.{Bytes, bytes-take, bytes-drop, bytes-append, bytes-zeros, le-get, sets-read}
 use Rattle.core.proofs.Stores.{sets-sets}
 use Rattle.bflan.specs.Places.{widths, total}
 use Rattle.bflan.specs.Record.{keyWidths}
@@ -69,11 +69,6 @@ module _ (j e : List ℕ) (n : ℕ) where
 
 -- ---- the old bytes in an entry
 
-bytes-zeros : (n : ℕ) → Bytes (replicate n 0)
-bytes-zeros zero i = omega arith
-bytes-zeros (suc n) zero = omega arith
-bytes-zeros (suc n) (suc i) = bytes-zeros n i
-
 zeros-zero : (n : ℕ) → allZero (replicate n 0) ≡ true
 unfolding allZero
 zeros-zero zero = refl
@@ -104,36 +99,26 @@ module _ (at : ℕ) (old : List ℕ) (b : Bytes old) (h : length old ≤ 12) whe
 
 -- ---- fields
 
-key-size : (c : ℕ) → fieldSize (total (keyWidths c)) ≡ true
-unfolding fieldSize total keyWidths
-key-size zero = refl
-key-size (suc zero) = refl
-key-size (suc (suc c)) = refl
+-- what holds of the widths that there are holds of every field's
+pub of-widths : (P : List ℕ → Type 0) → P (1 ∷ []) → P (2 ∷ []) → P (4 ∷ []) → P (4 ∷ 2 ∷ []) → P (4 ∷ 4 ∷ 4 ∷ []) → (f : Field) → P (widths f)
+unfolding widths keyWidths
+of-widths P one two four step hermite FrameCount = two
+of-widths P one two four step hermite Looping = one
+of-widths P one two four step hermite Layer = one
+of-widths P one two four step hermite (Target letters) = one
+of-widths P one two four step hermite (Key zero) = four
+of-widths P one two four step hermite (Key (suc zero)) = step
+of-widths P one two four step hermite (Key (suc (suc c))) = hermite
+of-widths P one two four step hermite Value = four
 
 -- one of the sizes that an entry can have
 pub field-size : (f : Field) → fieldSize (total (widths f)) ≡ true
-unfolding widths
-field-size FrameCount = unfold fieldSize total in refl
-field-size Looping = unfold fieldSize total in refl
-field-size Layer = unfold fieldSize total in refl
-field-size (Target letters) = unfold fieldSize total in refl
-field-size (Key curve) = key-size curve
-field-size Value = unfold fieldSize total in refl
-
-key-short : (c : ℕ) → total (keyWidths c) ≤ 12
-unfolding total keyWidths
-key-short zero = omega arith
-key-short (suc zero) = omega arith
-key-short (suc (suc c)) = omega arith
+unfolding fieldSize total
+field-size f = of-widths (λ ks. fieldSize (total ks) ≡ true) refl refl refl refl refl f
 
 pub field-short : (f : Field) → total (widths f) ≤ 12
-unfolding widths
-field-short FrameCount = unfold total in omega arith
-field-short Looping = unfold total in omega arith
-field-short Layer = unfold total in omega arith
-field-short (Target letters) = unfold total in omega arith
-field-short (Key curve) = key-short curve
-field-short Value = unfold total in omega arith
+unfolding total
+field-short f = of-widths (λ ks. total ks ≤ 12) (omega arith) (omega arith) (omega arith) (omega arith) (omega arith) f
 
 -- ---- an edit's entry
 

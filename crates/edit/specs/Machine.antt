@@ -9,9 +9,8 @@ use Rattle.core.specs.Choice.{pick}
 use Rattle.core.specs.Outcome.{Outcome, accepted}
 use Rattle.bflan.specs.Answer.{noPlace}
 use Rattle.bflan.specs.Places.{Spot, nowhere, spot, Found, missing, found, fit, widths, total}
-use Rattle.edit.specs.declared.edit.Change.{Change}
-use Rattle.edit.specs.Editing.{unfit, journalFull, nothingToUndo, editing, undoing, placeOf, valuesOf}
-use Rattle.edit.specs.Format.{Format, pai1}
+use Rattle.edit.specs.Editing.{unfit, journalFull, nothingToUndo, editing, undoing}
+use Rattle.edit.specs.Format.{Format}
 
 module _ (F : Format) where
   pub data Call : Type 0 where
@@ -114,7 +113,3 @@ module _ (F : Format) where
     abbrev pub Agrees : List Call → State → Machine → List Part → Type 0
     Agrees [] z m parts = (z .section ≡ F .bytes (m .rec)) × Writes (z .section) (m .rec) × Reads (z .section) (m .rec)
     Agrees (c ∷ cs) z m parts = AgreesOnce c z m parts × Agrees cs (called c z .1) (turn most c m .1) (partsAfter c z parts (called c z .0))
-
--- a change of a pai1 section as a call
-unfoldable pub asCall : Change → Call pai1
-asCall c = edit (placeOf c) (valuesOf c)

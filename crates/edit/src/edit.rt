@@ -54,7 +54,7 @@ pub enum EditAnswer {
 
 // The entry of the field at `at`, stored as entry `count`.
 fn keep_old(section: &[u8], journal: &mut [u32], count: usize, at: usize, f: Field)
-    requires { ⌜ (length (now section) ≤ 16777216) × (at + total (widths f) ≤ length (now section)) × (5 * count + 5 ≤ length (now journal)) ⌝ }
+    requires { ⌜ (length (now section) ≤ 16777216) × (at + total (widths f) ≤ length (now section)) × (entryWords * count + entryWords ≤ length (now journal)) ⌝ }
     ensures { λ _. ⌜ now (journal .exit) ≡ sets (now (journal .entry)) (entryWords * count) (entryOf at (oldAt (now (section .entry)) at (total (widths f)))) ⌝ }
 {
     let n = size_of(f);

@@ -4,7 +4,7 @@ ghost use mathlib.Core.Bool.{true, _&&_};
 ghost use lib.ListN.{length, take, drop};
 ghost use lib.Seq.{sets};
 ghost use Prim.Native.Nat.{_+_, _*_, _<_, _≤_};
-ghost use Rattle.edit.specs.Journal.{entryAt, fieldSize, allZero};
+ghost use Rattle.edit.specs.Journal.{entryWords, entryAt, fieldSize, allZero};
 ghost use Rattle.edit.specs.Packing.{unpacked, packed, readValue, entryList};
 use core::number::Read;
 use core::number::read_u8;
@@ -68,7 +68,7 @@ pub(crate) fn put_packed(out: &mut [u8], at: usize, n: u32, p: Packed)
 
 // Entry `n`.
 pub(crate) fn entry_at(journal: &[u32], n: usize) -> Entry
-    requires { ⌜ 5 * n + 5 ≤ length (now journal) ⌝ }
+    requires { ⌜ entryWords * n + entryWords ≤ length (now journal) ⌝ }
     ensures { λ r. ⌜ entryList r ≡ entryAt (now (journal .entry)) n ⌝ }
 {
     let i = ENTRY_WORDS * n;
@@ -128,8 +128,8 @@ pub(crate) fn packed_at(s: &[u8], at: usize, n: u32) -> Packed
 
 // Entry `n`, stored.
 pub(crate) fn put_entry(journal: &mut [u32], n: usize, e: Entry)
-    requires { ⌜ 5 * n + 5 ≤ length (now journal) ⌝ }
-    ensures { λ _. ⌜ now (journal .exit) ≡ sets (now (journal .entry)) (5 * n) (entryList e) ⌝ }
+    requires { ⌜ entryWords * n + entryWords ≤ length (now journal) ⌝ }
+    ensures { λ _. ⌜ now (journal .exit) ≡ sets (now (journal .entry)) (entryWords * n) (entryList e) ⌝ }
 {
     let i = ENTRY_WORDS * n;
     let i1 = i + 1;

@@ -6,7 +6,7 @@ use Rattle.bflan.proofs.content.content_at.Tie as tie
 use mathlib.Core.Path.{sym, ap, _∙_}
 use native.Mathlib.Omega.{arith}
 use denote.Ref.{now}
-use Rattle.bflan.specs.Walk.{run, asPlace}
+use Rattle.bflan.specs.Walk.{run, asTable}
 use Rattle.bflan.proofs.ContentParts.{content-no}
 use Rattle.bflan.proofs.Walks.{told-stop}
 
@@ -44,11 +44,11 @@ enum-known-q : tie.Need-enum-known-q
 enum-known-q c = search needs
 
 with-table-requires : tie.Need-with-table-requires
-with-table-requires c κs = (c .before .before .before .before .before .before .before .before .before .before .before .before .pre .0, omega (arith, c .before .before .before .before .before .before .before .before .if1 .left), c .before .before .before .before .before .before .before .byte-at .ensures .0, c .before .before .before .before .before .before .byte-at2 .ensures .0, sym (c .before .before .before .before .before .table-of .ensures) ∙ ap asPlace (c .before .before .before .q .given .1))
+with-table-requires c κs = (c .before .before .before .before .before .before .before .before .before .before .before .before .pre .0, omega (arith, c .before .before .before .before .before .before .before .before .if1 .left), c .before .before .before .before .before .before .before .byte-at .ensures .0, c .before .before .before .before .before .before .byte-at2 .ensures .0, sym (c .before .before .before .before .before .table-of .ensures) ∙ ap asTable (c .before .before .before .q .given .1))
 
 returns-2 : tie.Need-returns-2
 returns-2 c = λ i.
-    let d = content-no (c .before .before .before .before .before .before .before .before .before .before .args .base) (now (c .before .before .before .before .before .before .before .before .before .before .args .s)) i (omega (arith, c .before .before .before .before .before .before .if1 .left)) (c .before .before .before .before .before .byte-at .ensures .0) (c .before .before .before .before .byte-at2 .ensures .0) _ (sym (c .before .before .before .table-of .ensures) ∙ ap asPlace (c .before .f .given .1)) in
+    let d = content-no (c .before .before .before .before .before .before .before .before .before .before .args .base) (now (c .before .before .before .before .before .before .before .before .before .before .args .s)) i (omega (arith, c .before .before .before .before .before .before .if1 .left)) (c .before .before .before .before .before .byte-at .ensures .0) (c .before .before .before .before .byte-at2 .ensures .0) _ (sym (c .before .before .before .table-of .ensures) ∙ ap asTable (c .before .f .given .1)) in
     told-stop _ _ _ _ _ _ _ ∙ ap (run (now (c .before .before .before .before .before .before .before .before .before .before .args .s)) (c .before .before .before .before .before .before .before .before .before .before .args .t) (now (c .before .before .before .before .before .before .before .before .before .before .args .words)) (now (c .before .before .before .before .before .before .before .before .before .before .args .texts))) (sym d)
 
 same-length : tie.Need-same-length

@@ -15,16 +15,16 @@ read-u32-requires c κs = search needs
 enum-known-offset : tie.Need-enum-known-offset
 enum-known-offset c = search needs
 
-cast-texture-at : tie.Need-cast-texture-at
-cast-texture-at c = search needs
+cast-text-at : tie.Need-cast-text-at
+cast-text-at c = search needs
 
-add-texture-at : tie.Need-add-texture-at
-add-texture-at c =
+add-text-at : tie.Need-add-text-at
+add-text-at c =
     let g = read-value _ _ _ _ _ (sym (c .before .before .before .read-u32 .ensures) ∙ c .before .offset .given .1) in
     omega (arith, g .fits, c .before .before .before .before .before .before .before .pre)
 
-texture-at-requires : tie.Need-texture-at-requires
-texture-at-requires c κs = search needs
+text-at-requires : tie.Need-text-at-requires
+text-at-requires c κs = search needs
 
 enum-known-o : tie.Need-enum-known-o
 enum-known-o c = search needs
@@ -38,7 +38,7 @@ same-length-2 c = search needs
 returns : tie.Need-returns
 returns c =
     let d = key-on _ _ _ _ (sym (c .before .before .before .before .before .before .before .before .before .before .read-u32 .ensures) ∙ c .before .before .before .before .before .before .before .before .offset .given .1) in
-    rw d (c .before .before .before .before .texture-at .ensures _)
+    rw d (c .before .before .before .before .text-at .ensures _)
 
 returns-2 : tie.Need-returns-2
 returns-2 c = let d = key-past _ _ _ _ (sym (c .before .before .before .read-u32 .ensures) ∙ c .before .o .given .1) in rw d (told-stop _ _ _ _ _ _ _)
@@ -49,9 +49,9 @@ key-text-spec =
     (tie.spec
     read-u32-requires
     enum-known-offset
-    cast-texture-at
-    add-texture-at
-    texture-at-requires
+    cast-text-at
+    add-text-at
+    text-at-requires
     enum-known-o
     same-length
     same-length-2

@@ -1,9 +1,9 @@
--- `texture::texture_at` meets its contract.
+-- `texture::text_at` meets its contract.
 -- Assumes nothing.
 use Rattle.bflan.proofs.Emits.{stored-name, no-name, name-fits, name-plain}
 use borrow.Author.Needs.{needs}
-use Rattle.bflan.proofs.texture.texture_at.Statement.{statement}
-use Rattle.bflan.proofs.texture.texture_at.Tie as tie
+use Rattle.bflan.proofs.texture.text_at.Statement.{statement}
+use Rattle.bflan.proofs.texture.text_at.Tie as tie
 
 name-at-requires : tie.Need-name-at-requires
 name-at-requires c κs = search needs
@@ -29,8 +29,8 @@ same-length-2 c = search needs
 returns-2 : tie.Need-returns-2
 returns-2 c = let q = c .before .before .before .before .put-text .ensures in λ i. stored-name _ _ _ _ _ _ _ _ _ _ _ _ _ (c .before .before .before .before .before .before .before .before .before .before .name-at .ensures .0 i) (c .before .before .before .before .before .before .before .before .from .given .1) (q .0) (q .1) (q .2)
 
-pub texture-at-spec : {M : Type 1} → statement M
-texture-at-spec =
+pub text-at-spec : {M : Type 1} → statement M
+text-at-spec =
     tie.close
     (tie.spec
     name-at-requires
