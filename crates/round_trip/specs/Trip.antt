@@ -1,0 +1,40 @@
+-- The round-trip program: for a section, the two tables and the output, what it answers and what the output holds afterwards (document 01,
+-- 'The round-trip program').
+use Prim.Native.Nat.{ℕ}
+use mathlib.Core.List.{List, [], _∷_}
+use lib.Dec.{eqb, leb}
+use lib.ListN.{length, take, getD}
+use Rattle.core.specs.Choice.{pick}
+use Rattle.core.specs.Outcome.{Outcome, accepted}
+use Rattle.bflan.specs.Answer.{refused, reading}
+use Rattle.bflan.specs.Writing.{writing}
+use Rattle.round_trip.specs.declared.Trip.{Trip}
+use Rattle.round_trip.specs.declared.Trip.the-variants.{Section, Refused}
+
+-- ---- the number, and the length of a section that was written
+
+unfoldable pub ofTrip : Trip → Outcome
+ofTrip (Section len) = accepted (len ∷ [])
+ofTrip (Refused number) = refused number []
+
+-- of a refusal only the number is said
+unfoldable pub said : Outcome → Outcome
+said a = pick (eqb (a .number) 0) a (refused (a .number) [])
+
+-- ---- the answer, and the output
+
+-- the longest input
+abbrev pub most : ℕ
+most = 65536
+
+unfoldable pub writtenAgain : (words texts out : List ℕ) → Outcome × List ℕ
+writtenAgain words texts out = (said (writing words texts out .0), writing words texts out .1)
+
+-- a reading's answer, with the tables as it left them: one that is accepted says how many words and text bytes it filled
+unfoldable pub afterReading : Outcome × List ℕ × List ℕ → List ℕ → Outcome × List ℕ
+afterReading r out =
+    pick (eqb (r .0 .number) 0) (writtenAgain (take (getD (r .0 .values) 0 0) (r .1)) (take (getD (r .0 .values) 1 0) (r .2)) out)
+    (said (r .0), out)
+
+unfoldable pub trip : (section words texts out : List ℕ) → Outcome × List ℕ
+trip section words texts out = pick (leb (length section) most) (afterReading (reading section words texts) out) (refused 2 [], out)
