@@ -38,6 +38,7 @@ afterReading r out =
     pick (eqb (r .0 .number) 0) (writtenAgain (take (getD (r .0 .values) 0 0) (r .1)) (take (getD (r .0 .values) 1 0) (r .2)) out)
     (said (r .0), out)
 
+-- an input over the longest gives 2
 unfoldable pub trip : (section words texts out : List ℕ) → Outcome × List ℕ
 trip section words texts out = pick (leb (length section) most) (afterReading (reading section words texts) out) (refused 2 [], out)
 
@@ -55,6 +56,6 @@ repliedWith number (len ∷ vs) out = (len, out)
 unfoldable pub replied : Outcome × List ℕ → ℕ × List ℕ
 replied r = repliedWith (r .0 .number) (r .0 .values) (r .1)
 
--- the program's output
+-- the bytes that the program writes to standard output
 unfoldable pub printed : (section words texts out : List ℕ) → List ℕ
 printed section words texts out = partOf (replied (trip section words texts out) .1) 0 (replied (trip section words texts out) .0)
