@@ -1,9 +1,12 @@
-// Document 01's refusals of a section that does not read: the number, its values, and a sentence.
+// The numbers that document 01 gives to answers; and of a section that does not read, the refusal's values and a sentence.
 ghost use mathlib.Core.Path.{_≡_};
-ghost use Rattle.bflan.specs.Answer.{ofFault};
+ghost use Rattle.bflan.specs.Answer.{ofFault, ofReading};
+ghost use Rattle.bflan.specs.Writing.{ofWriting};
 use crate::output::say;
 use crate::output::say_number;
 use bflan::fault::Fault;
+use bflan::read::ReadAnswer;
+use bflan::write::WriteAnswer;
 
 pub fn number_of(f: Fault) -> usize
     ensures { λ r. ⌜ r ≡ ofFault f .number ⌝ }
@@ -12,6 +15,29 @@ pub fn number_of(f: Fault) -> usize
         Fault::NotPai1(_letters) => 1,
         Fault::PastEnd(_offset, _requested) => 3,
         Fault::NoZero(_start) => 4,
+    }
+}
+
+pub fn number_of_reading(a: ReadAnswer) -> usize
+    ensures { λ r. ⌜ r ≡ ofReading a .number ⌝ }
+{
+    match a {
+        ReadAnswer::Accepted(_words, _bytes) => 0,
+        ReadAnswer::Refused(f) => number_of(f),
+        ReadAnswer::TooLong(_size) => 2,
+        ReadAnswer::TooShort(_words, _bytes) => 5,
+    }
+}
+
+pub fn number_of_writing(a: WriteAnswer) -> usize
+    ensures { λ r. ⌜ r ≡ ofWriting a .number ⌝ }
+{
+    match a {
+        WriteAnswer::Written(_len) => 0,
+        WriteAnswer::BadWord(_index) => 6,
+        WriteAnswer::BadText(_index) => 7,
+        WriteAnswer::OverLimit => 8,
+        WriteAnswer::OutputTooShort(_len) => 9,
     }
 }
 

@@ -1,0 +1,58 @@
+-- `refusal::number_of_writing` meets its contract.
+-- Assumes nothing.
+use borrow.Author.Needs.{needs}
+use Rattle.console.proofs.refusal.number_of_writing.Statement.{statement}
+use Rattle.console.proofs.refusal.number_of_writing.Tie as tie
+use mathlib.Core.Path.{ap, sym}
+use Rattle.bflan.specs.declared.write.WriteAnswer.{WriteAnswer}
+use Rattle.bflan.specs.Writing.{ofWriting}
+
+enum-known-a : tie.Need-enum-known-a
+enum-known-a c = search needs
+
+enum-known-a-2 : tie.Need-enum-known-a-2
+enum-known-a-2 c = search needs
+
+enum-known-a-3 : tie.Need-enum-known-a-3
+enum-known-a-3 c = search needs
+
+enum-told : tie.Need-enum-told
+enum-told c = search needs
+
+enum-known-a-4 : tie.Need-enum-known-a-4
+enum-known-a-4 c = search needs
+
+returns : tie.Need-returns
+unfolding ofWriting
+returns c = ap (λ (z : WriteAnswer). ofWriting z .number) (sym (c .before .a .given .1))
+
+returns-2 : tie.Need-returns-2
+unfolding ofWriting
+returns-2 c = ap (λ (z : WriteAnswer). ofWriting z .number) (sym (c .before .a2 .given .1))
+
+returns-3 : tie.Need-returns-3
+unfolding ofWriting
+returns-3 c = ap (λ (z : WriteAnswer). ofWriting z .number) (sym (c .before .a3 .given .1))
+
+returns-4 : tie.Need-returns-4
+unfolding ofWriting
+returns-4 c = ap (λ (z : WriteAnswer). ofWriting z .number) (sym (c .enum-told .given .1))
+
+returns-5 : tie.Need-returns-5
+unfolding ofWriting
+returns-5 c = ap (λ (z : WriteAnswer). ofWriting z .number) (sym (c .before .a4 .given .1))
+
+pub number-of-writing-spec : {M : Type 1} → statement M
+number-of-writing-spec =
+    tie.close
+    (tie.spec
+    enum-known-a
+    enum-known-a-2
+    enum-known-a-3
+    enum-told
+    enum-known-a-4
+    returns
+    returns-2
+    returns-3
+    returns-4
+    returns-5)
