@@ -377,6 +377,20 @@ fn many_edits() {
     assert_eq!((bytes, journal.count()), (before, 0));
 }
 
+/// The journal of the trait `Default` is that of `new`: it grows.
+#[test]
+fn the_default_journal_grows() {
+    let mut bytes = content_p();
+    let mut journal = Journal::default();
+    for i in 0..10 {
+        assert_eq!(edit(&mut bytes, &mut journal, &Change::FrameCount(i as u16)), Ok(i + 1));
+    }
+    for left in (0..10).rev() {
+        assert_eq!(undo(&mut bytes, &mut journal), Ok(left));
+    }
+    assert_eq!(bytes, content_p());
+}
+
 /// A key that lies on its own target, so that the edit changes the curve: it goes where the reader goes, and the undo back.
 #[test]
 fn parts_that_overlap() {
