@@ -23,11 +23,11 @@ fn main() {
     copy_reference(&here);
 }
 
-/// Copies the reference to OUT_DIR/nnbfl. `core/mod.rs` declares a module `tests` that is not published: it is
-/// given an empty file, so that no file of the reference has to change.
+/// Copies the reference to OUT_DIR/nnbfl. `core/mod.rs` declares a module `tests`, whose file is not among the files that
+/// this was made from: it is given an empty one, so that no file of the reference has to change.
 fn copy_reference(here: &Path) {
     println!("cargo::rerun-if-env-changed=NNBFL_SRC");
-    let given = env::var("NNBFL_SRC").unwrap_or_else(|_| "../../shared/docs/src".to_owned());
+    let given = env::var("NNBFL_SRC").unwrap_or_else(|_| "reference".to_owned());
     let source = here.join(&given).join("nnbfl/src");
     let copy = PathBuf::from(env::var_os("OUT_DIR").unwrap()).join("nnbfl");
     for folder in ["core", "bflan", "ui2d"] {
@@ -37,7 +37,7 @@ fn copy_reference(here: &Path) {
         let from = source.join(file);
         println!("cargo::rerun-if-changed={}", from.display());
         let bytes = fs::read(&from).unwrap_or_else(|e| {
-            panic!("{}: {e}. Set NNBFL_SRC to the folder that has nnbfl/src (commit af30eaf9a9)", from.display())
+            panic!("{}: {e}. README.md says how to get the reference (nnbfl, commit af30eaf9a9)", from.display())
         });
         fs::write(copy.join(file), bytes).unwrap();
     }

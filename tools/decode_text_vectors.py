@@ -7,6 +7,10 @@ the subpart being the longest start of a well-formed sequence there, or one byte
 and those of Tables 3-8 to 3-11 to its results as entered below by hand.
 """
 import os
+import sys
+
+if len(sys.argv) > 1:
+    sys.exit('usage: decode_text_vectors.py')
 
 # Table 3-7, Well-Formed UTF-8 Byte Sequences: the range of each byte
 ROWS = [

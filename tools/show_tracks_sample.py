@@ -92,9 +92,8 @@ class Section:
         return self.data[self.pos - n : self.pos]
 
     def short(self, offset, requested):
-        raise Refusal(
-            f'refused 3 ({offset}, {requested}): the section ends within the {requested} bytes that are wanted at offset {offset}'
-        )
+        many = '1 byte' if requested == 1 else f'{requested} bytes'
+        raise Refusal(f'refused 3 ({offset}, {requested}): the section asks for {many} at offset {offset}, past its end')
 
     def number(self, n):
         return int.from_bytes(self.take(n), 'little')
@@ -110,7 +109,7 @@ class Section:
     def ended(self):
         end = self.data.find(b'\0', self.pos)
         if end < 0:
-            raise Refusal(f'refused 4 ({self.pos}): no zero byte ends the text at offset {self.pos}')
+            raise Refusal(f'refused 4 ({self.pos}): the text at offset {self.pos} has no zero byte at its end')
         text = self.data[self.pos : end]
         self.pos = end + 1
         return self.text(text)
@@ -128,9 +127,10 @@ class Section:
         return shown, shown + (' (ill-formed)' if decoded.encode() != raw else '')
 
     def read(self):
-        letters, size = self.number(4), self.number(4)
-        if letters.to_bytes(4, 'little') != b'pai1':
-            raise Refusal(f'refused 1 ({letters}): the first four bytes are not the letters pai1')
+        letters, size = self.take(4), self.number(4)
+        if letters != b'pai1':
+            shown = ''.join(escaped(chr(b)) if b < 0x80 else f'\\x{b:02X}' for b in letters)
+            raise Refusal(f'refused 1 ({int.from_bytes(letters, "little")}): the section\'s letters are "{shown}" and not "pai1"')
         frames, looping, _ = self.number(2), self.number(1), self.number(1)
         textures, contents, table = self.number(2), self.number(2), self.number(4)
         self.lines.append(
@@ -479,10 +479,18 @@ def compare(program, count, seed):
     sys.exit(wrong > 0)
 
 
-if sys.argv[1:2] == ['compare']:
-    compare(sys.argv[2], *(int(n) for n in (sys.argv[3:] + ['1000', '1'][len(sys.argv) - 3 :])))
-crates = pathlib.Path(__file__).resolve().parent.parent / 'crates'
-(crates / 'show_tracks' / 'stdin').write_bytes(sample())
-(crates / 'show_tracks' / 'stdout').write_bytes(printed(sample()))
-for given in (crates / 'round_trip' / 'samples').glob('*.in'):
-    given.with_suffix('.tracks').write_bytes(printed(given.read_bytes()))
+def store():
+    crates = pathlib.Path(__file__).resolve().parent.parent / 'crates'
+    (crates / 'show_tracks' / 'stdin').write_bytes(sample())
+    (crates / 'show_tracks' / 'stdout').write_bytes(printed(sample()))
+    for given in (crates / 'round_trip' / 'samples').glob('*.in'):
+        given.with_suffix('.tracks').write_bytes(printed(given.read_bytes()))
+
+
+match sys.argv[1:]:
+    case []:
+        store()
+    case ['compare', program, *numbers] if len(numbers) <= 2 and all(n.isdecimal() for n in numbers):
+        compare(program, *(int(n) for n in [*numbers, *['1000', '1'][len(numbers) :]]))
+    case _:
+        sys.exit('usage: show_tracks_sample.py\n       show_tracks_sample.py compare PROGRAM [COUNT [SEED]]')

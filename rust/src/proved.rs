@@ -50,7 +50,7 @@ impl Editor for Proved {
 
     fn undo(&self, section: &mut [u8], journal: &mut [u32], count: usize, answer: &mut [usize]) {
         raw::undo(section, journal, count, answer);
-        // the journal is lent to be read: whether it is changed is to be seen, and not taken for granted
+        // the journal is handed over to be read: whether it is changed is to be seen, and not taken for granted
         black_box(journal);
     }
 }

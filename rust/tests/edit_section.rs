@@ -6,6 +6,7 @@ use compare::change::{Call, Change, NewKey};
 use compare::editor::{ByLayout, Editor};
 use compare::layout::{Rules, walk};
 use compare::sections::{Maker, content_p, random_sections};
+use pai1::Refusal;
 use programs::{output, program};
 
 /// The words of the program's journal.
@@ -28,7 +29,8 @@ fn told(call: &Call) -> (&'static str, Vec<usize>, Vec<u32>) {
     }
 }
 
-/// What the program must write for these calls: the section, or how its answer begins.
+/// What the program must write for these calls: the section, or how its answer begins. Where the section does not read, that
+/// is the whole line, with the sentence of the crate pai1.
 fn wanted(section: &[u8], calls: &[Call], starts: &[usize]) -> Result<Vec<u8>, String> {
     let (mut section, mut journal, mut count) = (section.to_vec(), vec![0; JOURNAL], 0);
     for (call, start) in calls.iter().zip(starts) {
@@ -43,7 +45,13 @@ fn wanted(section: &[u8], calls: &[Call], starts: &[usize]) -> Result<Vec<u8>, S
                 [3, offset, requested] => format!(" ({offset}, {requested})"),
                 [_, value, _] => format!(" ({value})"),
             };
-            return Err(format!("refused {}{values} at argument {start}: ", answer[0]));
+            let why = match answer {
+                [1, letters, _] => format!("{}\n", Refusal::NotPai1 { letters: (letters as u32).to_le_bytes() }),
+                [3, offset, requested] => format!("{}\n", Refusal::PastEnd { offset, requested }),
+                [4, start, _] => format!("{}\n", Refusal::NoZero { start }),
+                _ => String::new(),
+            };
+            return Err(format!("refused {}{values} at argument {start}: {why}", answer[0]));
         }
         count = answer[1];
     }
@@ -109,13 +117,61 @@ fn changes_are_made() {
     assert!(made > 100 && refused.len() > 5, "{made} made, {refused:?}");
 }
 
-/// What is no list of changes is answered by how to say one.
+/// What is no list of changes is answered by what is wrong, and how to say one.
 #[test]
 fn what_is_no_change_is_said() {
     let program = program("edit_section");
-    for args in ["", "frame 1", "frames", "frames x", "frames 0x", "frames 4294967296", "frames 1 2", "layer 0 0 0"] {
+    let cases = [
+        ("", ""),
+        ("frame 1", "argument 1 is no name of a change\n"),
+        ("frames 1 2", "argument 3 is no name of a change\n"),
+        ("frames", "argument 1 is a change with too few numbers behind it\n"),
+        ("frames 1 layer 0 0 0", "argument 3 is a change with too few numbers behind it\n"),
+        ("frames x", "argument 2 is no number from 0 to 4294967295\n"),
+        ("frames 0x", "argument 2 is no number from 0 to 4294967295\n"),
+        ("frames 4294967296", "argument 2 is no number from 0 to 4294967295\n"),
+        ("looping 1 layer 0 0 0 undo", "argument 7 is no number from 0 to 4294967295\n"),
+    ];
+    for (args, wrong) in cases {
         let words: Vec<String> = args.split_whitespace().map(str::to_owned).collect();
         let said = String::from_utf8(output(&program, &words, &content_p())).unwrap();
-        assert!(said.contains("usage: edit_section"), "{args}: {said}");
+        assert!(said.starts_with(&format!("{wrong}usage: edit_section")), "{args}: {said}");
     }
+}
+
+/// A section whose letters or whose end is not what it should be: the sentences, and the letters whatever their bytes.
+#[test]
+fn what_does_not_read_is_said() {
+    let program = program("edit_section");
+    let mut led = content_p();
+    led[4] += 1;
+    let cases: [(&[u8], &str); 4] = [
+        (b"", "refused 3 (0, 4) at argument 1: the section asks for 4 bytes at offset 0, past its end\n"),
+        (&led, "refused 3 (92, 1) at argument 1: the section asks for 1 byte at offset 92, past its end\n"),
+        (b"pai2....", "refused 1 (845767024) at argument 1: the section's letters are \"pai2\" and not \"pai1\"\n"),
+        (
+            b"\"\\\n\xFF....",
+            concat!(
+                "refused 1 (4278869026) at argument 1: ",
+                r#"the section's letters are "\"\\\x0A\xFF" and not "pai1""#,
+                "\n"
+            ),
+        ),
+    ];
+    for (section, said) in cases {
+        let words = ["frames".to_owned(), "1".to_owned()];
+        assert_eq!(String::from_utf8(output(&program, &words, section)).unwrap(), said);
+    }
+}
+
+/// A thousand changes, and one more.
+#[test]
+fn the_journal_has_an_end() {
+    let program = program("edit_section");
+    let thousand: Vec<String> = (0..1000).flat_map(|i| ["frames".to_owned(), i.to_string()]).collect();
+    let undone: Vec<String> = thousand.iter().cloned().chain(vec!["undo".to_owned(); 1000]).collect();
+    assert_eq!(output(&program, &undone, &content_p()), content_p());
+    let more: Vec<String> = thousand.iter().cloned().chain(["frames".to_owned(), "7".to_owned()]).collect();
+    let said = String::from_utf8(output(&program, &more, &content_p())).unwrap();
+    assert!(said.starts_with("refused 12 (1000) at argument 2001: "), "{said}");
 }

@@ -1,6 +1,7 @@
-// Functions of core, bflan and edit for a program in C or Rust. Each calls the function of the same name and has its contract. A
-// slice is passed as its address and its length, and an answer that is an enum comes back as numbers in a list. None asks
-// anything of the caller but that the slices are there and that no byte that a call may change is in another of its slices.
+// Functions of core, bflan and edit for a program in C or Rust. Each calls the function of the same name and has its contract, but for
+// the eight `nnbfl_edit_*`, which call `edit_values` with the place and the new value that their numbers say. A slice is passed as
+// its address and its length, and an answer that is an enum comes back as numbers in a list. None asks anything of the caller but
+// that the slices are there and that no byte that a call may change is in another of its slices. README.md has them as C sees them.
 mod answer;
 mod change;
 

@@ -1,47 +1,11 @@
-// The numbers that document 01 gives to answers; and of a section that does not read, the refusal's values and a sentence.
-ghost use mathlib.Core.Path.{_≡_};
-ghost use Rattle.bflan.specs.Answer.{ofFault, ofReading};
-ghost use Rattle.bflan.specs.Writing.{ofWriting};
+// What is said of a section that does not read: the refusal's number, its values, and a sentence.
+ghost use Prim.Native.Nat.{_<_};
+use crate::number::number_of;
 use crate::output::say;
 use crate::output::say_number;
 use bflan::fault::Fault;
-use bflan::read::ReadAnswer;
-use bflan::write::WriteAnswer;
 
-pub fn number_of(f: Fault) -> usize
-    ensures { λ r. ⌜ r ≡ ofFault f .number ⌝ }
-{
-    match f {
-        Fault::NotPai1(_letters) => 1,
-        Fault::PastEnd(_offset, _requested) => 3,
-        Fault::NoZero(_start) => 4,
-    }
-}
-
-pub fn number_of_reading(a: ReadAnswer) -> usize
-    ensures { λ r. ⌜ r ≡ ofReading a .number ⌝ }
-{
-    match a {
-        ReadAnswer::Accepted(_words, _bytes) => 0,
-        ReadAnswer::Refused(f) => number_of(f),
-        ReadAnswer::TooLong(_size) => 2,
-        ReadAnswer::TooShort(_words, _bytes) => 5,
-    }
-}
-
-pub fn number_of_writing(a: WriteAnswer) -> usize
-    ensures { λ r. ⌜ r ≡ ofWriting a .number ⌝ }
-{
-    match a {
-        WriteAnswer::Written(_len) => 0,
-        WriteAnswer::BadWord(_index) => 6,
-        WriteAnswer::BadText(_index) => 7,
-        WriteAnswer::OverLimit => 8,
-        WriteAnswer::OutputTooShort(_len) => 9,
-    }
-}
-
-// `refused 3 (4, 4)`,
+// Says the number and the values: `refused 3 (4, 4)`.
 pub fn say_refused(f: Fault) {
     say_number(b"refused ", number_of(f));
     match f {
@@ -55,18 +19,64 @@ pub fn say_refused(f: Fault) {
     say(b")");
 }
 
-// and why, up to the line's end.
+// A text, and a count of bytes behind it: `1 byte`, `4 bytes`.
+fn say_bytes(before: &[u8], n: usize) {
+    say_number(before, n);
+    if n == 1 {
+        say(b" byte");
+    } else {
+        say(b" bytes");
+    }
+}
+
+fn glyph(n: u8) -> u8
+    requires { ⌜ n < 16 ⌝ }
+{
+    if n < 10 { b'0' + n } else { b'A' + (n - 10) }
+}
+
+// One of the four letters within quotes, which can be any byte: escaped as show_tracks does it in a text, and where it is no ASCII.
+fn say_letter(b: u8) {
+    match b {
+        b'"' | b'\\' => {
+            let text = [b'\\', b];
+            say(&text);
+        }
+        0x20..=0x7E => {
+            let text = [b];
+            say(&text);
+        }
+        _ => {
+            let text = [b'\\', b'x', glyph(b / 16), glyph(b % 16)];
+            say(&text);
+        }
+    }
+}
+
+// The four letters; the first is the number's lowest byte.
+fn say_letters(letters: u32) {
+    say_letter((letters % 256) as u8);
+    say_letter((letters / 256 % 256) as u8);
+    say_letter((letters / 65536 % 256) as u8);
+    say_letter((letters / 16777216) as u8);
+}
+
+// Says why, up to the line's end. The crate pai1 has the same sentences.
 pub fn say_why(f: Fault) {
     match f {
-        Fault::NotPai1(_letters) => say(b": the first four bytes are not the letters pai1\n"),
+        Fault::NotPai1(letters) => {
+            say(b": the section's letters are \"");
+            say_letters(letters);
+            say(b"\" and not \"pai1\"\n");
+        }
         Fault::PastEnd(offset, requested) => {
-            say_number(b": the section ends within the ", requested);
-            say_number(b" bytes that are wanted at offset ", offset);
-            say(b"\n");
+            say_bytes(b": the section asks for ", requested);
+            say_number(b" at offset ", offset);
+            say(b", past its end\n");
         }
         Fault::NoZero(start) => {
-            say_number(b": no zero byte ends the text at offset ", start);
-            say(b"\n");
+            say_number(b": the text at offset ", start);
+            say(b" has no zero byte at its end\n");
         }
     }
 }

@@ -82,6 +82,8 @@ pub fn read_pairs(s: &[u8], at: usize, n: usize, out: &mut [u32], o: usize) -> R
         out[o + 2 * k + 1] = two(s, at + 8 * k + 4);
         k += 1;
     }
+    // The first number of the next pair may have room. The answer is the same either way; each way has its own `return`, since they leave different
+    // lists and are proved apart.
     if full < n {
         put_word(out, o + 2 * full, four(s, at + 8 * full));
         return Run::Next(at + 8 * n);

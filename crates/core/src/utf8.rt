@@ -69,7 +69,7 @@ fn ill_by(text: &[u8], classes: &[u8; 256], rows: &[u64; 16]) -> usize
     run.end
 }
 
-// The same in a text that is not all ASCII,
+// The same with the tables in place. It is asked of a text of which `is_ascii` says no.
 fn ill_mixed(text: &[u8]) -> usize
     ensures { λ r. ⌜ r ≡ sound (now (text .entry)) ⌝ }
 {
@@ -78,7 +78,7 @@ fn ill_mixed(text: &[u8]) -> usize
     ill_by(text, &classes, &rows)
 }
 
-// and in any.
+// Where the first ill-formed subpart starts, or the length. A text that is seen to be ASCII has none.
 pub fn first_ill(text: &[u8]) -> usize
     ensures { λ r. ⌜ r ≡ sound (now (text .entry)) ⌝ }
 {

@@ -12,10 +12,13 @@
 //     undo                     takes back the last change that was not taken back
 //
 // Places count from 0, as show_tracks prints them: content, info, target, key. A number is decimal, or hexadecimal behind `0x`. A
-// float is given by its bits, as in 0x3F800000 for 1; the value of a Step key is no float.
+// float is given by its bits, as in 0x3F800000 for 1; the value of a Step key is a whole number and no float.
+//
+// The section has at most 65,536 bytes. The journal has room for 1,000 changes: with so many that no undo has taken back, the next
+// one is turned down, `refused 12 (1000)`.
 //
 // A change that is turned down ends the run: nothing but `refused N at argument A: ..` is written, with document 01's number and the
-// place of the change among the arguments.
+// place of the change among the arguments. What is no change is answered by what is wrong with it, and how to say one.
 mod answer;
 mod change;
 mod number;
@@ -48,16 +51,20 @@ fn say_usage() {
     say(b"usage: edit_section CHANGE.. < section, where a CHANGE is one of\n");
     say(b"  frames V, looping V, layer C I T V, target C I T V, value C I D L N V,\n");
     say(b"  constant C I T K V, step C I T K F V, hermite C I T K F V S, undo\n");
-    say(
-        b"Content, Info, Target, Key, Datum, List and its Number count from 0. Frame, Value and Slope\n",
-    );
-    say(b"of a float are its bits. A number is decimal, or hexadecimal behind 0x.\n");
+    say(b"Content, Info, Target, Key, Datum, List and its Number count from 0. A number is\n");
+    say(b"decimal, or hexadecimal behind 0x. Frame, Slope and the Value of constant, hermite\n");
+    say(b"and value are floats, given by their bits. The Value of step is a whole number from 0\n");
+    say(b"to 65535. The section has at most 65536 bytes. At most 1000 changes are kept to be\n");
+    say(b"taken back: with so many, the next one is refused with 12 (1000).\n");
 }
 
-// Says that no change stands at argument `i`, and how changes are said.
-fn say_none(i: usize) {
+// Says what is wrong with the change at argument `i`, which is unknown or has too few arguments behind it, and how changes are said.
+fn say_none(i: usize, c: Change) {
     say_number(b"argument ", i);
-    say(b" is no change with the numbers that it needs\n");
+    match c {
+        Change::Unknown => say(b" is no name of a change\n"),
+        _ => say(b" is a change with too few numbers behind it\n"),
+    }
     say_usage();
 }
 
@@ -86,11 +93,11 @@ fn make_all(section: &mut [u8], journal: &mut [u32], numbers: &mut [u32], room: 
         let c = named(part(room, 0, n));
         let k = numbers_of(c);
         if most - i <= k {
-            say_none(i);
+            say_none(i, c);
             return false;
         }
         if !read_numbers(i + 1, k, numbers, room) {
-            say_none(i);
+            say_usage();
             return false;
         }
         match make(section, journal, count, c, numbers, i) {

@@ -1,5 +1,7 @@
 // Numbers among the arguments.
 ghost use Prim.Native.Nat.{_+_, _≤_};
+use console::output::say;
+use console::output::say_number;
 use core::part::part;
 use core::run::put_word;
 
@@ -74,7 +76,12 @@ fn number(text: &[u8]) -> Parsed {
     number_from(text, 0, Base::Ten)
 }
 
-// Stores the numbers of `k` arguments, and answers whether each is one.
+fn say_no_number(i: usize) {
+    say_number(b"argument ", i);
+    say(b" is no number from 0 to 4294967295\n");
+}
+
+// Stores the numbers of `k` arguments, and answers whether each is one; if not, it has said which is not.
 pub(crate) fn read_numbers(from: usize, k: usize, numbers: &mut [u32], room: &mut [u8]) -> bool
     requires { ⌜ from + k ≤ 18446744073709551615 ⌝ }
 {
@@ -83,7 +90,10 @@ pub(crate) fn read_numbers(from: usize, k: usize, numbers: &mut [u32], room: &mu
         let n = os::arg(from + j, room);
         match number(part(room, 0, n)) {
             Parsed::Value(v) => put_word(numbers, j, v),
-            Parsed::Bad => return false,
+            Parsed::Bad => {
+                say_no_number(from + j);
+                return false;
+            }
         }
         j += 1;
     }

@@ -6,7 +6,7 @@ use crate::refusal::{Refusal, accepted};
 const ENTRY_WORDS: usize = 5;
 
 /// What is needed to take edits back: document 01's list of words with how many entries of it count.
-#[derive(Clone, Debug, Default)]
+#[derive(Clone, Debug)]
 pub struct Journal {
     words: Vec<u32>,
     count: usize,
@@ -16,7 +16,7 @@ pub struct Journal {
 impl Journal {
     /// An empty journal that grows with the edits, so that none is refused for want of room.
     pub fn new() -> Journal {
-        Journal { grows: true, ..Journal::default() }
+        Journal { words: Vec::new(), count: 0, grows: true }
     }
 
     /// An empty journal with room for so many entries and no more: the next edit is refused with
@@ -63,6 +63,13 @@ impl Journal {
         raw::undo(section, &self.words, self.count, &mut answer);
         self.count = accepted(answer)?[1];
         Ok(self.count)
+    }
+}
+
+/// [`Journal::new`]: an empty journal that grows.
+impl Default for Journal {
+    fn default() -> Journal {
+        Journal::new()
     }
 }
 

@@ -122,6 +122,17 @@ pub(crate) fn accepted<const N: usize>(answer: [usize; N]) -> Result<[usize; N],
     })
 }
 
+/// The letters, which can be any bytes, as the programs of the repository show them: a quote and a backslash behind a
+/// backslash, and what is no printable ASCII as `\x` with two digits.
+fn shown(letters: [u8; 4]) -> String {
+    let one = |byte: u8| match byte {
+        b'"' | b'\\' => format!("\\{}", char::from(byte)),
+        b' '..=b'~' => char::from(byte).to_string(),
+        _ => format!("\\x{byte:02X}"),
+    };
+    letters.map(one).concat()
+}
+
 /// A count with what is counted.
 fn of(count: usize, one: &str, more: &str) -> String {
     format!("{count} {}", if count == 1 { one } else { more })
@@ -131,7 +142,7 @@ impl fmt::Display for Refusal {
     fn fmt(&self, f: &mut fmt::Formatter<'_>) -> fmt::Result {
         match *self {
             Refusal::NotPai1 { letters } => {
-                write!(f, "the section's letters are \"{}\" and not \"pai1\"", letters.escape_ascii())
+                write!(f, "the section's letters are \"{}\" and not \"pai1\"", shown(letters))
             }
             Refusal::TooLong { length } => {
                 write!(f, "the section has {}, and at most {LIMIT} are read", of(length, "byte", "bytes"))

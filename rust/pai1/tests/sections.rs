@@ -267,6 +267,9 @@ fn every_refusal() {
     other[3] = b'2';
     let refusal = Refusal::NotPai1 { letters: *b"pai2" };
     is(&mut met, read(&other).unwrap_err(), refusal, "the section's letters are \"pai2\" and not \"pai1\"");
+    other[..4].copy_from_slice(b"\"\\\n\xFF");
+    let sentence = r#"the section's letters are "\"\\\x0A\xFF" and not "pai1""#;
+    assert_eq!(read(&other).unwrap_err().to_string(), sentence);
 
     let long = vec![0; LIMIT + 1];
     let refusal = Refusal::TooLong { length: LIMIT + 1 };
@@ -275,6 +278,11 @@ fn every_refusal() {
     let refusal = Refusal::PastEnd { offset: 0, requested: 4 };
     is(&mut met, read(b"").unwrap_err(), refusal, "the section asks for 4 bytes at offset 0, past its end");
     assert_eq!(read(&p[..6]), Err(Refusal::PastEnd { offset: 4, requested: 4 }));
+    // an offset that leads a byte past the end
+    let mut led = p.clone();
+    led[4] += 1;
+    let sentence = "the section asks for 1 byte at offset 92, past its end";
+    assert_eq!(read(&led).unwrap_err().to_string(), sentence);
 
     let mut endless = written(&[0, 0, 1, 0, 3], b"abc");
     endless[27] = b'd';
@@ -375,6 +383,20 @@ fn many_edits() {
     assert_eq!(section.undo_all(), Ok(999));
     let (bytes, journal) = section.into_parts();
     assert_eq!((bytes, journal.count()), (before, 0));
+}
+
+/// The journal of the trait `Default` is that of `new`: it grows.
+#[test]
+fn the_default_journal_grows() {
+    let mut bytes = content_p();
+    let mut journal = Journal::default();
+    for i in 0..10 {
+        assert_eq!(edit(&mut bytes, &mut journal, &Change::FrameCount(i as u16)), Ok(i + 1));
+    }
+    for left in (0..10).rev() {
+        assert_eq!(undo(&mut bytes, &mut journal), Ok(left));
+    }
+    assert_eq!(bytes, content_p());
 }
 
 /// A key that lies on its own target, so that the edit changes the curve: it goes where the reader goes, and the undo back.

@@ -1,5 +1,5 @@
-//! In place of the reference's ui2d/systemdata.rs, which is not published here. Only user data entries with tag 3
-//! reach it, and none of those is compared: its values hold nothing, and reading one is an error.
+//! In place of the reference's ui2d/systemdata.rs, which is not among the files that this was made from. Only user data
+//! entries with tag 3 reach it, and none of those is compared: its values hold nothing, and reading one is an error.
 use serde::{Deserialize, Serialize};
 
 use crate::core::{Cursor, FormatError, Writer};

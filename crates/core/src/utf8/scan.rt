@@ -45,7 +45,7 @@ fn plain_in(s: &[u8], at: usize, n: usize) -> bool
     all
 }
 
-// Whether a whole text is ASCII, by blocks of which the last may overlap the one before it: from 32 bytes on,
+// Whether a whole text of 32 bytes or more is ASCII, by blocks of which the last may overlap the one before it.
 fn ascii_long(s: &[u8]) -> bool
     requires { ⌜ 32 ≤ length (now s) ⌝ }
     ensures { λ r. ⌜ (r ≡ true → (k : ℕ) → k < length (now (s .entry)) → getD (now (s .entry)) k 0 < 128) ⌝ }
@@ -62,7 +62,8 @@ fn ascii_long(s: &[u8]) -> bool
     ascii_in(s, n - 32, 32)
 }
 
-// of one that has 8 to 32: whatever its length, four blocks, so that the processor has no length to foresee,
+// Whether a whole text of 8 to 32 bytes is ASCII and without a zero. It is four blocks whatever the length, so that the processor has no length
+// to foresee.
 fn plain_four(s: &[u8]) -> bool
     requires { ⌜ (8 ≤ length (now s)) × (length (now s) ≤ 32) ⌝ }
     ensures { λ r. ⌜ (r ≡ true → (k : ℕ) → k < length (now (s .entry)) → (0 < getD (now (s .entry)) k 0) × (getD (now (s .entry)) k 0 < 128)) ⌝ }
@@ -75,7 +76,8 @@ fn plain_four(s: &[u8]) -> bool
     a & b & c & d
 }
 
-// and any. A short text with a zero in it may be passed over, and one of 8 to 32 bytes is.
+// Whether a text is ASCII. Only a yes promises something: a no is also said of a text of 8 to 32 bytes that is ASCII and has a zero, and the
+// caller then takes the way that is right for every text.
 pub(crate) fn is_ascii(s: &[u8]) -> bool
     ensures { λ r. ⌜ (r ≡ true → (k : ℕ) → k < length (now (s .entry)) → getD (now (s .entry)) k 0 < 128)
         × (r ≡ true → 8 ≤ length (now (s .entry)) → length (now (s .entry)) ≤ 32 → (k : ℕ) → k < length (now (s .entry)) → 0 < getD (now (s .entry)) k 0) ⌝ }

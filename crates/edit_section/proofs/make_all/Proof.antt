@@ -57,8 +57,8 @@ add-read-numbers c = search needs
 read-numbers-requires : tie.Need-read-numbers-requires Inv-loop μ-loop
 read-numbers-requires c κs = search needs
 
-say-none-requires-2 : tie.Need-say-none-requires-2 Inv-loop μ-loop
-say-none-requires-2 c κs = search needs
+say-usage-requires : tie.Need-say-usage-requires Inv-loop μ-loop
+say-usage-requires c κs = search needs
 
 same-length-5 : tie.Need-same-length-5 Inv-loop μ-loop
 same-length-5 c = search needs
@@ -147,7 +147,7 @@ make-all-spec =
     returns
     add-read-numbers
     read-numbers-requires
-    say-none-requires-2
+    say-usage-requires
     same-length-5
     same-length-6
     same-length-7

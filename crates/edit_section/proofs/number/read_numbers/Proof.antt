@@ -36,6 +36,12 @@ put-word-requires c κs = search needs
 enum-told : tie.Need-enum-told Inv-loop μ-loop
 enum-told c = search needs
 
+add-say-no-number : tie.Need-add-say-no-number Inv-loop μ-loop
+add-say-no-number c = search needs
+
+say-no-number-requires : tie.Need-say-no-number-requires Inv-loop μ-loop
+say-no-number-requires c κs = search needs
+
 same-length : tie.Need-same-length Inv-loop μ-loop
 same-length c = search needs
 
@@ -77,6 +83,8 @@ read-numbers-spec =
     enum-known-v
     put-word-requires
     enum-told
+    add-say-no-number
+    say-no-number-requires
     same-length
     same-length-2
     returns

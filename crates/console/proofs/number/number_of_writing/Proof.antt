@@ -1,8 +1,8 @@
--- `refusal::number_of_writing` meets its contract.
+-- `number::number_of_writing` meets its contract.
 -- Assumes nothing.
 use borrow.Author.Needs.{needs}
-use Rattle.console.proofs.refusal.number_of_writing.Statement.{statement}
-use Rattle.console.proofs.refusal.number_of_writing.Tie as tie
+use Rattle.console.proofs.number.number_of_writing.Statement.{statement}
+use Rattle.console.proofs.number.number_of_writing.Tie as tie
 use mathlib.Core.Path.{ap, sym}
 use Rattle.bflan.specs.declared.write.WriteAnswer.{WriteAnswer}
 use Rattle.bflan.specs.Writing.{ofWriting}

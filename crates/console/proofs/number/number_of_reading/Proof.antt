@@ -1,8 +1,8 @@
--- `refusal::number_of_reading` meets its contract.
+-- `number::number_of_reading` meets its contract.
 -- Assumes nothing.
 use borrow.Author.Needs.{needs}
-use Rattle.console.proofs.refusal.number_of_reading.Statement.{statement}
-use Rattle.console.proofs.refusal.number_of_reading.Tie as tie
+use Rattle.console.proofs.number.number_of_reading.Statement.{statement}
+use Rattle.console.proofs.number.number_of_reading.Tie as tie
 use mathlib.Core.Path.{ap, sym, _∙_}
 use Rattle.bflan.specs.declared.read.ReadAnswer.{ReadAnswer}
 use Rattle.bflan.specs.Answer.{ofReading}

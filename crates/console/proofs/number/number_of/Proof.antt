@@ -1,8 +1,8 @@
--- `refusal::number_of` meets its contract.
+-- `number::number_of` meets its contract.
 -- Assumes nothing.
 use borrow.Author.Needs.{needs}
-use Rattle.console.proofs.refusal.number_of.Statement.{statement}
-use Rattle.console.proofs.refusal.number_of.Tie as tie
+use Rattle.console.proofs.number.number_of.Statement.{statement}
+use Rattle.console.proofs.number.number_of.Tie as tie
 use mathlib.Core.Path.{ap, sym}
 use Rattle.bflan.specs.declared.fault.Fault.{Fault}
 use Rattle.bflan.specs.Answer.{ofFault}
