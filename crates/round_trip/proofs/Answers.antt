@@ -1,8 +1,8 @@
--- What the program answers and prints: a section that our writer wrote goes through unchanged; a refusal is its number, which is one of 1 to 9,
--- in one line.
+-- What the program prints: a section that our writer wrote goes through unchanged (`trip-back`); a refusal is its number, which is one of 1 to
+-- 9, in one line (`trip-low`, `trip-refused`); anything else is the section of the record that was read (`trip-accepted`).
 -- Assumes nothing.
 use Prim.Native.Nat.{ℕ, _+_, _%_, _≤_}
-use mathlib.Core.Path.{_≡_, refl, ap, _∙_}
+use mathlib.Core.Path.{_≡_, refl, ap, sym, _∙_}
 use mathlib.Core.Bool.{Bool, true, false, _&&_}
 use mathlib.Core.List.{List, [], _∷_}
 use native.Mathlib.Omega.{arith}
@@ -27,8 +27,9 @@ use Rattle.bflan.specs.Walk.{wordsOf, textsOf}
 use Rattle.bflan.specs.Writing.{stored, judged, writing}
 use Rattle.bflan.proofs.Layouts.{size-written}
 use Rattle.bflan.proofs.RoundTrip.{read-written}
-use Rattle.bflan.proofs.Verdicts.{texts-size, written-there}
+use Rattle.bflan.proofs.Verdicts.{texts-size, written-there, accepted-within}
 use Rattle.round_trip.specs.Trip.{said, most, writtenAgain, afterReading, trip, refusal, repliedWith, replied, printed}
+use Rattle.round_trip.proofs.Trips.{Filled, accepted-fills}
 
 -- ---- a section that was written from a record within the limits
 
@@ -163,3 +164,65 @@ unfolding replied printed
 trip-refused s w x out l z =
     let h = trip-low s w x out in
     refused-print (trip s w x out .0 .number) (trip s w x out .0 .values) out (trip s w x out .1) l (h .number) (h .values z) (h .same z)
+
+-- ---- what is printed but a refusal: the section of a record within the limits, which is the one that was read
+
+pub record Again (s w x out : List ℕ) : Type 0 where
+  pub tree : PaneAnimInfo
+  pub within : Within tree
+  pub reads : reading s w x ≡ (accepted (length (words tree) ∷ length (texts tree) ∷ []), sets w 0 (words tree), sets x 0 (texts tree))
+  pub prints : printed s w x out ≡ written (sectionLay tree)
+
+said-number : (a : Outcome) → said a .number ≡ a .number
+unfolding said
+said-number a = go (eqb (a .number) 0)
+  where
+    go : (b : Bool) → pick b a (refused (a .number) []) .number ≡ a .number
+    go true = refl
+    go false = refl
+
+again-number : (w x out : List ℕ) → writtenAgain w x out .0 .number ≡ writing w x out .0 .number
+unfolding writtenAgain
+again-number w x out = said-number (writing w x out .0)
+
+-- a reading that is not accepted is the end of it
+read-first : (r : Outcome × List ℕ × List ℕ) (out : List ℕ) → afterReading r out .0 .number ≡ 0 → r .0 .number ≡ 0
+unfolding afterReading
+read-first r out z = go (eqb (r .0 .number) 0) refl z
+  where
+    again : Outcome × List ℕ
+    again = writtenAgain (take (getD (r .0 .values) 0 0) (r .1)) (take (getD (r .0 .values) 1 0) (r .2)) out
+
+    go : (b : Bool) → eqb (r .0 .number) 0 ≡ b → pick {A = Outcome × List ℕ} b again (said (r .0), out) .0 .number ≡ 0 → r .0 .number ≡ 0
+    go true e z = eqb-true _ _ e
+    go false e z = sym (said-number (r .0)) ∙ z
+
+short-first : (s w x out : List ℕ) (b : Bool) → pick {A = Outcome × List ℕ} b (afterReading (reading s w x) out) (refused 2 [], out) .0 .number ≡ 0 → b ≡ true
+short-first s w x out true z = refl
+short-first s w x out false z = absurd (omega arith)
+
+-- what was filled is what is written
+after-filled : (s w x out : List ℕ) (f : Filled s w x) → afterReading (reading s w x) out ≡ writtenAgain (f .words) (f .texts) out
+unfolding afterReading
+after-filled s w x out f =
+    rw (f .answer, sets-read w 0 (f .words) (omega (arith, f .words-fit)), sets-read x 0 (f .texts) (omega (arith, f .texts-fit)))
+
+pub trip-accepted : (s w x out : List ℕ) → trip s w x out .0 .number ≡ 0 → Again s w x out
+unfolding said writtenAgain trip repliedWith replied printed
+trip-accepted s w x out z =
+    let b : leb (length s) most ≡ true = short-first s w x out (leb (length s) most) z in
+    let e : trip s w x out ≡ afterReading (reading s w x) out = rw b in
+    let f : Filled s w x = accepted-fills s w x (read-first (reading s w x) out (sym (ap (λ (r : Outcome × List ℕ). r .0 .number) e) ∙ z)) in
+    let g : trip s w x out ≡ writtenAgain (f .words) (f .texts) out = e ∙ after-filled s w x out f in
+    let y : writing (f .words) (f .texts) out .0 .number ≡ 0 = sym (again-number (f .words) (f .texts) out) ∙ sym (ap (λ (r : Outcome × List ℕ). r .0 .number) g) ∙ z in
+    let a = accepted-within (f .words) (f .texts) out y in
+    let n : length (written (sectionLay (a .tree))) ≡ size (sectionLay (a .tree)) = size-written (sectionLay (a .tree)) in
+    let fits : length (written (sectionLay (a .tree))) ≤ length out = omega (arith, n, a .room) in
+    let h : trip s w x out ≡ (accepted (size (sectionLay (a .tree)) ∷ []), sets out 0 (written (sectionLay (a .tree)))) =
+    g ∙ ap (λ (r : Outcome × List ℕ). (said (r .0), r .1)) (a .answer) in
+    record {
+      tree = a .tree;
+      within = a .within;
+      reads = rw (a .words, a .texts) (f .answer);
+      prints = ap (λ (r : Outcome × List ℕ). partOf (replied r .1) 0 (replied r .0)) h ∙ rw (← n) (printed-start out (written (sectionLay (a .tree))) fits);
+    }

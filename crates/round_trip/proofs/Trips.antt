@@ -1,7 +1,7 @@
 -- What the program answers, by what its reading and its writing answered.
 -- Assumes nothing.
 use Prim.Native.Nat.{ℕ, _-_, _<_, _≤_}
-use mathlib.Core.Path.{_≡_, refl, ap, sym, subst, _∙_}
+use mathlib.Core.Path.{_≡_, refl, ap, sym, _∙_}
 use mathlib.Core.Bool.{Bool, true, false, _&&_}
 use mathlib.Core.List.{List, [], _∷_}
 use native.Mathlib.Nat.{sub-zero}
@@ -90,39 +90,53 @@ module _ (s w x out : List ℕ) where
     unfolding ofReading afterReading
     trip-read n m o e h = h ∙ rw (sub-zero n, sub-zero m) (by-reading (Accepted n m) e)
 
--- ---- a reading fills no more places than its tables have
+-- ---- a reading that is accepted: what it filled, which the tables hold
 
-abbrev Held : Outcome × List ℕ × List ℕ → Type 0
-Held r = r .0 .number ≡ 0 → (getD (r .0 .values) 0 0 ≤ length (r .1)) × (getD (r .0 .values) 1 0 ≤ length (r .2))
+pub record Filled (s w x : List ℕ) : Type 0 where
+  pub words : List ℕ
+  pub texts : List ℕ
+  pub words-fit : length words ≤ length w
+  pub texts-fit : length texts ≤ length x
+  pub answer : reading s w x ≡ (accepted (length words ∷ length texts ∷ []), sets w 0 words, sets x 0 texts)
 
-held-fault : (f : Fault) (w x : List ℕ) → Held (ofFault f, w, x)
-unfolding ofFault
-held-fault (PastEnd offset requested) w x e = absurd (omega arith)
-held-fault (NoZero start) w x e = absurd (omega arith)
-held-fault (NotPai1 letters) w x e = absurd (omega arith)
+abbrev number : Outcome × List ℕ × List ℕ → ℕ
+number r = r .0 .number
 
-held-both : (n m : ℕ) (w x w′ x′ : List ℕ) (a b : Bool) → (a ≡ true → n ≤ length w′) → (b ≡ true → m ≤ length x′)
-    → Held (pick (a && b) (accepted (n ∷ m ∷ []), w′, x′) (tooShort n m, w, x))
-held-both n m w x w′ x′ true true h k e = (h refl, k refl)
-held-both n m w x w′ x′ true false h k e = absurd (omega arith)
-held-both n m w x w′ x′ false b h k e = absurd (omega arith)
+module _ (s w x : List ℕ) (z : number (reading s w x) ≡ 0) where
+  filled-fault : (f : Fault) → reading s w x ≡ (ofFault f, w, x) → Filled s w x
+  unfolding ofFault
+  filled-fault (PastEnd offset requested) e = absurd (omega (arith, ap number e, z))
+  filled-fault (NoZero start) e = absurd (omega (arith, ap number e, z))
+  filled-fault (NotPai1 letters) e = absurd (omega (arith, ap number e, z))
 
-held-filled : (s w x : List ℕ) (v : Res (List Item)) → Held (filled s w x v)
-unfolding filled
-held-filled s w x (stop f) = held-fault f w x
-held-filled s w x (ok is end) =
-    held-both (length (wordsOf s is)) (length (textsOf s is)) w x (sets w 0 (wordsOf s is)) (sets x 0 (textsOf s is)) _ _
-    (λ h. rw (length-sets w 0 (wordsOf s is)) (leb-true _ _ h))
-    (λ h. rw (length-sets x 0 (textsOf s is)) (leb-true _ _ h))
+  filled-both : (ws xs : List ℕ) (a b : Bool) → leb (length ws) (length w) ≡ a → leb (length xs) (length x) ≡ b
+      → reading s w x ≡ pick (a && b) (accepted (length ws ∷ length xs ∷ []), sets w 0 ws, sets x 0 xs) (tooShort (length ws) (length xs), w, x)
+      → Filled s w x
+  filled-both ws xs true true ha hb e = record { words = ws; texts = xs; words-fit = leb-true _ _ ha; texts-fit = leb-true _ _ hb; answer = e }
+  filled-both ws xs true false ha hb e = absurd (omega (arith, ap number e, z))
+  filled-both ws xs false b ha hb e = absurd (omega (arith, ap number e, z))
 
-held-reading : (s w x : List ℕ) → Held (reading s w x)
-unfolding reading
-held-reading s w x = go (leb (length s) limit)
-  where
-    go : (b : Bool) → Held (pick b (filled s w x (section s 0)) (tooLong (length s), w, x))
-    go true e = held-filled s w x (section s 0) e
-    go false e = absurd (omega arith)
+  filled-items : (v : Res (List Item)) → reading s w x ≡ filled s w x v → Filled s w x
+  unfolding filled
+  filled-items (stop f) e = filled-fault f e
+  filled-items (ok is end) e =
+      filled-both (wordsOf s is) (textsOf s is) (leb (length (wordsOf s is)) (length w)) (leb (length (textsOf s is)) (length x)) refl refl e
+
+  by-length : (b : Bool) → reading s w x ≡ pick b (filled s w x (section s 0)) (tooLong (length s), w, x) → Filled s w x
+  by-length true e = filled-items (section s 0) e
+  by-length false e = absurd (omega (arith, ap number e, z))
+
+  pub accepted-fills : Filled s w x
+  unfolding reading
+  accepted-fills = by-length (leb (length s) limit) refl
 
 pub held : (s w x w′ x′ : List ℕ) (n m : ℕ) → (ofReading (Accepted n m), w′, x′) ≡ reading s w x → (n ≤ length w′) × (m ≤ length x′)
 unfolding ofReading
-held s w x w′ x′ n m e = subst Held (sym e) (held-reading s w x) refl
+held s w x w′ x′ n m e =
+    let f = accepted-fills s w x (sym (ap number e)) in
+    let g = e ∙ f .answer in
+    let en : n ≡ length (f .words) = ap (λ (r : Outcome × List ℕ × List ℕ). getD (r .0 .values) 0 0) g in
+    let em : m ≡ length (f .texts) = ap (λ (r : Outcome × List ℕ × List ℕ). getD (r .0 .values) 1 0) g in
+    let lw : length w′ ≡ length w = ap (λ (r : Outcome × List ℕ × List ℕ). length (r .1)) g ∙ length-sets w 0 (f .words) in
+    let lx : length x′ ≡ length x = ap (λ (r : Outcome × List ℕ × List ℕ). length (r .2)) g ∙ length-sets x 0 (f .texts) in
+    (omega (arith, en, lw, f .words-fit), omega (arith, em, lx, f .texts-fit))
