@@ -147,11 +147,11 @@ unfolding numbers
 numbers-joined zero b s p = let e : 0 + b ≡ b = omega arith in rw e (sym (before-nil (asItems (numbers b s p))))
 numbers-joined (suc a) b s p = let e : suc a + b ≡ suc (a + b) = omega arith in rw e (joined-turn a b s p (numbers-joined a b s (p + 4)))
 
--- n parts of a numbers each are a * n numbers
 joined-same : (r : Res (List Item)) (f g : ℕ → Res (List Item)) → ((q : ℕ) → f q ≡ g q) → joined r f ≡ joined r g
 joined-same (ok x q) f g e = ap (before x) (e q)
 joined-same (stop h) f g e = refl
 
+-- n parts of a numbers each are a * n numbers
 pub many-numbers : (a n : ℕ) (k : P (List Item)) (s : List ℕ) (p : ℕ) → ((q : ℕ) → k s q ≡ asItems (numbers a s q)) → many n k s p ≡ asItems (numbers (a * n) s p)
 unfolding many numbers
 many-numbers a zero k s p e = let z : a * 0 ≡ 0 = omega arith in rw z
@@ -237,9 +237,9 @@ key-second s p h l = rw (num-there 4 s p h, num-short 2 s (p + 4) l)
 key-first : (s : List ℕ) (p : ℕ) → length s < p + 4 → keyOf 1 s p ≡ stop (PastEnd p 4)
 key-first s p l = rw (num-short 4 s p l)
 
-joined-pair : (a b : ℕ) (r : Run) (vs : List ℕ) → before (word a ∷ word b ∷ []) (asItems (asNumbers r vs)) ≡ asItems (asNumbers r (a ∷ b ∷ vs))
-joined-pair a b (Next q) vs = refl
-joined-pair a b (Cut o k) vs = refl
+before-pair : (a b : ℕ) (r : Run) (vs : List ℕ) → before (word a ∷ word b ∷ []) (asItems (asNumbers r vs)) ≡ asItems (asNumbers r (a ∷ b ∷ vs))
+before-pair a b (Next q) vs = refl
+before-pair a b (Cut o k) vs = refl
 
 pairs-turn : (n : ℕ) (s : List ℕ) (p : ℕ) → many n (keyOf 1) s (p + 8) ≡ asItems (asNumbers (pairsOf n s (p + 8)) (pairsAt n s (p + 8)))
     → many (suc n) (keyOf 1) s p ≡ asItems (asNumbers (pairsOf (suc n) s p) (get 4 s p ∷ get 2 s (p + 4) ∷ pairsAt n s (p + 8)))
@@ -249,7 +249,7 @@ pairs-turn n s p i = first (leb (p + 4) (length s)) refl
         → many (suc n) (keyOf 1) s p ≡ asItems (asNumbers (pairsOf (suc n) s p) (get 4 s p ∷ get 2 s (p + 4) ∷ pairsAt n s (p + 8)))
     second true e h =
         let l = leb-true (p + 4 + 2) (length s) e in
-        rw (many-on n (keyOf 1) s p (key-pair s p l), pairs-more n s p l, i) (joined-pair (get 4 s p) (get 2 s (p + 4)) (pairsOf n s (p + 8)) (pairsAt n s (p + 8)))
+        rw (many-on n (keyOf 1) s p (key-pair s p l), pairs-more n s p l, i) (before-pair (get 4 s p) (get 2 s (p + 4)) (pairsOf n s (p + 8)) (pairsAt n s (p + 8)))
     second false e h =
         let l = leb-false (p + 4 + 2) (length s) e in
         rw (many-stop n (keyOf 1) s p (key-second s p h l), pairs-no n s p l, cut-second s p h)
