@@ -37,7 +37,7 @@ fn copy_reference(here: &Path) {
         let from = source.join(file);
         println!("cargo::rerun-if-changed={}", from.display());
         let bytes = fs::read(&from).unwrap_or_else(|e| {
-            panic!("{}: {e}. README.md says how to get the reference (nnbfl, commit af30eaf9a9)", from.display())
+            panic!("{}: {e}. rust/README.md says how to get the reference (nnbfl, commit af30eaf9a9)", from.display())
         });
         fs::write(copy.join(file), bytes).unwrap();
     }
