@@ -20,7 +20,7 @@ use crate::utf8::scan::next_run;
 use crate::utf8::step::Step;
 use crate::utf8::step::step_at;
 
-pub mod class;
+mod class;
 mod flow;
 pub(crate) mod scan;
 pub mod step;

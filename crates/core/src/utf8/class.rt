@@ -270,10 +270,3 @@ pub(crate) fn class_in(classes: &[u8; 256], b: u8) -> u8
 {
     classes[b as usize]
 }
-
-pub fn class_of(b: u8) -> u8
-    ensures { λ r. ⌜ r ≡ byteClass b ⌝ }
-{
-    let classes = CLASSES;
-    class_in(&classes, b)
-}
