@@ -295,14 +295,17 @@ module _ {X : Type 0} (lay : X → Layout) (base : ℕ) where
 
 module _ {X : Type 0} (p : J X) (lay : X → Layout) (w x : List ℕ) (base : ℕ) where
   -- a loop over a run of n with its table at `tab`, i of them stored: what is left, from here, is what all of it is, from the start
-  pub record Going (end : Pen) (done : List ℕ) (n tab i : ℕ) (q : Pen) (out : List ℕ) : Type 0 where
+  pub record Going (n tab : ℕ) (q₀ : Pen) (out₀ : List ℕ) (i : ℕ) (q : Pen) (out : List ℕ) : Type 0 where
     pub ready : Ready (parts lay) (times (n - i) p w x (q .word) (q .byte)) (q .at) (length out)
     pub apart : tab + 4 * n ≤ q .at
     pub above : base ≤ q .at
-    pub ends : behind (parts lay) (times (n - i) p w x (q .word) (q .byte)) (q .at) ≡ end
-    pub same : tabled lay base (times (n - i) p w x (q .word) (q .byte)) (tab + 4 * i) (q .at) out ≡ done
+    pub long : length out ≡ length out₀
+    pub ends : behind (parts lay) (times (n - i) p w x (q .word) (q .byte)) (q .at)
+        ≡ behind (listed lay (tab + 4 * n - base)) (times n p w x (q₀ .word) (q₀ .byte)) tab
+    pub same : tabled lay base (times (n - i) p w x (q .word) (q .byte)) (tab + 4 * i) (q .at) out
+        ≡ laid (listed lay (tab + 4 * n - base)) (times n p w x (q₀ .word) (q₀ .byte)) tab out₀
 
-  pub going-first : {end : Pen} {done : List ℕ} {n tab i : ℕ} {q : Pen} {out : List ℕ} → Going end done n tab i q out → i < n
+  pub going-first : {n tab i : ℕ} {q₀ q : Pen} {out₀ out : List ℕ} → Going n tab q₀ out₀ i q out → i < n
       → Ready lay (p w x (q .word) (q .byte)) (q .at) (length out)
   going-first {n = n} {i = i} {q = q} h l = first-of p lay w x (n - i) (q .word) (q .byte) (q .at) (omega arith) (h .ready)
 
@@ -326,10 +329,10 @@ module _ {X : Type 0} (p : J X) (lay : X → Layout) (w x : List ℕ) (base : �
       )
       (tabled-more lay base y zs tab (q .at) (u .at) out b (omega (arith, z, g)) (ap (λ (z : Pen). z .at) d))
 
-  pub going-turn : {end : Pen} {done : List ℕ} {n tab i : ℕ} {q : Pen} {out : List ℕ} → Going end done n tab i q out → i < n
+  pub going-turn : {n tab i : ℕ} {q₀ q : Pen} {out₀ out : List ℕ} → Going n tab q₀ out₀ i q out → i < n
       → (c : ℕ) → c ≡ n → (v m : List ℕ) (u : Pen) → v ≡ put 4 out (entryAt tab c i) (q .at - base) → u ≡ behind lay (p w x (q .word) (q .byte)) (q .at)
-      → m ≡ laid lay (p w x (q .word) (q .byte)) (q .at) v → length m ≡ length out → Going end done n tab (i + 1) u m
-  going-turn {end} {done} {n} {tab} {i} {q} {out} h l c ec v m u d e f g =
+      → m ≡ laid lay (p w x (q .word) (q .byte)) (q .at) v → length m ≡ length out → Going n tab q₀ out₀ (i + 1) u m
+  going-turn {n} {tab} {i} {q₀} {q} {out₀} {out} h l c ec v m u d e f g =
       let k : 0 < n - i = omega (arith, l) in
       let s = times-splits p lay w x (n - i) (q .word) (q .byte) (q .at) k (h .ready) u e in
       let a : u .at ≡ q .at + size (lay (s .first)) = ap (λ (z : Pen). z .at) (e ∙ behind-fine lay (s .starts) (q .at)) in
@@ -340,6 +343,7 @@ module _ {X : Type 0} (p : J X) (lay : X → Layout) (w x : List ℕ) (base : �
         ready = rw (one, g) (rest-ready s (q .at) (h .ready) u e);
         apart = omega (arith, h .apart, a);
         above = omega (arith, h .above, a);
+        long = g ∙ h .long;
         ends = rw one (split-behind s (q .at) u e ∙ h .ends);
         same = rw (one, next) (turned (n - i) (tab + 4 * i) q u out v m k (h .above) (omega (arith, h .apart, l)) (h .ready) (rw there at d) e f ∙ h .same);
       }
@@ -355,12 +359,11 @@ module _ {X : Type 0} (p : J X) (lay : X → Layout) (w x : List ℕ) (base : �
     count : length (h .value) ≡ n
     count = times-length p w x n (s .word) (s .byte) (h .judged)
 
-    abbrev Whole : ℕ → Pen → List ℕ → Type 0
-    Whole i q o =
-        Going (behind (listed lay (tab + 4 * n - base)) (times n p w x (s .word) (s .byte)) tab)
-        (laid (listed lay (tab + 4 * n - base)) (times n p w x (s .word) (s .byte)) tab m) n tab i q o
+    -- and behind it
+    abbrev s₀ : Pen
+    s₀ = record { word = s .word; byte = s .byte; at = s .at + 4 * n }
 
-    pub going-start : base ≤ s .at → length m ≡ length out → Whole 0 (record { word = s .word; byte = s .byte; at = s .at + 4 * n }) m
+    pub going-start : base ≤ s .at → length m ≡ length out → Going n tab s₀ m 0 s₀ m
     going-start b g =
         let k = listed-size lay (s .at + 4 * n - base) (h .value) in
         let c = count in
@@ -371,6 +374,7 @@ module _ {X : Type 0} (p : J X) (lay : X → Layout) (w x : List ℕ) (base : �
           ready = rw z (record { value = h .value; word = h .word; byte = h .byte; judged = h .judged; room = rw (a, g) (h .room); short = rw a (h .short) });
           apart = omega (arith, e);
           above = omega (arith, b);
+          long = refl;
           ends = rw (z, e)
               (behind-fine (parts lay) (h .judged) (s .at + 4 * n)
               ∙ ap (λ (g : ℕ). record { word = h .word; byte = h .byte; at = g }) a
@@ -397,7 +401,7 @@ module _ {X : Type 0} (p : J X) (lay : X → Layout) (w x : List ℕ) (base : �
         )
         (sets-over out (s .at) (replicate (4 * n) 0) (written (listed lay (s .at + 4 * n - base) (h .value))) (omega (arith, g, k, b, c)))
 
-    pub going-end : m ≡ sets out (s .at) (replicate (4 * n) 0) → {i : ℕ} {q : Pen} {o : List ℕ} → Whole i q o → n ≤ i
+    pub going-end : m ≡ sets out (s .at) (replicate (4 * n) 0) → {i : ℕ} {q : Pen} {o : List ℕ} → Going n tab s₀ m i q o → n ≤ i
         → (q ≡ behind (listed lay (s .at + 4 * n - base)) (times n p w x (s .word) (s .byte)) (s .at))
         × (o ≡ laid (listed lay (s .at + 4 * n - base)) (times n p w x (s .word) (s .byte)) (s .at) out)
     going-end f {i} {q} {o} k l =

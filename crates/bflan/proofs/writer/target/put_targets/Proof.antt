@@ -1,25 +1,20 @@
 -- `writer::target::put_targets` meets its contract. The loop's invariant: what is left, from here, is what all of it is, from the start.
 -- Assumes nothing.
 use Prim.Native.Nat.{_+_, _*_, _-_}
-use mathlib.Core.Path.{_≡_, refl, _∙_}
+use mathlib.Core.Path.{_∙_}
 use mathlib.Core.List.{[]}
 use native.Mathlib.Omega.{arith}
 use borrow.Author.Needs.{needs}
 use denote.Ref.{now}
-use lib.ListN.{length}
-use Rattle.bflan.specs.Judge.{times, target}
+use Rattle.bflan.specs.Judge.{target}
 use Rattle.bflan.specs.Layout.{targetLay}
-use Rattle.bflan.specs.Stored.{laid, behind, listed}
 use Rattle.bflan.proofs.Storing.{ready-in, Going, going-start, going-first, going-turn, going-end, listed-fits}
 use Rattle.bflan.proofs.writer.target.put_targets.Statement.{statement}
 use Rattle.bflan.proofs.writer.target.put_targets.Tie as tie
 
 abbrev Inv-loop : tie.InvT-loop
 Inv-loop words letters n base out₀ table i₀ q₀ out i q =
-    Going (target letters) targetLay words [] base
-    (behind (listed targetLay (table .0 + 4 * n - base)) (times n (target letters) words [] (q₀ .word) (q₀ .byte)) (table .0))
-    (laid (listed targetLay (table .0 + 4 * n - base)) (times n (target letters) words [] (q₀ .word) (q₀ .byte)) (table .0) out₀) n (table .0) i q out
-    × (length out ≡ length out₀)
+    Going (target letters) targetLay words [] base n (table .0) q₀ out₀ i q out
 
 abbrev μ-loop : tie.MeasureT-loop
 μ-loop words letters n base out₀ table i₀ q₀ out i q = n - i
@@ -42,16 +37,16 @@ add-t13 c =
 loop-holds : tie.Need-loop-holds Inv-loop μ-loop
 loop-holds c =
     let a = c .before .before .before .before .before .before .before .args in
-    let t = (c .before .before .before .write-placeholders-u32) in
-    (going-start (target (a .letters)) targetLay (now (a .words)) [] (a .base) (a .n) (a .pen) (now (a .out)) _ (c .before .before .before .before .before .before .before .pre .1) _ (t .ensures .0) (c .before .before .before .before .before .before .before .pre .0) (t .kept .0), refl)
+    let t = c .before .before .before .write-placeholders-u32 in
+    going-start (target (a .letters)) targetLay (now (a .words)) [] (a .base) (a .n) (a .pen) (now (a .out)) _ (c .before .before .before .before .before .before .before .pre .1) _ (t .ensures .0) (c .before .before .before .before .before .before .before .pre .0) (t .kept .0)
 
 put-entry-requires : tie.Need-put-entry-requires Inv-loop μ-loop
-put-entry-requires c κs = (c .before .before .loop .inv .0 .above, omega (arith, c .before .before .loop .inv .0 .ready .short))
+put-entry-requires c κs = (c .before .before .loop .inv .above, omega (arith, c .before .before .loop .inv .ready .short))
 
 put-target-requires : tie.Need-put-target-requires Inv-loop μ-loop
 put-target-requires c κs =
     let a = c .before .before .before .before .before .before .before .before .before .before .before .before .before .before .args in
-    ready-in (c .before .before .before .put-entry .kept .0) (going-first (target (a .letters)) targetLay (now (a .words)) [] (a .base) (c .before .before .before .before .before .before .loop .inv .0) (c .before .before .before .before .before .loop-test .taken))
+    ready-in (c .before .before .before .put-entry .kept .0) (going-first (target (a .letters)) targetLay (now (a .words)) [] (a .base) (c .before .before .before .before .before .before .loop .inv) (c .before .before .before .before .before .loop-test .taken))
 
 add-i : tie.Need-add-i Inv-loop μ-loop
 add-i c = search needs
@@ -62,21 +57,19 @@ loop-less c = omega (arith, c .before .before .before .before .before .before .b
 loop-again : tie.Need-loop-again Inv-loop μ-loop
 loop-again c =
     let a = c .before .before .before .before .before .before .before .before .before .before .before .before .before .before .before .before .before .args in
-    let l = (c .before .before .before .before .before .before .before .before .before .loop) in
-    let e = (c .before .before .before .before .before .before .put-entry) in
-    let d = (c .before .before .put-target) in (
-      going-turn (target (a .letters)) targetLay (now (a .words)) [] (a .base) (l .inv .0) (c .before .before .before .before .before .before .before .before .loop-test .taken) _ (c .before .before .before .before .before .before .before .before .before .before .before .before .before .write-placeholders-u32 .ensures .1) _ _ _ (e .ensures) (d .ensures .0) (d .ensures .1) (d .kept .1 .1 .1 .0 ∙ e .kept .0),
-      d .kept .1 .1 .1 .0 ∙ e .kept .0 ∙ l .inv .1,
-    )
+    let l = c .before .before .before .before .before .before .before .before .before .loop in
+    let e = c .before .before .before .before .before .before .put-entry in
+    let d = c .before .before .put-target in
+    going-turn (target (a .letters)) targetLay (now (a .words)) [] (a .base) (l .inv) (c .before .before .before .before .before .before .before .before .loop-test .taken) _ (c .before .before .before .before .before .before .before .before .before .before .before .before .before .write-placeholders-u32 .ensures .1) _ _ _ (e .ensures) (d .ensures .0) (d .ensures .1) (d .kept .1 .1 .1 .0 ∙ e .kept .0)
 
 same-length : tie.Need-same-length Inv-loop μ-loop
-same-length c = c .before .loop .inv .1 ∙ c .before .before .before .before .before .write-placeholders-u32 .kept .0
+same-length c = c .before .loop .inv .long ∙ c .before .before .before .before .before .write-placeholders-u32 .kept .0
 
 returns : tie.Need-returns Inv-loop μ-loop
 returns c =
     let a = c .before .before .before .before .before .before .before .before .before .args in
-    let t = (c .before .before .before .before .before .write-placeholders-u32) in
-    going-end (target (a .letters)) targetLay (now (a .words)) [] (a .base) (a .n) (a .pen) (now (a .out)) _ (c .before .before .before .before .before .before .before .before .before .pre .1) _ (t .ensures .0) (t .ensures .2) (c .before .loop .inv .0) (c .loop-test .left)
+    let t = c .before .before .before .before .before .write-placeholders-u32 in
+    going-end (target (a .letters)) targetLay (now (a .words)) [] (a .base) (a .n) (a .pen) (now (a .out)) _ (c .before .before .before .before .before .before .before .before .before .pre .1) _ (t .ensures .0) (t .ensures .2) (c .before .loop .inv) (c .loop-test .left)
 
 pub put-targets-spec : {M : Type 1} → statement M
 put-targets-spec =
