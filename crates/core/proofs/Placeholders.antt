@@ -7,6 +7,7 @@ use native.Mathlib.Omega.{arith}
 use borrow.Author.Tests.{lt-ltb, le-ltb}
 use lib.ListN.{length, replicate, length-replicate, replicate-append-replicate}
 use lib.Seq.{sets, length-sets}
+use Rattle.core.specs.Number.{le, put}
 use Rattle.core.specs.Placeholder.{entryAt}
 use Rattle.core.proofs.Filling.{fill-none}
 use Rattle.core.proofs.Stores.{sets-append}
@@ -40,3 +41,11 @@ zeros-most l o n m h e =
     sym (fill-none (sets l o (replicate m 0)) (o + length (replicate {A = ℕ} m 0)) (replicate (n - m) 0) g)
     ∙ sym (sets-append l o (replicate m 0) (replicate (n - m) 0))
     ∙ ap (sets l o) (replicate-append-replicate m (n - m) 0 ∙ ap (λ (k : ℕ). replicate k 0) d)
+
+-- the zeros of no place, and of one
+pub gaps-none : (l : List ℕ) (at n : ℕ) → n ≡ 0 → l ≡ sets l at (replicate (4 * n) 0)
+gaps-none l at n e = rw e refl
+
+pub gaps-one : (l : List ℕ) (at n : ℕ) → n ≡ 1 → put 4 l at 0 ≡ sets l at (replicate (4 * n) 0)
+unfolding put le
+gaps-one l at n e = rw e refl

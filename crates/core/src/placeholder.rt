@@ -33,12 +33,26 @@ fn table_size(n: usize) -> usize
     MOST
 }
 
+// Four zeros for each of `n` places from `at` on. A call that fills memory takes longer than one place, or none, needs.
+fn write_gaps(out: &mut [u8], at: usize, n: usize)
+    ensures { λ _. ⌜ now (out .exit) ≡ sets (now (out .entry)) at (replicate (4 * n) 0) ⌝ }
+{
+    if n == 0 {
+        return;
+    }
+    if n == 1 {
+        write_u32(out, at, 0);
+        return;
+    }
+    let size = table_size(n);
+    zeros(out, at, size);
+}
+
 // Four zeros hold each of the `n` places from `at` on.
 pub fn write_placeholders_u32(out: &mut [u8], at: usize, n: usize) -> Placeholders32
     ensures { λ r. ⌜ (r .0 ≡ at) × (r .1 ≡ n) × (now (out .exit) ≡ sets (now (out .entry)) at (replicate (4 * n) 0)) ⌝ }
 {
-    let size = table_size(n);
-    zeros(out, at, size);
+    write_gaps(out, at, n);
     Placeholders32(at, n)
 }
 
