@@ -1,4 +1,4 @@
--- A table of places that are still to be patched (document 01, 'Kept from the Rust'; writer.rs of the Rust keeps a list of them).
+-- A table of places that are still to be patched (document 01, 'Kept from the Rust'; anim_info.rs of the Rust keeps a list of them).
 use Prim.Native.Nat.{ℕ, _+_, _*_, min}
 use lib.Dec.{ltb}
 use Rattle.core.specs.Choice.{pick}
