@@ -4,7 +4,7 @@ use Prim.Native.Nat.{ℕ, zero, suc, _+_, _*_, _-_, _/_, _%_, _^_, _≤_, _<_}
 use mathlib.Core.Path.{_≡_, refl, sym, ap, _∙_}
 use mathlib.Core.Bool.{Bool, true, false}
 use mathlib.Core.List.{List, [], _∷_, _++_, append-assoc, append-nil}
-use native.Mathlib.Nat.{add-comm, mul-zero, mul-suc, mul-comm, mul-assoc, pow-succ'}
+use native.Mathlib.Nat.{zero-add, add-comm, mul-zero, mul-suc, mul-comm, mul-assoc, pow-succ'}
 use native.Mathlib.Omega.{arith}
 use borrow.Author.Tests.{leb-true, eqb-true, eqb-false, eq-eqb, ne-eqb}
 use lib.Dec.{eqb, leb, ltb}
@@ -570,11 +570,11 @@ module _ (w : List ℕ) (i j l : ℕ) where
 
 -- the same of the first of a run
 module _ (w x : List ℕ) where
-  pub out-turn : (n i j at : ℕ) {most : ℕ} → 0 < n → Ready (parts infoLay) (times n info w x i j) at most → (u : Pen) → u ≡ behind infoLay (info w x i j) at
+  out-more : (n i j at : ℕ) {most : ℕ} → 0 < n → Ready (parts infoLay) (times n info w x i j) at most → (u : Pen) → u ≡ behind infoLay (info w x i j) at
       → (outOf (times n info w x i j) ≡ outBy w i j (u .byte) + outOf (times (n - 1) info w x (u .word) (u .byte))) × (getD w i 0 ≡ fleu → j ≤ u .byte)
   unfolding outOf
-  out-turn zero i j at l h u e = absurd (omega arith)
-  out-turn (suc n) i j at l h u e =
+  out-more zero i j at l h u e = absurd (omega arith)
+  out-more (suc n) i j at l h u e =
       times-more info w x n i j (h .judged) λ a is o p first rest q.
       let d : u ≡ record { word = o; byte = p; at = at + size (infoLay a) } = e ∙ behind-fine infoLay first at in
       let s : suc n - 1 ≡ n = omega arith in
@@ -583,6 +583,16 @@ module _ (w x : List ℕ) where
         rw (h .judged, q, s, ap (λ (z : Pen). z .word) d, b, rest) (infos-more a is ∙ ap (λ (k : ℕ). k + infosOut is) (f .0)),
         rw b (f .1),
       )
+
+  -- none of n infos is passed; k are, and one more
+  pub out-start : (n i j : ℕ) → 0 + outOf (times (n - 0) info w x i j) ≡ outOf (times n info w x i j)
+  out-start n i j = let s : n - 0 ≡ n = omega arith in rw s (zero-add _)
+
+  pub out-turn : (n k i j at : ℕ) {most : ℕ} → k < n → Ready (parts infoLay) (times (n - k) info w x i j) at most → (u : Pen) → u ≡ behind infoLay (info w x i j) at
+      → (outOf (times (n - k) info w x i j) ≡ outBy w i j (u .byte) + outOf (times (n - (k + 1)) info w x (u .word) (u .byte))) × (getD w i 0 ≡ fleu → j ≤ u .byte)
+  out-turn n k i j at l h u e =
+      let s : n - (k + 1) ≡ n - k - 1 = omega arith in
+      rw s (out-more (n - k) i j at (omega (arith, l)) h u e)
 
   pub out-none : (n i j : ℕ) → n ≤ 0 → outOf (times n info w x i j) ≡ 0
   unfolding times outOf infosOut

@@ -6,12 +6,14 @@ use mathlib.Core.List.{List, _∷_, _++_}
 use mathlib.Core.Logic.{inl, inr}
 use native.Mathlib.Nat.{add-zero}
 use native.Mathlib.Omega.{arith}
-use lib.ListN.{length, length-append}
+use lib.ListN.{length, replicate, length-append, length-replicate}
 use lib.Seq.{sets}
 use Rattle.core.specs.Number.{le, put}
+use Rattle.core.specs.Placeholder.{entryAt}
 use Rattle.core.proofs.Apart.{sets-past}
 use Rattle.core.proofs.Numbers.{length-le, patch-late}
-use Rattle.core.proofs.Stores.{sets-append}
+use Rattle.core.proofs.Placeholders.{entry-there}
+use Rattle.core.proofs.Stores.{sets-append, sets-over}
 use Rattle.bflan.specs.declared.writer.Pen.{Pen}
 use Rattle.bflan.specs.Judge.{Judged, fine, badWord, badText, J, times}
 use Rattle.bflan.specs.Layout.{Layout, number, bytes, _⨾_, size, written, parts, table}
@@ -292,17 +294,20 @@ module _ {X : Type 0} (lay : X → Layout) (base : ℕ) where
       ∙ ap (λ (k : ℕ). sets (sets out tab (le 4 (at - base) ++ written (table lay k zs))) at (written (lay y) ++ written (parts lay zs))) f
 
 module _ {X : Type 0} (p : J X) (lay : X → Layout) (w x : List ℕ) (base : ℕ) where
-  -- a loop over a run with its table: what is left, from here, is what all of it is, from the start
-  pub record Going (end : Pen) (done : List ℕ) (left tab : ℕ) (q : Pen) (out : List ℕ) : Type 0 where
-    pub ready : Ready (parts lay) (times left p w x (q .word) (q .byte)) (q .at) (length out)
-    pub apart : tab + 4 * left ≤ q .at
+  -- a loop over a run of n with its table at `tab`, i of them stored: what is left, from here, is what all of it is, from the start
+  pub record Going (n tab : ℕ) (q₀ : Pen) (out₀ : List ℕ) (i : ℕ) (q : Pen) (out : List ℕ) : Type 0 where
+    pub ready : Ready (parts lay) (times (n - i) p w x (q .word) (q .byte)) (q .at) (length out)
+    pub apart : tab + 4 * n ≤ q .at
     pub above : base ≤ q .at
-    pub ends : behind (parts lay) (times left p w x (q .word) (q .byte)) (q .at) ≡ end
-    pub same : tabled lay base (times left p w x (q .word) (q .byte)) tab (q .at) out ≡ done
+    pub long : length out ≡ length out₀
+    pub ends : behind (parts lay) (times (n - i) p w x (q .word) (q .byte)) (q .at)
+        ≡ behind (listed lay (tab + 4 * n - base)) (times n p w x (q₀ .word) (q₀ .byte)) tab
+    pub same : tabled lay base (times (n - i) p w x (q .word) (q .byte)) (tab + 4 * i) (q .at) out
+        ≡ laid (listed lay (tab + 4 * n - base)) (times n p w x (q₀ .word) (q₀ .byte)) tab out₀
 
-  pub going-first : {end : Pen} {done : List ℕ} {left tab : ℕ} {q : Pen} {out : List ℕ} → Going end done left tab q out → 0 < left
+  pub going-first : {n tab i : ℕ} {q₀ q : Pen} {out₀ out : List ℕ} → Going n tab q₀ out₀ i q out → i < n
       → Ready lay (p w x (q .word) (q .byte)) (q .at) (length out)
-  going-first {left = left} {q = q} h l = first-of p lay w x left (q .word) (q .byte) (q .at) l (h .ready)
+  going-first {n = n} {i = i} {q = q} h l = first-of p lay w x (n - i) (q .word) (q .byte) (q .at) (omega arith) (h .ready)
 
   turned : (left tab : ℕ) (q u : Pen) {most : ℕ} (out v m : List ℕ) → 0 < left → base ≤ q .at → tab + 4 * left ≤ q .at
       → Ready (parts lay) (times left p w x (q .word) (q .byte)) (q .at) most
@@ -324,18 +329,23 @@ module _ {X : Type 0} (p : J X) (lay : X → Layout) (w x : List ℕ) (base : �
       )
       (tabled-more lay base y zs tab (q .at) (u .at) out b (omega (arith, z, g)) (ap (λ (z : Pen). z .at) d))
 
-  pub going-turn : {end : Pen} {done : List ℕ} {left tab : ℕ} {q : Pen} {out : List ℕ} → Going end done left tab q out → 0 < left
-      → (v m : List ℕ) (u : Pen) → v ≡ put 4 out tab (q .at - base) → u ≡ behind lay (p w x (q .word) (q .byte)) (q .at)
-      → m ≡ laid lay (p w x (q .word) (q .byte)) (q .at) v → length m ≡ length out → Going end done (left - 1) (tab + 4) u m
-  going-turn {end} {done} {left} {tab} {q} {out} h l v m u c e f g =
-      let s = times-splits p lay w x left (q .word) (q .byte) (q .at) l (h .ready) u e in
+  pub going-turn : {n tab i : ℕ} {q₀ q : Pen} {out₀ out : List ℕ} → Going n tab q₀ out₀ i q out → i < n
+      → (c : ℕ) → c ≡ n → (v m : List ℕ) (u : Pen) → v ≡ put 4 out (entryAt tab c i) (q .at - base) → u ≡ behind lay (p w x (q .word) (q .byte)) (q .at)
+      → m ≡ laid lay (p w x (q .word) (q .byte)) (q .at) v → length m ≡ length out → Going n tab q₀ out₀ (i + 1) u m
+  going-turn {n} {tab} {i} {q₀} {q} {out₀} {out} h l c ec v m u d e f g =
+      let k : 0 < n - i = omega (arith, l) in
+      let s = times-splits p lay w x (n - i) (q .word) (q .byte) (q .at) k (h .ready) u e in
       let a : u .at ≡ q .at + size (lay (s .first)) = ap (λ (z : Pen). z .at) (e ∙ behind-fine lay (s .starts) (q .at)) in
+      let there : entryAt tab c i ≡ tab + 4 * i = rw ec (entry-there tab n i l (omega (arith, h .apart, h .ready .short, l))) in
+      let one : n - (i + 1) ≡ n - i - 1 = omega arith in
+      let next : tab + 4 * (i + 1) ≡ tab + 4 * i + 4 = omega arith in
       record {
-        ready = rw g (rest-ready s (q .at) (h .ready) u e);
-        apart = omega (arith, h .apart, a, l);
+        ready = rw (one, g) (rest-ready s (q .at) (h .ready) u e);
+        apart = omega (arith, h .apart, a);
         above = omega (arith, h .above, a);
-        ends = split-behind s (q .at) u e ∙ h .ends;
-        same = turned left tab q u out v m l (h .above) (h .apart) (h .ready) c e f ∙ h .same;
+        long = g ∙ h .long;
+        ends = rw one (split-behind s (q .at) u e ∙ h .ends);
+        same = rw (one, next) (turned (n - i) (tab + 4 * i) q u out v m k (h .above) (omega (arith, h .apart, l)) (h .ready) (rw there at d) e f ∙ h .same);
       }
 
   stopped : (n i j tab at : ℕ) (out : List ℕ) → n ≤ 0 → tabled lay base (times n p w x i j) tab at out ≡ out
@@ -343,29 +353,62 @@ module _ {X : Type 0} (p : J X) (lay : X → Layout) (w x : List ℕ) (base : �
   stopped zero i j tab at out l = refl
   stopped (suc n) i j tab at out l = absurd (omega arith)
 
-  pub going-end : {end : Pen} {done : List ℕ} {left tab : ℕ} {q : Pen} {out : List ℕ} → Going end done left tab q out → left ≤ 0 → (q ≡ end) × (out ≡ done)
-  going-end {left = left} {tab = tab} {q = q} {out = out} h l =
-      (sym (none-behind p lay w x left (q .word) (q .byte) (q .at) l) ∙ h .ends, sym (stopped left (q .word) (q .byte) tab (q .at) out l) ∙ h .same)
+  -- from where the writing stands before the table, whose places are held by zeros
+  module _ (n : ℕ) (s : Pen) (out m : List ℕ) (h : Ready (listed lay (s .at + 4 * n - base)) (times n p w x (s .word) (s .byte)) (s .at) (length out))
+      (tab : ℕ) (e : tab ≡ s .at) where
+    count : length (h .value) ≡ n
+    count = times-length p w x n (s .word) (s .byte) (h .judged)
 
-  pub going-start : (n : ℕ) (q : Pen) (out : List ℕ) → base ≤ q .at → Ready (listed lay (q .at + 4 * n - base)) (times n p w x (q .word) (q .byte)) (q .at) (length out)
-      → Going (behind (listed lay (q .at + 4 * n - base)) (times n p w x (q .word) (q .byte)) (q .at))
-      (laid (listed lay (q .at + 4 * n - base)) (times n p w x (q .word) (q .byte)) (q .at) out) n (q .at)
-      (record { word = q .word; byte = q .byte; at = q .at + 4 * n }) out
-  going-start n q out b h =
-      let c : length (h .value) ≡ n = times-length p w x n (q .word) (q .byte) (h .judged) in
-      let k = listed-size lay (q .at + 4 * n - base) (h .value) in
-      let a : q .at + 4 * n + size (parts lay (h .value)) ≡ q .at + size (listed lay (q .at + 4 * n - base) (h .value)) = omega (arith, k, c) in
-      record {
-        ready = record { value = h .value; word = h .word; byte = h .byte; judged = h .judged; room = rw a (h .room); short = rw a (h .short) };
-        apart = omega arith;
-        above = omega (arith, b);
-        ends = behind-fine (parts lay) (h .judged) (q .at + 4 * n)
-            ∙ ap (λ (g : ℕ). record { word = h .word; byte = h .byte; at = g }) a
-            ∙ sym (behind-fine (listed lay (q .at + 4 * n - base)) (h .judged) (q .at));
-        same = tabled-fine lay base (h .judged) (q .at) (q .at + 4 * n) out
-            ∙ listed-stored lay (q .at + 4 * n - base) (h .value) out (q .at) (q .at + 4 * n) (rw c refl)
-            ∙ sym (laid-fine (listed lay (q .at + 4 * n - base)) (h .judged) (q .at) out);
-      }
+    -- and behind it
+    abbrev s₀ : Pen
+    s₀ = record { word = s .word; byte = s .byte; at = s .at + 4 * n }
+
+    pub going-start : base ≤ s .at → length m ≡ length out → Going n tab s₀ m 0 s₀ m
+    going-start b g =
+        let k = listed-size lay (s .at + 4 * n - base) (h .value) in
+        let c = count in
+        let a : s .at + 4 * n + size (parts lay (h .value)) ≡ s .at + size (listed lay (s .at + 4 * n - base) (h .value)) = omega (arith, k, c) in
+        let z : n - 0 ≡ n = omega arith in
+        let t : tab + 4 * 0 ≡ s .at = omega (arith, e) in
+        record {
+          ready = rw z (record { value = h .value; word = h .word; byte = h .byte; judged = h .judged; room = rw (a, g) (h .room); short = rw a (h .short) });
+          apart = omega (arith, e);
+          above = omega (arith, b);
+          long = refl;
+          ends = rw (z, e)
+              (behind-fine (parts lay) (h .judged) (s .at + 4 * n)
+              ∙ ap (λ (g : ℕ). record { word = h .word; byte = h .byte; at = g }) a
+              ∙ sym (behind-fine (listed lay (s .at + 4 * n - base)) (h .judged) (s .at)));
+          same = rw (z, t, e)
+              (tabled-fine lay base (h .judged) (s .at) (s .at + 4 * n) m
+              ∙ listed-stored lay (s .at + 4 * n - base) (h .value) m (s .at) (s .at + 4 * n) (rw c refl)
+              ∙ sym (laid-fine (listed lay (s .at + 4 * n - base)) (h .judged) (s .at) m));
+        }
+
+    -- the zeros are all stored over
+    gaps-over : m ≡ sets out (s .at) (replicate (4 * n) 0)
+        → laid (listed lay (s .at + 4 * n - base)) (times n p w x (s .word) (s .byte)) (s .at) m
+        ≡ laid (listed lay (s .at + 4 * n - base)) (times n p w x (s .word) (s .byte)) (s .at) out
+    gaps-over f =
+        let g = length-replicate {A = ℕ} (4 * n) 0 in
+        let k = listed-size lay (s .at + 4 * n - base) (h .value) in
+        let b = size-written (listed lay (s .at + 4 * n - base) (h .value)) in
+        let c = count in
+        rw (
+          laid-fine (listed lay (s .at + 4 * n - base)) (h .judged) (s .at) m,
+          laid-fine (listed lay (s .at + 4 * n - base)) (h .judged) (s .at) out,
+          f,
+        )
+        (sets-over out (s .at) (replicate (4 * n) 0) (written (listed lay (s .at + 4 * n - base) (h .value))) (omega (arith, g, k, b, c)))
+
+    pub going-end : m ≡ sets out (s .at) (replicate (4 * n) 0) → {i : ℕ} {q : Pen} {o : List ℕ} → Going n tab s₀ m i q o → n ≤ i
+        → (q ≡ behind (listed lay (s .at + 4 * n - base)) (times n p w x (s .word) (s .byte)) (s .at))
+        × (o ≡ laid (listed lay (s .at + 4 * n - base)) (times n p w x (s .word) (s .byte)) (s .at) out)
+    going-end f {i} {q} {o} k l =
+        let z : n - i ≤ 0 = omega (arith, l) in (
+          rw (← e) (sym (none-behind p lay w x (n - i) (q .word) (q .byte) (q .at) z) ∙ k .ends),
+          sym (stopped (n - i) (q .word) (q .byte) (tab + 4 * i) (q .at) o z) ∙ k .same ∙ rw e (gaps-over f),
+        )
 
   -- where its parts start
   pub listed-fits : (from n i j at : ℕ) {most : ℕ} → Ready (listed lay from) (times n p w x i j) at most → at + 4 * n ≤ limit

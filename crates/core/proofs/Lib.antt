@@ -7,6 +7,7 @@ pub mod Numbers
 pub mod Outcomes
 pub mod Padding
 pub mod Parts
+pub mod Placeholders
 pub mod Runs
 pub mod Seeks
 pub mod Stores

@@ -5,6 +5,7 @@ pub mod Flow
 pub mod Number
 pub mod Outcome
 pub mod Part
+pub mod Placeholder
 pub mod Run
 pub mod Seek
 pub mod Text

@@ -14,7 +14,7 @@ pub enum Read {
     Past(usize, usize),
 }
 
-const MOST: usize = 18446744073709551615;
+pub(crate) const MOST: usize = 18446744073709551615;
 
 // A sum, or the largest number where that does not hold it.
 pub(crate) fn total(a: usize, b: usize) -> usize

@@ -1,9 +1,19 @@
-// A place of four bytes that is still to be patched (writer.rs of the Rust). Only this module makes one, and only a patch uses it.
+// Places of four bytes that are still to be patched (writer.rs of the Rust). Only this module makes them, and only a patch uses them.
 ghost use mathlib.Core.Path.{_≡_};
+ghost use Prim.Native.Nat.{_*_, min};
+ghost use lib.ListN.{replicate};
+ghost use lib.Seq.{sets};
 ghost use Rattle.core.specs.Number.{put};
+ghost use Rattle.core.specs.Placeholder.{entryAt};
+use crate::fill::zeros;
+use crate::number::MOST;
+use crate::number::total;
 use crate::number::write_u32;
 
 pub struct Placeholder32(usize);
+
+// A table of such places, one behind another: where it starts, and how many there are.
+pub struct Placeholders32(usize, usize);
 
 // Four zeros hold the place.
 pub fn write_placeholder_u32(out: &mut [u8], at: usize) -> Placeholder32
@@ -11,6 +21,50 @@ pub fn write_placeholder_u32(out: &mut [u8], at: usize) -> Placeholder32
 {
     write_u32(out, at, 0);
     Placeholder32(at)
+}
+
+// The bytes of `n` places, or the largest number where that does not hold them.
+fn table_size(n: usize) -> usize
+    ensures { λ r. ⌜ r ≡ min (4 * n) 18446744073709551615 ⌝ }
+{
+    if n <= MOST / 4 {
+        return 4 * n;
+    }
+    MOST
+}
+
+// Four zeros for each of `n` places from `at` on. A call that fills memory takes longer than one place, or none, needs.
+fn write_gaps(out: &mut [u8], at: usize, n: usize)
+    ensures { λ _. ⌜ now (out .exit) ≡ sets (now (out .entry)) at (replicate (4 * n) 0) ⌝ }
+{
+    if n == 0 {
+        return;
+    }
+    if n == 1 {
+        write_u32(out, at, 0);
+        return;
+    }
+    let size = table_size(n);
+    zeros(out, at, size);
+}
+
+// Four zeros hold each of the `n` places from `at` on.
+pub fn write_placeholders_u32(out: &mut [u8], at: usize, n: usize) -> Placeholders32
+    ensures { λ r. ⌜ (r .0 ≡ at) × (r .1 ≡ n) × (now (out .exit) ≡ sets (now (out .entry)) at (replicate (4 * n) 0)) ⌝ }
+{
+    write_gaps(out, at, n);
+    Placeholders32(at, n)
+}
+
+// Entry `i` of a table. Where there is none, the place is the largest number: no slice has a byte there, so a patch stores nothing.
+pub fn placeholder_of(table: Placeholders32, i: usize) -> Placeholder32
+    ensures { λ r. ⌜ r .0 ≡ entryAt (table .0) (table .1) i ⌝ }
+{
+    if i < table.1 {
+        let ahead = table_size(i);
+        return Placeholder32(total(table.0, ahead));
+    }
+    Placeholder32(MOST)
 }
 
 pub fn patch_u32(out: &mut [u8], p: Placeholder32, v: u32)

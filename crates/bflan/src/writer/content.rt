@@ -12,12 +12,14 @@ use crate::judge::word::word_of;
 use crate::writer::Pen;
 use crate::writer::field::put_chars;
 use crate::writer::field::put_counts;
+use crate::writer::field::put_entry;
 use crate::writer::field::put_offset;
 use crate::writer::info::put_infos;
 use core::fill::padding;
 use core::fill::zeros;
 use core::placeholder::patch_u32;
 use core::placeholder::write_placeholder_u32;
+use core::placeholder::write_placeholders_u32;
 
 // The name, with zeros up to 28 bytes.
 fn put_name(words: &[u32], texts: &[u8], pen: Pen, out: &mut [u8]) -> Pen
@@ -130,18 +132,17 @@ pub(crate) fn put_contents(
     ensures { λ r. ⌜ (r ≡ behind (listed contentLay (pen .at + 4 * n - base)) (times n content (now (words .entry)) (now (texts .entry)) (pen .word) (pen .byte)) (pen .at))
         × (now (out .exit) ≡ laid (listed contentLay (pen .at + 4 * n - base)) (times n content (now (words .entry)) (now (texts .entry)) (pen .word) (pen .byte)) (pen .at) (now (out .entry))) ⌝ }
 {
-    let mut left = n;
-    let mut tab = pen.at;
+    let table = write_placeholders_u32(out, pen.at, n);
+    let mut i = 0;
     let mut q = Pen {
         word: pen.word,
         byte: pen.byte,
         at: pen.at + 4 * n,
     };
-    while 0 < left {
-        put_offset(out, tab, base, q.at);
+    while i < n {
+        put_entry(out, table, i, base, q.at);
         q = put_content(words, texts, q, out);
-        tab += 4;
-        left -= 1;
+        i += 1;
     }
     q
 }

@@ -4,6 +4,7 @@ ghost use Prim.Native.Nat.{_+_, _-_, _≤_};
 ghost use lib.ListN.{length, take, drop};
 ghost use lib.Seq.{sets};
 ghost use Rattle.core.specs.Number.{put};
+ghost use Rattle.core.specs.Placeholder.{entryAt};
 ghost use Rattle.bflan.specs.Judge.{text, wide};
 ghost use Rattle.bflan.specs.Layout.{number, _⨾_, written, ended};
 ghost use Rattle.bflan.specs.Stored.{Ready, laid, behind};
@@ -12,7 +13,9 @@ use crate::writer::Pen;
 use core::fill::copy;
 use core::number::write_u8;
 use core::number::write_u16;
+use core::placeholder::Placeholders32;
 use core::placeholder::patch_u32;
+use core::placeholder::placeholder_of;
 use core::placeholder::write_placeholder_u32;
 
 // The lowest byte of a word.
@@ -45,6 +48,15 @@ pub(crate) fn put_offset(out: &mut [u8], at: usize, base: usize, to: usize)
     ensures { λ _. ⌜ now (out .exit) ≡ put 4 (now (out .entry)) at (to - base) ⌝ }
 {
     let place = write_placeholder_u32(out, at);
+    patch_u32(out, place, (to - base) as u32);
+}
+
+// The offset of entry `i` of a table, which counts from `base`: how far away `to` is.
+pub(crate) fn put_entry(out: &mut [u8], table: Placeholders32, i: usize, base: usize, to: usize)
+    requires { ⌜ (base ≤ to) × (to ≤ 16777216) ⌝ }
+    ensures { λ _. ⌜ now (out .exit) ≡ put 4 (now (out .entry)) (entryAt (table .0) (table .1) i) (to - base) ⌝ }
+{
+    let place = placeholder_of(table, i);
     patch_u32(out, place, (to - base) as u32);
 }
 

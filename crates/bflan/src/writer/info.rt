@@ -12,9 +12,10 @@ use crate::letters::FLEU;
 use crate::writer::Pen;
 use crate::writer::datum::put_data;
 use crate::writer::field::put_counts;
-use crate::writer::field::put_offset;
+use crate::writer::field::put_entry;
 use crate::writer::target::put_targets;
 use core::number::write_u32;
+use core::placeholder::write_placeholders_u32;
 
 // Where the writing stands behind infos, and what the total size of a User content leaves out of them.
 pub struct Infos {
@@ -80,21 +81,20 @@ pub(crate) fn put_infos(
         × (r .out ≡ outOf (times n info (now (words .entry)) (now (texts .entry)) (pen .word) (pen .byte)))
         × (now (out .exit) ≡ laid (listed infoLay (pen .at + 4 * n - base)) (times n info (now (words .entry)) (now (texts .entry)) (pen .word) (pen .byte)) (pen .at) (now (out .entry))) ⌝ }
 {
-    let mut left = n;
-    let mut tab = pen.at;
+    let table = write_placeholders_u32(out, pen.at, n);
+    let mut i = 0;
     let mut gone: usize = 0;
     let mut q = Pen {
         word: pen.word,
         byte: pen.byte,
         at: pen.at + 4 * n,
     };
-    while 0 < left {
-        put_offset(out, tab, base, q.at);
+    while i < n {
+        put_entry(out, table, i, base, q.at);
         let next = put_info(words, texts, q, out);
         gone += left_out(words, q.word, q.byte, next.byte);
         q = next;
-        tab += 4;
-        left -= 1;
+        i += 1;
     }
     Infos { pen: q, out: gone }
 }

@@ -13,13 +13,14 @@ use crate::writer::Pen;
 use crate::writer::content::put_contents;
 use crate::writer::field::put_byte;
 use crate::writer::field::put_ended;
+use crate::writer::field::put_entry;
 use crate::writer::field::put_half;
-use crate::writer::field::put_offset;
 use core::fill::align4;
 use core::number::write_u32;
 use core::placeholder::Placeholder32;
 use core::placeholder::patch_u32;
 use core::placeholder::write_placeholder_u32;
+use core::placeholder::write_placeholders_u32;
 
 // `n` texture names from the next word on, behind the table of their offsets, which count from `base`.
 fn put_textures(words: &[u32], texts: &[u8], n: usize, base: usize, pen: Pen, out: &mut [u8]) -> Pen
@@ -27,18 +28,17 @@ fn put_textures(words: &[u32], texts: &[u8], n: usize, base: usize, pen: Pen, ou
     ensures { λ r. ⌜ (r ≡ behind (listed ended (pen .at + 4 * n - base)) (times n (text (wide 4)) (now (words .entry)) (now (texts .entry)) (pen .word) (pen .byte)) (pen .at))
         × (now (out .exit) ≡ laid (listed ended (pen .at + 4 * n - base)) (times n (text (wide 4)) (now (words .entry)) (now (texts .entry)) (pen .word) (pen .byte)) (pen .at) (now (out .entry))) ⌝ }
 {
-    let mut left = n;
-    let mut tab = pen.at;
+    let table = write_placeholders_u32(out, pen.at, n);
+    let mut i = 0;
     let mut q = Pen {
         word: pen.word,
         byte: pen.byte,
         at: pen.at + 4 * n,
     };
-    while 0 < left {
-        put_offset(out, tab, base, q.at);
+    while i < n {
+        put_entry(out, table, i, base, q.at);
         q = put_ended(words, texts, q, out);
-        tab += 4;
-        left -= 1;
+        i += 1;
     }
     q
 }

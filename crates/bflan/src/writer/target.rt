@@ -11,8 +11,10 @@ ghost use Rattle.bflan.specs.Stored.{Ready, laid, behind, listed, target
 use crate::judge::word::word_of;
 use crate::writer::Pen;
 use crate::writer::field::put_byte;
+use crate::writer::field::put_entry;
 use crate::writer::field::put_half;
 use crate::writer::field::put_offset;
+use core::placeholder::write_placeholders_u32;
 use core::run::write_numbers;
 use core::run::write_pairs;
 
@@ -96,18 +98,17 @@ pub(crate) fn put_targets(
     ensures { λ r. ⌜ (r ≡ behind (listed targetLay (pen .at + 4 * n - base)) (times n (target letters) (now (words .entry)) [] (pen .word) (pen .byte)) (pen .at))
         × (now (out .exit) ≡ laid (listed targetLay (pen .at + 4 * n - base)) (times n (target letters) (now (words .entry)) [] (pen .word) (pen .byte)) (pen .at) (now (out .entry))) ⌝ }
 {
-    let mut left = n;
-    let mut tab = pen.at;
+    let table = write_placeholders_u32(out, pen.at, n);
+    let mut i = 0;
     let mut q = Pen {
         word: pen.word,
         byte: pen.byte,
         at: pen.at + 4 * n,
     };
-    while 0 < left {
-        put_offset(out, tab, base, q.at);
+    while i < n {
+        put_entry(out, table, i, base, q.at);
         q = put_target(words, letters, q, out);
-        tab += 4;
-        left -= 1;
+        i += 1;
     }
     q
 }

@@ -1,62 +1,74 @@
 -- `writer::content::put_contents` meets its contract. The loop's invariant: what is left, from here, is what all of it is, from the start.
 -- Assumes nothing.
 use Prim.Native.Nat.{_+_, _*_, _-_}
-use mathlib.Core.Path.{_≡_, refl, _∙_}
+use mathlib.Core.Path.{_∙_}
 use native.Mathlib.Omega.{arith}
+use borrow.Author.Needs.{needs}
 use denote.Ref.{now}
-use lib.ListN.{length}
-use Rattle.bflan.specs.Judge.{times, content}
+use Rattle.bflan.specs.Judge.{content}
 use Rattle.bflan.specs.Layout.{contentLay}
-use Rattle.bflan.specs.Stored.{laid, behind, listed}
 use Rattle.bflan.proofs.Storing.{ready-in, Going, going-start, going-first, going-turn, going-end, listed-fits}
 use Rattle.bflan.proofs.writer.content.put_contents.Statement.{statement}
 use Rattle.bflan.proofs.writer.content.put_contents.Tie as tie
 
 abbrev Inv-loop : tie.InvT-loop
-Inv-loop words texts n base out₀ left₀ tab₀ q₀ out left tab q =
-    Going content contentLay words texts base
-    (behind (listed contentLay (tab₀ + 4 * n - base)) (times n content words texts (q₀ .word) (q₀ .byte)) tab₀)
-    (laid (listed contentLay (tab₀ + 4 * n - base)) (times n content words texts (q₀ .word) (q₀ .byte)) tab₀ out₀) left tab q out
-    × (length out ≡ length out₀)
+Inv-loop words texts n base out₀ table i₀ q₀ out i q =
+    Going content contentLay words texts base n (table .0) q₀ out₀ i q out
 
 abbrev μ-loop : tie.MeasureT-loop
-μ-loop words texts n base out₀ left₀ tab₀ q₀ out left tab q = left
+μ-loop words texts n base out₀ table i₀ q₀ out i q = n - i
 
-mul-t10 : tie.Need-mul-t10 Inv-loop μ-loop
-mul-t10 c = omega (arith, listed-fits content contentLay (now (c .before .before .before .args .words)) (now (c .before .before .before .args .texts)) (c .before .before .before .args .base) (c .before .before .before .args .pen .at + 4 * c .before .before .before .args .n - c .before .before .before .args .base) (c .before .before .before .args .n) (c .before .before .before .args .pen .word) (c .before .before .before .args .pen .byte) (c .before .before .before .args .pen .at) (c .before .before .before .pre .1))
+write-placeholders-u32-requires : tie.Need-write-placeholders-u32-requires Inv-loop μ-loop
+write-placeholders-u32-requires c κs = search needs
 
-add-t11 : tie.Need-add-t11 Inv-loop μ-loop
-add-t11 c = let h = listed-fits content contentLay (now (c .before .before .before .before .args .words)) (now (c .before .before .before .before .args .texts)) (c .before .before .before .before .args .base) (c .before .before .before .before .args .pen .at + 4 * c .before .before .before .before .args .n - c .before .before .before .before .args .base) (c .before .before .before .before .args .n) (c .before .before .before .before .args .pen .word) (c .before .before .before .before .args .pen .byte) (c .before .before .before .before .args .pen .at) (c .before .before .before .before .pre .1) in omega (arith, h)
+mul-t12 : tie.Need-mul-t12 Inv-loop μ-loop
+mul-t12 c =
+    let a = c .before .before .before .before .before .before .before .args in
+    let h = listed-fits content contentLay (now (a .words)) (now (a .texts)) (a .base) (a .pen .at + 4 * a .n - a .base) (a .n) (a .pen .word) (a .pen .byte) (a .pen .at) (c .before .before .before .before .before .before .before .pre .1) in
+    omega (arith, h)
+
+add-t13 : tie.Need-add-t13 Inv-loop μ-loop
+add-t13 c =
+    let a = c .before .before .before .before .before .before .before .before .args in
+    let h = listed-fits content contentLay (now (a .words)) (now (a .texts)) (a .base) (a .pen .at + 4 * a .n - a .base) (a .n) (a .pen .word) (a .pen .byte) (a .pen .at) (c .before .before .before .before .before .before .before .before .pre .1) in
+    omega (arith, h)
 
 loop-holds : tie.Need-loop-holds Inv-loop μ-loop
-loop-holds c = (going-start content contentLay (now (c .before .before .before .before .args .words)) (now (c .before .before .before .before .args .texts)) (c .before .before .before .before .args .base) (c .before .before .before .before .args .n) (c .before .before .before .before .args .pen) (now (c .before .before .before .before .args .out)) (c .before .before .before .before .pre .0) (c .before .before .before .before .pre .1), refl)
+loop-holds c =
+    let a = c .before .before .before .before .before .before .before .before .args in
+    let t = c .before .before .before .write-placeholders-u32 in
+    going-start content contentLay (now (a .words)) (now (a .texts)) (a .base) (a .n) (a .pen) (now (a .out)) _ (c .before .before .before .before .before .before .before .before .pre .1) _ (t .ensures .0) (c .before .before .before .before .before .before .before .before .pre .0) (t .kept .0)
 
-put-offset-requires : tie.Need-put-offset-requires Inv-loop μ-loop
-put-offset-requires c κs = (c .before .before .loop .inv .0 .above, omega (arith, c .before .before .loop .inv .0 .ready .short))
+put-entry-requires : tie.Need-put-entry-requires Inv-loop μ-loop
+put-entry-requires c κs = (c .before .before .loop .inv .above, omega (arith, c .before .before .loop .inv .ready .short))
 
 put-content-requires : tie.Need-put-content-requires Inv-loop μ-loop
-put-content-requires c κs = ready-in (c .before .before .before .put-offset .kept .0) (going-first content contentLay (now (c .before .before .before .before .before .before .before .before .before .before .before .args .words)) (now (c .before .before .before .before .before .before .before .before .before .before .before .args .texts)) (c .before .before .before .before .before .before .before .before .before .before .before .args .base) (c .before .before .before .before .before .before .loop .inv .0) (c .before .before .before .before .before .loop-test .taken))
+put-content-requires c κs =
+    let a = c .before .before .before .before .before .before .before .before .before .before .before .before .before .before .before .args in
+    ready-in (c .before .before .before .put-entry .kept .0) (going-first content contentLay (now (a .words)) (now (a .texts)) (a .base) (c .before .before .before .before .before .before .loop .inv) (c .before .before .before .before .before .loop-test .taken))
 
-add-tab : tie.Need-add-tab Inv-loop μ-loop
-add-tab c = omega (arith, c .before .before .before .before .before .before .before .before .before .loop .inv .0 .apart, c .before .before .before .before .before .before .before .before .before .loop .inv .0 .ready .short, c .before .before .before .before .before .before .before .before .loop-test .taken)
-
-sub-left : tie.Need-sub-left Inv-loop μ-loop
-sub-left c = omega (arith, c .before .before .before .before .before .before .before .before .loop-test .taken)
+add-i : tie.Need-add-i Inv-loop μ-loop
+add-i c = search needs
 
 loop-less : tie.Need-loop-less Inv-loop μ-loop
 loop-less c = omega (arith, c .before .before .before .before .before .before .before .before .loop-test .taken)
 
 loop-again : tie.Need-loop-again Inv-loop μ-loop
-loop-again c = (
-  going-turn content contentLay (now (c .before .before .before .before .before .before .before .before .before .before .before .before .before .before .args .words)) (now (c .before .before .before .before .before .before .before .before .before .before .before .before .before .before .args .texts)) (c .before .before .before .before .before .before .before .before .before .before .before .before .before .before .args .base) (c .before .before .before .before .before .before .before .before .before .loop .inv .0) (c .before .before .before .before .before .before .before .before .loop-test .taken) _ _ _ (c .before .before .before .before .before .before .put-offset .ensures) (c .before .before .put-content .ensures .0) (c .before .before .put-content .ensures .1) (c .before .before .put-content .kept .1 .1 .1 .0 ∙ c .before .before .before .before .before .before .put-offset .kept .0),
-  c .before .before .put-content .kept .1 .1 .1 .0 ∙ c .before .before .before .before .before .before .put-offset .kept .0 ∙ c .before .before .before .before .before .before .before .before .before .loop .inv .1,
-)
+loop-again c =
+    let a = c .before .before .before .before .before .before .before .before .before .before .before .before .before .before .before .before .before .before .args in
+    let l = c .before .before .before .before .before .before .before .before .before .loop in
+    let e = c .before .before .before .before .before .before .put-entry in
+    let d = c .before .before .put-content in
+    going-turn content contentLay (now (a .words)) (now (a .texts)) (a .base) (l .inv) (c .before .before .before .before .before .before .before .before .loop-test .taken) _ (c .before .before .before .before .before .before .before .before .before .before .before .before .before .write-placeholders-u32 .ensures .1) _ _ _ (e .ensures) (d .ensures .0) (d .ensures .1) (d .kept .1 .1 .1 .0 ∙ e .kept .0)
 
 same-length : tie.Need-same-length Inv-loop μ-loop
-same-length c = c .before .loop .inv .1
+same-length c = c .before .loop .inv .long ∙ c .before .before .before .before .before .write-placeholders-u32 .kept .0
 
 returns : tie.Need-returns Inv-loop μ-loop
-returns c = going-end content contentLay (now (c .before .before .before .before .before .before .args .words)) (now (c .before .before .before .before .before .before .args .texts)) (c .before .before .before .before .before .before .args .base) (c .before .loop .inv .0) (c .loop-test .left)
+returns c =
+    let a = c .before .before .before .before .before .before .before .before .before .before .args in
+    let t = c .before .before .before .before .before .write-placeholders-u32 in
+    going-end content contentLay (now (a .words)) (now (a .texts)) (a .base) (a .n) (a .pen) (now (a .out)) _ (c .before .before .before .before .before .before .before .before .before .before .pre .1) _ (t .ensures .0) (t .ensures .2) (c .before .loop .inv) (c .loop-test .left)
 
 pub put-contents-spec : {M : Type 1} → statement M
 put-contents-spec =
@@ -64,13 +76,13 @@ put-contents-spec =
     (tie.spec
     Inv-loop
     μ-loop
-    mul-t10
-    add-t11
+    write-placeholders-u32-requires
+    mul-t12
+    add-t13
     loop-holds
-    put-offset-requires
+    put-entry-requires
     put-content-requires
-    add-tab
-    sub-left
+    add-i
     loop-less
     loop-again
     same-length
