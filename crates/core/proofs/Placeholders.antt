@@ -13,7 +13,7 @@ use Rattle.core.proofs.Filling.{fill-none}
 use Rattle.core.proofs.Stores.{sets-append}
 
 -- an entry that the table has, and one that it does not have
-entry-within : (at n i : ℕ) → i < n → entryAt at n i ≡ min (at + 4 * i) 18446744073709551615
+pub entry-within : (at n i : ℕ) → i < n → entryAt at n i ≡ min (at + 4 * i) 18446744073709551615
 unfolding entryAt
 entry-within at n i h = rw (lt-ltb i n h)
 
@@ -25,12 +25,8 @@ entry-none at n i h = rw (le-ltb i n h)
 pub entry-there : (at n i : ℕ) → i < n → at + 4 * i ≤ 18446744073709551615 → entryAt at n i ≡ at + 4 * i
 entry-there at n i h k = omega (arith, entry-within at n i h, k)
 
--- the same, as code gives its answer
-pub entry-is : (at n i k p : ℕ) → i < n → k ≡ min (4 * i) 18446744073709551615 → p ≡ min (at + k) 18446744073709551615 → p ≡ entryAt at n i
-entry-is at n i k p h e f = omega (arith, entry-within at n i h, e, f)
-
 -- no list has more places than a usize counts, so zeros up to that many store as much
-pub zeros-most : (l : List ℕ) (o n m : ℕ) → length l ≤ 18446744073709551615 → m ≡ min n 18446744073709551615
+pub zeros-most : (l : List ℕ) (o n m : ℕ) → length l ≤ 18446744073709551615 → m ≡ min (0 + n) 18446744073709551615
     → sets l o (replicate m 0) ≡ sets l o (replicate n 0)
 zeros-most l o n m h e =
     let a = length-replicate {A = ℕ} m 0 in

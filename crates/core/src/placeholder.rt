@@ -1,13 +1,12 @@
 // Places of four bytes that are still to be patched (writer.rs of the Rust). Only this module makes them, and only a patch uses them.
 ghost use mathlib.Core.Path.{_≡_};
-ghost use Prim.Native.Nat.{_*_, min};
+ghost use Prim.Native.Nat.{_+_, _*_, min};
 ghost use lib.ListN.{replicate};
 ghost use lib.Seq.{sets};
 ghost use Rattle.core.specs.Number.{put};
 ghost use Rattle.core.specs.Placeholder.{entryAt};
 use crate::fill::zeros;
 use crate::number::MOST;
-use crate::number::total;
 use crate::number::write_u32;
 
 pub struct Placeholder32(usize);
@@ -23,12 +22,12 @@ pub fn write_placeholder_u32(out: &mut [u8], at: usize) -> Placeholder32
     Placeholder32(at)
 }
 
-// The bytes of `n` places, or the largest number where that does not hold them.
-fn table_size(n: usize) -> usize
-    ensures { λ r. ⌜ r ≡ min (4 * n) 18446744073709551615 ⌝ }
+// Where the place behind `i` others from `at` on starts, or the largest number where that does not hold it.
+fn place_of(at: usize, i: usize) -> usize
+    ensures { λ r. ⌜ r ≡ min (at + 4 * i) 18446744073709551615 ⌝ }
 {
-    if n <= MOST / 4 {
-        return 4 * n;
+    if i <= (MOST - at) / 4 {
+        return at + 4 * i;
     }
     MOST
 }
@@ -44,7 +43,7 @@ fn write_gaps(out: &mut [u8], at: usize, n: usize)
         write_u32(out, at, 0);
         return;
     }
-    let size = table_size(n);
+    let size = place_of(0, n);
     zeros(out, at, size);
 }
 
@@ -61,8 +60,7 @@ pub fn placeholder_of(table: Placeholders32, i: usize) -> Placeholder32
     ensures { λ r. ⌜ r .0 ≡ entryAt (table .0) (table .1) i ⌝ }
 {
     if i < table.1 {
-        let ahead = table_size(i);
-        return Placeholder32(total(table.0, ahead));
+        return Placeholder32(place_of(table.0, i));
     }
     Placeholder32(MOST)
 }

@@ -1,20 +1,17 @@
 -- `placeholder::placeholder_of` meets its contract: by where an entry stands, or that there is none. Assumes nothing.
-use mathlib.Core.Path.{sym}
+use mathlib.Core.Path.{sym, _∙_}
 use borrow.Author.Needs.{needs}
-use Rattle.core.proofs.Placeholders.{entry-none, entry-is}
+use Rattle.core.proofs.Placeholders.{entry-within, entry-none}
 use Rattle.core.proofs.placeholder.placeholder_of.Statement.{statement}
 use Rattle.core.proofs.placeholder.placeholder_of.Tie as tie
 
-table-size-requires : tie.Need-table-size-requires
-table-size-requires c κs = search needs
-
-total-requires : tie.Need-total-requires
-total-requires c κs = search needs
+place-of-requires : tie.Need-place-of-requires
+place-of-requires c κs = search needs
 
 returns : tie.Need-returns
 returns c =
-    let a = c .before .before .before .before .args in
-    entry-is (a .table .0) (a .table .1) (a .i) _ _ (c .before .before .if1 .taken) (c .before .table-size .ensures) (c .total .ensures)
+    let a = c .before .before .before .args in
+    c .place-of .ensures ∙ sym (entry-within (a .table .0) (a .table .1) (a .i) (c .before .if1 .taken))
 
 returns-2 : tie.Need-returns-2
 returns-2 c =
@@ -22,4 +19,4 @@ returns-2 c =
     sym (entry-none (a .table .0) (a .table .1) (a .i) (c .if1 .left))
 
 pub placeholder-of-spec : {M : Type 1} → statement M
-placeholder-of-spec = tie.close (tie.spec table-size-requires total-requires returns returns-2)
+placeholder-of-spec = tie.close (tie.spec place-of-requires returns returns-2)

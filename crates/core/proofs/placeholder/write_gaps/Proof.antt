@@ -25,8 +25,8 @@ returns-2 c =
     let a = c .before .before .before .before .before .before .before .args in
     c .before .before .write-u32 .ensures ∙ gaps-one (now (a .out)) (a .at) (a .n) (c .before .before .before .before .if2 .taken)
 
-table-size-requires : tie.Need-table-size-requires
-table-size-requires c κs = search needs
+place-of-requires : tie.Need-place-of-requires
+place-of-requires c κs = search needs
 
 zeros-requires : tie.Need-zeros-requires
 zeros-requires c κs = search needs
@@ -38,7 +38,7 @@ returns-3 : tie.Need-returns-3
 returns-3 c =
     let a = c .before .before .before .before .before .before .before .before .args in
     let h : length (now (a .out)) ≤ 18446744073709551615 = omega arith in
-    c .before .before .zeros .ensures ∙ zeros-most (now (a .out)) (a .at) (4 * a .n) _ h (c .before .before .before .before .table-size .ensures)
+    c .before .before .zeros .ensures ∙ zeros-most (now (a .out)) (a .at) (4 * a .n) _ h (c .before .before .before .before .place-of .ensures)
 
 pub write-gaps-spec : {M : Type 1} → statement M
 write-gaps-spec =
@@ -48,7 +48,7 @@ write-gaps-spec =
     write-u32-requires
     same-length
     returns-2
-    table-size-requires
+    place-of-requires
     zeros-requires
     same-length-2
     returns-3)
