@@ -1,10 +1,17 @@
 // Hexadecimal digits, in capitals.
+ghost use mathlib.Core.Path.{_≡_};
+ghost use Rattle.console.specs.Hex.{hexDigit};
 use crate::output::say;
 
 // The digit of a number's last four bits.
-pub fn hex_digit(n: u8) -> u8 {
+pub fn hex_digit(n: u8) -> u8
+    ensures { λ r. ⌜ r ≡ hexDigit n ⌝ }
+{
     let d = n % 16;
-    if d < 10 { b'0' + d } else { b'A' + (d - 10) }
+    if d < 10 {
+        return 48 + d;
+    }
+    55 + d
 }
 
 // A byte that is not to be printed as it is: `\x` and its two digits.

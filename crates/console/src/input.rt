@@ -1,5 +1,8 @@
-// What a program reads from standard input. The kit's contract of a read says nothing of the bytes that came, or whether more will, so
-// none does here; what the count lies within is tested by whoever uses it.
+// What a program reads from standard input. The kit's contract of a read says nothing of the bytes that came, of an end of the input or of
+// a failure, so none does here: a count lies within the room, and that is all.
+ghost use Prim.Native.Nat.{_≤_};
+ghost use lib.ListN.{length};
+ghost use Rattle.console.specs.Input.{bytesOf};
 use libc::STDIN_FILENO;
 
 pub enum Input {
@@ -10,7 +13,9 @@ pub enum Input {
 }
 
 // Reads to the end of the input or until the room is full. (io::read_full takes a failed read for the end of the input.)
-pub fn read_input(room: &mut [u8]) -> Input {
+pub fn read_input(room: &mut [u8]) -> Input
+    ensures { λ r. ⌜ bytesOf r ≤ length (now (room .entry)) ⌝ }
+{
     let mut n = 0;
     while n < room.len() {
         let got = libc::read(STDIN_FILENO, &mut room[n..]);
