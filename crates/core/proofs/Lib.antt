@@ -11,4 +11,5 @@ pub mod Runs
 pub mod Seeks
 pub mod Stores
 pub mod Table
+pub mod Tests
 pub mod Zeros

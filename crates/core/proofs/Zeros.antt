@@ -12,7 +12,7 @@ use lib.Dec.{eqb, ltb, leb}
 use lib.ListN.{length, getD, take, drop, length-append, length-take, length-drop, take-append-drop, drop-of-length-le}
 use lib.Seq.{drop-cons, drop-drop}
 use Rattle.core.specs.Choice.{pick}
-use Rattle.core.specs.Text.{beforeZero, zeroFree, fixedOf, endedOf}
+use Rattle.core.specs.Text.{beforeZero, every, zeroFree, fixedOf, endedOf}
 use Rattle.core.specs.declared.text.TextAt.the-variants.{Text, Past, Unended}
 
 -- ---- one byte
@@ -29,11 +29,11 @@ before-other b bs e = rw (ne-eqb _ _ e)
 
 -- and the test of all bytes fails at a zero, or goes on
 free-zero : (b : ℕ) (bs : List ℕ) → b ≡ 0 → zeroFree (b ∷ bs) ≡ false
-unfolding zeroFree
+unfolding zeroFree every
 free-zero b bs e = rw (eq-eqb _ _ e)
 
 free-other : (b : ℕ) (bs : List ℕ) → (b ≡ 0 → ⊥) → zeroFree (b ∷ bs) ≡ zeroFree bs
-unfolding zeroFree
+unfolding zeroFree every
 free-other b bs e = rw (ne-eqb _ _ e)
 
 -- a byte that passes the test is above zero
@@ -129,8 +129,12 @@ before-skip (b ∷ bs) (suc k) h =
     by-byte b (λ e. absurd (omega (arith, before-zero b bs e)))
     (λ e. before-other b bs e ∙ ap suc (before-skip bs k (omega (arith, before-other b bs e))) ∙ sym (suc-add k (beforeZero (drop k bs))))
 
+free-nil : zeroFree [] ≡ true
+unfolding zeroFree every
+free-nil = refl
+
 free-take : (n : ℕ) (s : List ℕ) → n ≤ beforeZero s → zeroFree (take n s) ≡ true
-free-take zero s h = unfold zeroFree in refl
+free-take zero s h = free-nil
 free-take (suc n) [] h = absurd (unfold beforeZero in omega arith)
 free-take (suc n) (b ∷ bs) h =
     by-byte b (λ e. absurd (omega (arith, before-zero b bs e)))
@@ -184,22 +188,6 @@ zero-in-four s at true true true i j k h l m ex ey ez ei ej ek =
     let q : at + 8 + 8 ≤ beforeZero s = block-free s (at + 8) 8 p (omega arith) (sym ey) in
     let f : at + 16 + 8 ≤ beforeZero s = block-free s (at + 16) 8 (omega (arith, q)) (omega arith) (sym ez) in
     (omega (arith, a, b, c, f), omega (arith, a, b, c, m))
-
--- a turn of a loop that tests k bytes, of which it has tested i
-pub clear-turn : (s : List ℕ) (at k i : ℕ) (t all : Bool) → at + k ≤ length s → i < k → t && zeroFree (take (k - i) (drop (at + i) s)) ≡ all
-    → (t && not (eqb (getD s (at + i) 0) 0)) && zeroFree (take (k - (i + 1)) (drop (at + (i + 1)) s)) ≡ all
-unfolding zeroFree
-clear-turn s at k i t all h l e =
-    let m : k - i ≡ suc (k - (i + 1)) = omega arith in
-    let p : at + (i + 1) ≡ suc (at + i) = omega arith in
-    rw (and-assoc, p) (rw (m, drop-cons s (at + i) 0 (omega arith)) at e)
-
--- its end: all k are tested
-pub clear-done : (l : List ℕ) (k i : ℕ) (t all : Bool) → k ≤ i → t && zeroFree (take (k - i) l) ≡ all → t ≡ all
-unfolding zeroFree
-clear-done l k i t all h e =
-    let m : k - i ≡ 0 = omega arith in
-    sym (and-true t) ∙ (rw m at e)
 
 -- ---- the answers, taken apart
 
