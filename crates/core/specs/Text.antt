@@ -48,10 +48,11 @@ isPlain t = (leb 8 (length t) && leb (length t) 32) && every plain t
 unfoldable pub plainAt : List ℕ → ℕ → ℕ → Bool
 plainAt s at n = (ltb (at + n) (length s) && eqb (getD s (at + n) 0) 0) && isPlain (slice at (at + n) s)
 
--- a field of n bytes, read up to its first zero; where the slice ends within it, what remains is the field, and where nothing remains it is refused
+-- a field of n bytes, read up to its first zero; where the slice ends within it, what remains is the field, and where nothing remains it is
+-- refused. A field of no bytes is there up to the slice's end (`read_fixed_string(0)` of the Rust)
 unfoldable pub fixedOf : ℕ → List ℕ → ℕ → TextAt
 fixedOf n s at =
-    pick (ltb at (length s)) (Text (beforeZero (take n (drop at s))) (at + length (take n (drop at s))))
+    pick (leb (at + min n 1) (length s)) (Text (beforeZero (take n (drop at s))) (at + length (take n (drop at s))))
     (Past at n)
 
 -- a text that ends at a zero, which the next position is after; with no zero before the slice ends it is refused at its start

@@ -146,13 +146,16 @@ pub fn first_fault(text: &[u8]) -> usize
 pub fn fixed_text(s: &[u8], at: usize, n: usize) -> TextAt
     ensures { λ r. ⌜ r ≡ fixedOf n (now (s .entry)) at ⌝ }
 {
-    if s.len() <= at {
+    if s.len() < at {
         return TextAt::Past(at, n);
     }
     let left = s.len() - at;
-    if n < left {
+    if n <= left {
         let end = at + n;
         return TextAt::Text(first_zero(&s[at..end]), end);
+    }
+    if left == 0 {
+        return TextAt::Past(at, n);
     }
     TextAt::Text(first_zero(&s[at..]), s.len())
 }
