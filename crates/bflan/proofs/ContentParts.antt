@@ -5,7 +5,7 @@ use mathlib.Core.Path.{_≡_, refl, ap, sym, _∙_}
 use mathlib.Core.Bool.{Bool, true, false}
 use mathlib.Core.List.{List, [], _∷_}
 use native.Mathlib.Omega.{arith}
-use borrow.Author.Tests.{leb-true, leb-false, eqb-true, eqb-false, le-leb, lt-leb, eq-eqb, ne-eqb, lt-ltb, le-ltb}
+use borrow.Author.Tests.{leb-true, leb-false, eqb-true, eqb-false, le-leb, lt-leb, eq-eqb, ne-eqb}
 use lib.Dec.{leb, eqb}
 use lib.ListN.{length, set, take, drop, length-set, length-take, length-drop}
 use lib.Seq.{sets, length-sets}
@@ -38,11 +38,11 @@ field-size s base h = rw (length-take, length-drop)
 
 pub name-there : (s : List ℕ) (base : ℕ) → base < length s → fixedText 28 s base ≡ ok (text base (nameSize s base)) (base + min 28 (length s - base))
 unfolding fixedText fixedOf
-name-there s base h = rw (lt-ltb base (length s) h) (ap (λ (n : ℕ). ok (text base (nameSize s base)) (base + n)) (field-size s base (omega arith)))
+name-there s base h = rw (le-leb (base + 1) (length s) (omega arith)) (ap (λ (n : ℕ). ok (text base (nameSize s base)) (base + n)) (field-size s base (omega arith)))
 
 pub name-none : (s : List ℕ) (base : ℕ) → length s ≤ base → fixedText 28 s base ≡ stop (PastEnd base 28)
 unfolding fixedText fixedOf
-name-none s base h = rw (le-ltb base (length s) h)
+name-none s base h = rw (lt-leb (base + 1) (length s) (omega arith))
 
 pub name-within : (s : List ℕ) (base : ℕ) → base + 28 ≤ length s → base + nameSize s base ≤ length s
 name-within s base h =
