@@ -32,7 +32,8 @@ fn clear_in(text: &[u8], at: usize, n: usize) -> bool
     clear
 }
 
-// A place that no zero stands before: behind the blocks of `size` bytes from `from` on that have none.
+// A place that no zero stands before: behind the blocks of `size` bytes from `from` on that have none. Fewer than `size` bytes on, a zero or the
+// end stands; which place it is is left open, since `first_zero` finds the same zero from each.
 fn clear_blocks(text: &[u8], from: usize, size: usize) -> usize
     requires { ⌜ (0 < size) × (from ≤ beforeZero (now text)) ⌝ }
     ensures { λ r. ⌜ (from ≤ r) × (r ≤ beforeZero (now (text .entry))) × (r + size ≤ length (now (text .entry)) → beforeZero (now (text .entry)) < r + size) ⌝ }

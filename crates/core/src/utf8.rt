@@ -46,7 +46,8 @@ fn put_replacement(out: &mut [u8], at: usize) -> usize
     at + 3
 }
 
-// Whether a short text is well-formed, by one way through the automaton.
+// Whether a short text is well-formed, by one way through the automaton. A no is left open: the caller then goes through the text as if nothing
+// had been asked.
 fn short_sound(text: &[u8], classes: &[u8; 256], rows: &[u64; 16]) -> bool
     requires { ⌜ Classes (now classes) × Rows (now rows) ⌝ }
     ensures { λ r. ⌜ (r ≡ true → sound (now (text .entry)) ≡ length (now (text .entry))) ⌝ }

@@ -1,7 +1,7 @@
 // ASCII, and the characters from a position on, up to the first ill-formed subpart.
 ghost use mathlib.Core.Path.{_≡_};
 ghost use mathlib.Core.Bool.{_&&_};
-ghost use Prim.Native.Nat.{_+_, _%_, _≤_, _<_, max};
+ghost use Prim.Native.Nat.{_+_, _%_, _≤_, _<_, min, max};
 ghost use lib.Dec.{eqb};
 ghost use lib.ListN.{length, take, drop};
 ghost use Rattle.core.specs.Text.{every, ascii, plain, asciiSeen, isPlain};
@@ -119,7 +119,8 @@ fn plain_block(s: &[u8], at: usize, state: u64) -> bool
     }
 }
 
-// The end of the text where the automaton comes to it between two characters, or `good`.
+// The end of the text where the automaton comes to it between two characters, or `good`. Which of the two is left open: from either it is as far
+// to the first ill-formed subpart.
 fn last_block(
     s: &[u8],
     good: usize,
@@ -139,7 +140,8 @@ fn last_block(
     good
 }
 
-// Whole characters, 32 bytes at a time, as far as that goes. `good` is the last end of a block that stands between two characters.
+// Whole characters, 32 bytes at a time, as far as that goes. `good` is the last end of a block that stands between two characters. How far it goes
+// is left open: the caller walks on from there, byte by byte.
 fn blocks(s: &[u8], from: usize, classes: &[u8; 256], rows: &[u64; 16]) -> usize
     requires { ⌜ (from ≤ length (now s)) × Classes (now classes) × Rows (now rows) ⌝ }
     ensures { λ r. ⌜ (from ≤ r) × (r ≤ length (now (s .entry))) × (r + sound (drop r (now (s .entry))) ≡ from + sound (drop from (now (s .entry)))) ⌝ }
@@ -217,7 +219,7 @@ fn far_run(s: &[u8], from: usize, classes: &[u8; 256], rows: &[u64; 16]) -> Run
 // A place eight bytes on, or the end.
 fn near(from: usize, size: usize) -> usize
     requires { ⌜ from ≤ size ⌝ }
-    ensures { λ r. ⌜ (from ≤ r) × (r ≤ size) ⌝ }
+    ensures { λ r. ⌜ r ≡ min (from + 8) size ⌝ }
 {
     if size - from < 8 { size } else { from + 8 }
 }

@@ -59,7 +59,7 @@ first-zero-requires : tie.Need-first-zero-requires
 first-zero-requires c κs = search needs
 
 returns-2 : tie.Need-returns-2
-returns-2 c = cut _ _ _ _ (c .before .before .before .if1 .left) (c .before .before .if2 .taken) (c .first-zero .ensures)
+returns-2 c = cut _ _ _ _ (omega arith) (omega arith) (c .first-zero .ensures)
 
 returns-3 : tie.Need-returns-3
 returns-3 c = past _ _ _ (omega arith)
