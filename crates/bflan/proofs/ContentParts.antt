@@ -1,13 +1,13 @@
--- A content by its thirty-two bytes: where it stops if they are not all there, and what follows if they are.
+-- A content by its thirty-two bytes: the reads of its head, and what follows it.
 -- Assumes nothing.
 use Prim.Native.Nat.{ℕ, min, _+_, _-_, _<_, _≤_}
 use mathlib.Core.Path.{_≡_, refl, ap, sym, _∙_}
 use mathlib.Core.Bool.{Bool, true, false}
 use mathlib.Core.List.{List, [], _∷_}
 use native.Mathlib.Omega.{arith}
-use borrow.Author.Tests.{leb-true, leb-false, eqb-true, eqb-false, le-leb, lt-leb, eq-eqb, ne-eqb, lt-ltb, le-ltb}
+use borrow.Author.Tests.{leb-true, leb-false, eqb-true, eqb-false, le-leb, lt-leb, eq-eqb, ne-eqb}
 use lib.Dec.{leb, eqb}
-use lib.ListN.{length, set, take, drop, length-set, length-take, length-drop}
+use lib.ListN.{length, getD, set, take, drop, length-set, length-take, length-drop}
 use lib.Seq.{sets, length-sets}
 use Rattle.core.specs.Number.{get}
 use Rattle.core.specs.Seek.{seekOf}
@@ -15,16 +15,18 @@ use Rattle.core.specs.Text.{beforeZero, fixedOf}
 use Rattle.core.specs.Run.{numbersAt, numbersOf}
 use Rattle.core.specs.declared.run.Run.the-variants.{Next, Cut}
 use Rattle.core.specs.declared.seek.Sought.the-variants.{At, Past as SoughtPast}
+use Rattle.core.specs.declared.text.TextAt.the-variants.{Text, Past as TextPast, Unended}
 use Rattle.core.proofs.Seeks.{seek-there, seek-over}
 use Rattle.core.proofs.Zeros.{before-le}
 use Rattle.bflan.specs.declared.fault.Fault.{Fault}
-use Rattle.bflan.specs.declared.fault.Fault.the-variants.{PastEnd}
+use Rattle.bflan.specs.declared.fault.Fault.the-variants.{PastEnd, NoZero}
 use Rattle.bflan.specs.declared.tally.Tally.{Tally}
 use Rattle.bflan.specs.Reader.{Res, ok, stop, andThen, _>>=_, ret, Item, word, text, fixedText, numbers, visit}
 use Rattle.bflan.specs.Reading.{info, typeOf, infoTable, content}
 use Rattle.bflan.specs.Walk.{shownAt, moved, named, run}
 use Rattle.bflan.proofs.Emits.{sought-on, sought-past, sought-there, sought-over, run-put2, run-named}
 use Rattle.bflan.proofs.KeyRuns.{num-there, num-to, num-short, numbers-run}
+use Rattle.bflan.proofs.Rows.{rowThen, Row}
 use Rattle.bflan.proofs.Walks.{before, before-before, put-before}
 
 -- ---- the name
@@ -38,11 +40,11 @@ field-size s base h = rw (length-take, length-drop)
 
 pub name-there : (s : List ℕ) (base : ℕ) → base < length s → fixedText 28 s base ≡ ok (text base (nameSize s base)) (base + min 28 (length s - base))
 unfolding fixedText fixedOf
-name-there s base h = rw (lt-ltb base (length s) h) (ap (λ (n : ℕ). ok (text base (nameSize s base)) (base + n)) (field-size s base (omega arith)))
+name-there s base h = rw (le-leb (base + 1) (length s) (omega arith)) (ap (λ (n : ℕ). ok (text base (nameSize s base)) (base + n)) (field-size s base (omega arith)))
 
 pub name-none : (s : List ℕ) (base : ℕ) → length s ≤ base → fixedText 28 s base ≡ stop (PastEnd base 28)
 unfolding fixedText fixedOf
-name-none s base h = rw (le-ltb base (length s) h)
+name-none s base h = rw (lt-leb (base + 1) (length s) (omega arith))
 
 pub name-within : (s : List ℕ) (base : ℕ) → base + 28 ≤ length s → base + nameSize s base ≤ length s
 name-within s base h =
@@ -53,35 +55,35 @@ name-within s base h =
 pub name-part : (s : List ℕ) (base r : ℕ) → r ≡ beforeZero (take (base + 28 - base) (drop base s)) → r ≡ nameSize s base
 name-part s base r e = let m : base + 28 - base ≡ 28 = omega arith in rw m at e
 
+-- what is read behind the numbers of a content's head
+abbrev pub contentAfter : ℕ → Item → List ℕ → List ℕ → ℕ → Res (List Item)
+contentAfter base name vs =
+    _>>=_ (infoTable base (getD vs 1 0))
+    (λ at. _>>=_ (numbers (getD vs 0 0)) (λ offsets. _>>=_ (visit base info offsets) (λ is. ret (name ∷ word (typeOf (getD vs 1 0)) ∷ word (getD vs 0 0) ∷ is))))
+
 module _ (base : ℕ) (s : List ℕ) (i : ℕ) where
   whole-name : base + 28 ≤ length s → fixedText 28 s base ≡ ok (text base (nameSize s base)) (base + 28)
   whole-name h = let e : base + min 28 (length s - base) ≡ base + 28 = omega arith in name-there s base (omega arith) ∙ ap (λ (n : ℕ). ok (text base (nameSize s base)) n) e
 
-  -- ---- short of the thirty-two bytes
+  -- ---- the reads of its head, by core's answers
 
-  pub content-short0 : length s < base → content base s i ≡ stop (PastEnd (length s) (base - length s))
+  pub content-past : (o k : ℕ) → seekOf s base ≡ SoughtPast o k → content base s i ≡ stop (PastEnd o k)
   unfolding content
-  content-short0 h = rw (sought-over s base i h)
+  content-past o k e = rw (sought-past s base i o k e)
 
-  pub content-none : length s ≡ base → content base s i ≡ stop (PastEnd base 28)
-  unfolding content
-  content-none h = let k : base ≤ length s = omega arith in let l : length s ≤ base = omega arith in rw (sought-there s base i k, name-none s base l)
+  module _ {p : ℕ} (e : seekOf s base ≡ At p) where
+    pub content-none : (o k : ℕ) → fixedOf 28 s p ≡ TextPast o k → content base s i ≡ stop (PastEnd o k)
+    unfolding content fixedText
+    content-none o k f = rw (sought-on s base i p e, f)
 
-  pub content-short29 : base < length s → length s < base + 29 → content base s i ≡ stop (PastEnd (length s) 1)
-  unfolding content
-  content-short29 h k =
-      let b : base ≤ length s = omega arith in
-      let e : base + min 28 (length s - base) ≡ length s = omega arith in
-      let l : length s < length s + 1 = omega arith in
-      rw (sought-there s base i b, name-there s base h, e, num-short 1 s (length s) l)
+    pub content-unended : (a : ℕ) → fixedOf 28 s p ≡ Unended a → content base s i ≡ stop (NoZero a)
+    unfolding content fixedText
+    content-unended a f = rw (sought-on s base i p e, f)
 
-  pub content-short30 : base + 29 ≤ length s → length s < base + 30 → content base s i ≡ stop (PastEnd (base + 29) 1)
-  unfolding content
-  content-short30 h k = rw (sought-there s base i (omega arith), whole-name (omega arith), num-to 1 s (base + 28) (base + 29) (omega arith) (omega arith), num-short 1 s (base + 29) (omega arith))
-
-  pub content-short32 : base + 30 ≤ length s → length s < base + 32 → content base s i ≡ stop (PastEnd (base + 30) 2)
-  unfolding content
-  content-short32 h k = rw (sought-there s base i (omega arith), whole-name (omega arith), num-to 1 s (base + 28) (base + 29) (omega arith) (omega arith), num-to 1 s (base + 29) (base + 30) (omega arith) (omega arith), num-short 2 s (base + 30) (omega arith))
+    -- its three numbers as a row, and what is behind them
+    pub content-row : {len q : ℕ} {x : Res (List Item)} → fixedOf 28 s p ≡ Text len q → Row (1 ∷ 1 ∷ 2 ∷ []) (contentAfter base (text p len)) s q x → content base s i ≡ x
+    unfolding content fixedText rowThen
+    content-row f r = rw (sought-on s base i p e, f) (r .gives)
 
   -- ---- behind them
 

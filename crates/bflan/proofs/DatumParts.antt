@@ -4,7 +4,7 @@ use Prim.Native.Nat.{ℕ, zero, suc, _+_, _-_, _*_, _<_, _≤_}
 use mathlib.Core.Path.{_≡_, refl, ap, sym, _∙_}
 use mathlib.Core.List.{List, [], _∷_, _++_, map}
 use native.Mathlib.Omega.{arith}
-use lib.ListN.{length, set}
+use lib.ListN.{length, getD, set}
 use lib.Seq.{sets, length-sets}
 use Rattle.core.specs.Number.{readOf}
 use Rattle.core.specs.declared.number.Read.the-variants.{Value, Past as ReadPast}
@@ -21,37 +21,23 @@ use Rattle.bflan.specs.Reading.{texture, datum}
 use Rattle.bflan.specs.Walk.{asItems, sat, moved, run, told}
 use Rattle.bflan.proofs.Emits.{num-on, num-past}
 use Rattle.bflan.proofs.KeyRuns.{words-words, texts-words, tallied-words, moved-more}
+use Rattle.bflan.proofs.Rows.{rowThen, Row, row-bind}
 use Rattle.bflan.proofs.Walks.{before, joined, put-before, many-suc, sets-sat, run-before, turn-on, turn-no, told-ok}
 
--- ---- the head, by core's answers: refused at its first number, .., at its fifth, or read whole
+-- ---- the head: the reads of the code are a row
 
-module _ (s : List ℕ) (p : ℕ) where
-  pub head-first : (o k : ℕ) → readOf 4 s p ≡ ReadPast o k → stop (PastEnd o k) ≡ head s p
-  unfolding head
-  head-first o k f = rw (num-past 4 s p o k f)
+abbrev pub fieldsIn : List ℕ → Fields
+fieldsIn vs = record { size = getD vs 0 0; one = getD vs 1 0; two = getD vs 2 0; base = getD vs 3 0; three = getD vs 4 0 }
 
-  pub head-second : {a p1 : ℕ} (o k : ℕ) → readOf 4 s p ≡ Value a p1 → readOf 2 s p1 ≡ ReadPast o k → stop (PastEnd o k) ≡ head s p
-  unfolding head
-  head-second {a} {p1} o k e1 f = rw (num-on 4 s p a p1 e1, num-past 2 s p1 o k f)
+abbrev pub widths : List ℕ
+widths = 4 ∷ 2 ∷ 2 ∷ 4 ∷ 4 ∷ []
 
-  pub head-third : {a b p1 p2 : ℕ} (o k : ℕ) → readOf 4 s p ≡ Value a p1 → readOf 2 s p1 ≡ Value b p2 → readOf 2 s p2 ≡ ReadPast o k → stop (PastEnd o k) ≡ head s p
-  unfolding head
-  head-third {a} {b} {p1} {p2} o k e1 e2 f = rw (num-on 4 s p a p1 e1, num-on 2 s p1 b p2 e2, num-past 2 s p2 o k f)
+head-row : (s : List ℕ) (p : ℕ) → head s p ≡ rowThen widths (λ vs. ret (fieldsIn vs)) s p
+unfolding head rowThen
+head-row s p = refl
 
-  pub head-fourth : {a b c p1 p2 p3 : ℕ} (o k : ℕ) → readOf 4 s p ≡ Value a p1 → readOf 2 s p1 ≡ Value b p2 → readOf 2 s p2 ≡ Value c p3 → readOf 4 s p3 ≡ ReadPast o k
-      → stop (PastEnd o k) ≡ head s p
-  unfolding head
-  head-fourth {a} {b} {c} {p1} {p2} {p3} o k e1 e2 e3 f = rw (num-on 4 s p a p1 e1, num-on 2 s p1 b p2 e2, num-on 2 s p2 c p3 e3, num-past 4 s p3 o k f)
-
-  pub head-fifth : {a b c d p1 p2 p3 p4 : ℕ} (o k : ℕ) → readOf 4 s p ≡ Value a p1 → readOf 2 s p1 ≡ Value b p2 → readOf 2 s p2 ≡ Value c p3 → readOf 4 s p3 ≡ Value d p4
-      → readOf 4 s p4 ≡ ReadPast o k → stop (PastEnd o k) ≡ head s p
-  unfolding head
-  head-fifth {a} {b} {c} {d} {p1} {p2} {p3} {p4} o k e1 e2 e3 e4 f = rw (num-on 4 s p a p1 e1, num-on 2 s p1 b p2 e2, num-on 2 s p2 c p3 e3, num-on 4 s p3 d p4 e4, num-past 4 s p4 o k f)
-
-  pub head-whole : {a b c d e p1 p2 p3 p4 p5 : ℕ} → readOf 4 s p ≡ Value a p1 → readOf 2 s p1 ≡ Value b p2 → readOf 2 s p2 ≡ Value c p3 → readOf 4 s p3 ≡ Value d p4 → readOf 4 s p4 ≡ Value e p5
-      → ok (record { size = a; one = b; two = c; base = d; three = e }) p5 ≡ head s p
-  unfolding head
-  head-whole {a} {b} {c} {d} {e} {p1} {p2} {p3} {p4} {p5} e1 e2 e3 e4 e5 = rw (num-on 4 s p a p1 e1, num-on 2 s p1 b p2 e2, num-on 2 s p2 c p3 e3, num-on 4 s p3 d p4 e4, num-on 4 s p4 e p5 e5)
+pub head-by : (s : List ℕ) (p : ℕ) {x : Res Fields} → Row widths (λ vs. ret (fieldsIn vs)) s p x → x ≡ head s p
+head-by s p r = sym (head-row s p ∙ r .gives)
 
 -- ---- the key text, by core's answer
 
@@ -104,52 +90,32 @@ rest-is is vs s q = one (num 4 s q) refl
 rest-behind : (is : List Item) (vs : List ℕ) (s : List ℕ) (q : ℕ) → rest is vs s q ≡ before is (andThen (keyText s q) (λ key. ret (map word vs ++ key)) s)
 rest-behind is vs s q = rest-is is vs s q ∙ ap (before is) (sym (put-before (map word vs) (keyText s q) s))
 
-abbrev pub withHead : Res Fields → List ℕ → Res (List Item)
-withHead (ok h q) s = before (map word (fieldsOf h)) (behind (3 * h .base) s q)
-withHead (stop f) s = stop f
+-- the lines of `datum` behind its head
+abbrev tail : Fields → P (List Item)
+tail h = λ s i. andThen (numbers (3 * h .base) s i) (rest (map word (fieldsOf h))) s
+
+tail-is : (h : Fields) (s : List ℕ) (q : ℕ) → tail h s q ≡ before (map word (fieldsOf h)) (behind (3 * h .base) s q)
+unfolding behind
+tail-is h s q = go (numbers (3 * h .base) s q)
+  where
+    go : (r : Res (List ℕ)) → andThen r (rest (map word (fieldsOf h))) s ≡ before (map word (fieldsOf h)) (andThen r (λ vs. λ s i. andThen (keyText s i) (λ key. ret (map word vs ++ key)) s) s)
+    go (ok vs j) = rest-behind (map word (fieldsOf h)) vs s j
+    go (stop f) = refl
 
 module _ (s : List ℕ) (p : ℕ) where
-  six : (a b c d e p1 p2 p3 p4 p5 : ℕ) → num 4 s p ≡ ok a p1 → num 2 s p1 ≡ ok b p2 → num 2 s p2 ≡ ok c p3 → num 4 s p3 ≡ ok d p4 → num 4 s p4 ≡ ok e p5
-      → (r : Res (List ℕ)) → numbers (3 * d) s p5 ≡ r → datum s p ≡ withHead (head s p) s
-  unfolding datum head behind
-  six a b c d e p1 p2 p3 p4 p5 e1 e2 e3 e4 e5 (ok vs q) e6 = rw (e1, e2, e3, e4, e5, e6) (rest-behind (word a ∷ word b ∷ word c ∷ word d ∷ word e ∷ []) vs s q)
-  six a b c d e p1 p2 p3 p4 p5 e1 e2 e3 e4 e5 (stop f) e6 = rw (e1, e2, e3, e4, e5, e6)
+  datum-row : datum s p ≡ rowThen widths (λ vs. tail (fieldsIn vs)) s p
+  unfolding datum rowThen
+  datum-row = refl
 
-  five : (a b c d p1 p2 p3 p4 : ℕ) → num 4 s p ≡ ok a p1 → num 2 s p1 ≡ ok b p2 → num 2 s p2 ≡ ok c p3 → num 4 s p3 ≡ ok d p4
-      → (r : Res ℕ) → num 4 s p4 ≡ r → datum s p ≡ withHead (head s p) s
-  unfolding datum head
-  five a b c d p1 p2 p3 p4 e1 e2 e3 e4 (ok e p5) e5 = six a b c d e p1 p2 p3 p4 p5 e1 e2 e3 e4 e5 (numbers (3 * d) s p5) refl
-  five a b c d p1 p2 p3 p4 e1 e2 e3 e4 (stop f) e5 = rw (e1, e2, e3, e4, e5)
-
-  four : (a b c p1 p2 p3 : ℕ) → num 4 s p ≡ ok a p1 → num 2 s p1 ≡ ok b p2 → num 2 s p2 ≡ ok c p3 → (r : Res ℕ) → num 4 s p3 ≡ r → datum s p ≡ withHead (head s p) s
-  unfolding datum head
-  four a b c p1 p2 p3 e1 e2 e3 (ok d p4) e4 = five a b c d p1 p2 p3 p4 e1 e2 e3 e4 (num 4 s p4) refl
-  four a b c p1 p2 p3 e1 e2 e3 (stop f) e4 = rw (e1, e2, e3, e4)
-
-  three : (a b p1 p2 : ℕ) → num 4 s p ≡ ok a p1 → num 2 s p1 ≡ ok b p2 → (r : Res ℕ) → num 2 s p2 ≡ r → datum s p ≡ withHead (head s p) s
-  unfolding datum head
-  three a b p1 p2 e1 e2 (ok c p3) e3 = four a b c p1 p2 p3 e1 e2 e3 (num 4 s p3) refl
-  three a b p1 p2 e1 e2 (stop f) e3 = rw (e1, e2, e3)
-
-  two : (a p1 : ℕ) → num 4 s p ≡ ok a p1 → (r : Res ℕ) → num 2 s p1 ≡ r → datum s p ≡ withHead (head s p) s
-  unfolding datum head
-  two a p1 e1 (ok b p2) e2 = three a b p1 p2 e1 e2 (num 2 s p2) refl
-  two a p1 e1 (stop f) e2 = rw (e1, e2)
-
-  one : (r : Res ℕ) → num 4 s p ≡ r → datum s p ≡ withHead (head s p) s
-  unfolding datum head
-  one (ok a p1) e1 = two a p1 e1 (num 2 s p1) refl
-  one (stop f) e1 = rw e1
-
-  pub datum-is : datum s p ≡ withHead (head s p) s
-  datum-is = one (num 4 s p) refl
+  datum-head : datum s p ≡ andThen (head s p) tail s
+  datum-head = datum-row ∙ sym (row-bind widths (λ vs. ret (fieldsIn vs)) tail s p) ∙ ap (λ (r : Res Fields). andThen r tail s) (sym (head-row s p))
 
   -- the same for the arms over a head
   pub datum-on : (h : Fields) (q : ℕ) → ok h q ≡ head s p → datum s p ≡ before (map word (fieldsOf h)) (behind (3 * h .base) s q)
-  datum-on h q e = datum-is ∙ ap (λ (r : Res Fields). withHead r s) (sym e)
+  datum-on h q e = datum-head ∙ ap (λ (r : Res Fields). andThen r tail s) (sym e) ∙ tail-is h s q
 
   pub datum-no : (f : Fault) → stop f ≡ head s p → datum s p ≡ stop f
-  datum-no f e = datum-is ∙ ap (λ (r : Res Fields). withHead r s) (sym e)
+  datum-no f e = datum-head ∙ ap (λ (r : Res Fields). andThen r tail s) (sym e)
 
 -- ---- the head's words
 

@@ -1,13 +1,15 @@
--- An info by its eight bytes: where it stops if they are not all there, and what follows if they are.
+-- An info by its eight bytes: the reads of its head, and what follows it.
 -- Assumes nothing.
-use Prim.Native.Nat.{ℕ, _+_, _-_, _<_, _≤_}
+use Prim.Native.Nat.{ℕ, _+_, _≤_}
 use mathlib.Core.Path.{_≡_, ap, sym, _∙_}
 use mathlib.Core.List.{List, [], _∷_}
 use native.Mathlib.Omega.{arith}
 use borrow.Author.Tests.{eq-eqb, ne-eqb}
 use lib.Dec.{eqb}
-use lib.ListN.{length}
+use lib.ListN.{length, getD}
 use Rattle.core.specs.Number.{get}
+use Rattle.core.specs.Seek.{seekOf}
+use Rattle.core.specs.declared.seek.Sought.the-variants.{At, Past as SoughtPast}
 use Rattle.core.specs.Run.{numbersAt}
 use Rattle.core.specs.declared.run.Run.the-variants.{Next, Cut}
 use Rattle.core.specs.Run.{numbersOf}
@@ -15,30 +17,27 @@ use Rattle.bflan.specs.declared.fault.Fault.the-variants.{PastEnd}
 use Rattle.bflan.specs.Letters.{fleu, lettersOf}
 use Rattle.bflan.specs.Reader.{Res, ok, stop, _>>=_, ret, given, Item, word, numbers, many, visit}
 use Rattle.bflan.specs.Reading.{target, datum, info}
-use Rattle.bflan.proofs.Emits.{sought-there, sought-over}
-use Rattle.bflan.proofs.KeyRuns.{num-to, num-short, numbers-run}
+use Rattle.bflan.proofs.Emits.{sought-on, sought-past, sought-there}
+use Rattle.bflan.proofs.KeyRuns.{num-to, numbers-run}
+use Rattle.bflan.proofs.Rows.{rowThen, Row}
 use Rattle.bflan.proofs.Walks.{before, put-before}
 
+-- what is read behind the numbers of an info's head
+abbrev pub infoAfter : ℕ → List ℕ → List ℕ → ℕ → Res (List Item)
+infoAfter base vs =
+    given (eqb (getD vs 0 0) fleu)
+    (_>>=_ (many (getD vs 1 0) datum) (λ ds. ret (word fleu ∷ word (getD vs 1 0) ∷ ds)))
+    (_>>=_ (numbers (getD vs 1 0)) (λ offsets. _>>=_ (visit base (target (getD vs 0 0)) offsets) (λ ts. ret (word (lettersOf (getD vs 0 0)) ∷ word (getD vs 1 0) ∷ ts))))
+
 module _ (base : ℕ) (s : List ℕ) (i : ℕ) where
-  pub info-short0 : length s < base → info base s i ≡ stop (PastEnd (length s) (base - length s))
+  pub info-past : (o k : ℕ) → seekOf s base ≡ SoughtPast o k → info base s i ≡ stop (PastEnd o k)
   unfolding info
-  info-short0 h = rw (sought-over s base i h)
+  info-past o k e = rw (sought-past s base i o k e)
 
-  pub info-short4 : base ≤ length s → length s < base + 4 → info base s i ≡ stop (PastEnd base 4)
-  unfolding info
-  info-short4 h k = rw (sought-there s base i h, num-short 4 s base k)
-
-  pub info-short5 : base + 4 ≤ length s → length s < base + 5 → info base s i ≡ stop (PastEnd (base + 4) 1)
-  unfolding info
-  info-short5 h k = rw (sought-there s base i (omega arith), num-to 4 s base (base + 4) (omega arith) (omega arith), num-short 1 s (base + 4) (omega arith))
-
-  pub info-short6 : base + 5 ≤ length s → length s < base + 6 → info base s i ≡ stop (PastEnd (base + 5) 1)
-  unfolding info
-  info-short6 h k = rw (sought-there s base i (omega arith), num-to 4 s base (base + 4) (omega arith) (omega arith), num-to 1 s (base + 4) (base + 5) (omega arith) (omega arith), num-short 1 s (base + 5) (omega arith))
-
-  pub info-short8 : base + 6 ≤ length s → length s < base + 8 → info base s i ≡ stop (PastEnd (base + 6) 2)
-  unfolding info
-  info-short8 h k = rw (sought-there s base i (omega arith), num-to 4 s base (base + 4) (omega arith) (omega arith), num-to 1 s (base + 4) (base + 5) (omega arith) (omega arith), num-to 1 s (base + 5) (base + 6) (omega arith) (omega arith), num-short 2 s (base + 6) (omega arith))
+  -- its numbers as a row, and what is behind them
+  pub info-row : {p : ℕ} {x : Res (List Item)} → seekOf s base ≡ At p → Row (4 ∷ 1 ∷ 1 ∷ 2 ∷ []) (infoAfter base) s p x → info base s i ≡ x
+  unfolding info rowThen
+  info-row {p} e r = rw (sought-on s base i p e) (r .gives)
 
   -- what follows the head, by its letters and its count
   abbrev pub infoRest : ℕ → ℕ → Res (List Item)

@@ -23,6 +23,7 @@ pub mod ReadTree
 pub mod Replacing
 pub mod Rewriting
 pub mod RoundTrip
+pub mod Rows
 pub mod SectionParts
 pub mod StoredParts
 pub mod Storing

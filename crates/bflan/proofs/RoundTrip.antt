@@ -34,7 +34,7 @@ use Rattle.bflan.proofs.Codes.{fits-lt, fits-own, fit-lt, letters-own}
 use Rattle.bflan.proofs.ContentParts.{nameSize, contentRest, content-there, rest-at}
 use Rattle.bflan.proofs.Emits.{sought-there, ended-on, shown-part}
 use Rattle.bflan.proofs.KeyRuns.{asNumbers, numbers-run}
-use Rattle.bflan.proofs.SectionParts.{endAt, headWords, section-body, body-there, contents-on}
+use Rattle.bflan.proofs.SectionParts.{endAt, headItems, section-body, body-there, contents-on}
 use Rattle.bflan.proofs.Layouts.{Stands, stands-left, stands-right, stands-to, stands-all, stands-num, stands-get, size-table, size-written, offsets, table-reads, user-size, section-sizes, section-size}
 use Rattle.bflan.proofs.ReadBack.{shownIn, Reads, reads-as, reads-none, reads-before, reads-joined, ReadsPart, ReadsAt, many-reads, visit-reads, key-reads, shown-words, words-shown, texts-shown}
 use Rattle.bflan.proofs.TargetParts.{curve-low, count-low}
@@ -349,7 +349,7 @@ section-reads s r w h short =
     reads-joined (λ j. joined (contents (get 4 s 16) (get 2 s 14) s j) (λ k. endAt (seekTo size4 s k))) (reads-as (sym tex) refl refl (tv .here))
     (reads-joined (λ k. endAt (seekTo size4 s k)) (reads-as (sym (cont (tv .next))) refl refl (cv .here)) (last (cv .next))) in
     let nx : numbersOf (get 2 s 12) s 20 ≡ Next (20 + 4 * nt) = ap (λ (n : ℕ). numbersOf n s 20) et ∙ to .next in
-    reads-as (sym (section-body s b8 el ∙ body-there s size4 b20 (20 + 4 * nt) nx)) (rw (ef, lo, et, ec, append-nil)) (sym (section-size r)) (reads-before (headWords s size4) tail)
+    reads-as (sym (section-body s b8 el ∙ body-there s size4 b20 (20 + 4 * nt) nx)) (rw (ef, lo, et, ec, append-nil)) (sym (section-size r)) (reads-before (headItems s size4) tail)
 
 -- the record that was written, read again: its words, its texts, and the end
 pub record ReadsBack (s : List ℕ) (r : PaneAnimInfo) : Type 0 where

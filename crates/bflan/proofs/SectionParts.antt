@@ -1,32 +1,33 @@
--- A section by its twenty bytes: where it stops if they are not all there, and what follows if they are.
+-- A section by its header, its head and what is behind them.
 -- Assumes nothing.
 use Prim.Native.Nat.{ℕ, _+_, _-_, _<_, _≤_}
 use mathlib.Core.Path.{_≡_, refl, ap, sym, _∙_}
-use mathlib.Core.List.{List, [], _∷_, _++_, append-nil}
+use mathlib.Core.List.{List, [], _∷_, _++_, append-nil, map}
 use native.Mathlib.Omega.{arith}
 use borrow.Author.Tests.{eq-eqb, ne-eqb}
 use lib.Dec.{eqb}
-use lib.ListN.{length}
+use lib.ListN.{length, getD}
 use lib.Seq.{sets}
-use Rattle.core.specs.Number.{get, readOf}
+use Rattle.core.specs.Number.{get}
 use Rattle.core.specs.Run.{numbersAt, numbersOf}
 use Rattle.core.specs.Seek.{seekOf}
-use Rattle.core.specs.declared.number.Read.the-variants.{Value, Past as ReadPast}
 use Rattle.core.specs.declared.run.Run.the-variants.{Next, Cut}
 use Rattle.core.specs.declared.seek.Sought.the-variants.{At, Past as SoughtPast}
-use Rattle.core.proofs.Numbers.{read-value}
 use Rattle.bflan.specs.declared.fault.Fault.{Fault}
 use Rattle.bflan.specs.declared.fault.Fault.the-variants.{PastEnd, NotPai1}
+use Rattle.bflan.specs.declared.section.SectionHead.{SectionHead}
 use Rattle.bflan.specs.declared.section.SectionHeader.{SectionHeader}
 use Rattle.bflan.specs.declared.tally.Tally.{Tally}
 use Rattle.bflan.specs.declared.tally.Walk.{Walk}
 use Rattle.bflan.specs.declared.tally.Walk.the-variants.{On, No}
-use Rattle.bflan.specs.Reader.{Res, ok, stop, andThen, given, fail, Item, word, num, seekTo, numbers, visit}
+use Rattle.bflan.specs.Reader.{Res, ok, stop, andThen, ret, given, fail, Item, word, seekTo, numbers, visit}
 use Rattle.bflan.specs.Reading.{content, texture, contents, pai1, flagOf, body, section}
-use Rattle.bflan.specs.SectionParts.{header, ending, parts}
+use Rattle.bflan.specs.SectionParts.{header, head, headWords, behind, ending, parts}
 use Rattle.bflan.specs.Walk.{moved, run, told}
-use Rattle.bflan.proofs.Emits.{num-on, num-past, sought-on, sought-past, four-stores}
-use Rattle.bflan.proofs.KeyRuns.{num-there, num-short, numbers-run}
+use Rattle.bflan.specs.Places.{total}
+use Rattle.bflan.proofs.Emits.{sought-on, sought-past, four-stores}
+use Rattle.bflan.proofs.KeyRuns.{num-there, numbers-run}
+use Rattle.bflan.proofs.Rows.{rowThen, Row, row-bind, row-ends}
 use Rattle.bflan.proofs.TargetParts.{run-words}
 use Rattle.bflan.proofs.Walks.{before, joined, put-before, turn-on, turn-no, told-stop, told-ok}
 
@@ -63,51 +64,18 @@ module _ (s : List ℕ) where
   -- ---- the next twelve
 
   module _ (size : ℕ) where
-    pub body-short10 : length s < 10 → body size s 8 ≡ stop (PastEnd 8 2)
-    unfolding body
-    body-short10 h = rw (num-short 2 s 8 h)
-
-    pub body-short11 : 10 ≤ length s → length s < 11 → body size s 8 ≡ stop (PastEnd 10 1)
-    unfolding body
-    body-short11 h k = rw (num-there 2 s 8 h, num-short 1 s 10 k)
-
-    pub body-short12 : 11 ≤ length s → length s < 12 → body size s 8 ≡ stop (PastEnd 11 1)
-    unfolding body
-    body-short12 h k = rw (num-there 2 s 8 (omega arith), num-there 1 s 10 h, num-short 1 s 11 k)
-
-    pub body-short14 : 12 ≤ length s → length s < 14 → body size s 8 ≡ stop (PastEnd 12 2)
-    unfolding body
-    body-short14 h k =
-        rw (num-there 2 s 8 (omega arith), num-there 1 s 10 (omega arith), num-there 1 s 11 h, num-short 2 s 12 k)
-
-    pub body-short16 : 14 ≤ length s → length s < 16 → body size s 8 ≡ stop (PastEnd 14 2)
-    unfolding body
-    body-short16 h k =
-        rw (num-there 2 s 8 (omega arith), num-there 1 s 10 (omega arith), num-there 1 s 11 (omega arith), num-there 2 s 12 h, num-short 2 s 14 k)
-
-    pub body-short20 : 16 ≤ length s → length s < 20 → body size s 8 ≡ stop (PastEnd 16 4)
-    unfolding body
-    body-short20 h k =
-        rw (num-there 2 s 8 (omega arith), num-there 1 s 10 (omega arith), num-there 1 s 11 (omega arith), num-there 2 s 12 (omega arith), num-there 2 s 14 h, num-short 4 s 16 k)
-
-    -- the four words of the head
-    abbrev pub headWords : List Item
-    headWords = word (get 2 s 8) ∷ word (flagOf (get 1 s 10)) ∷ word (get 2 s 12) ∷ word (get 2 s 14) ∷ []
+    -- the four words of the head that the bytes are
+    abbrev pub headItems : List Item
+    headItems = word (get 2 s 8) ∷ word (flagOf (get 1 s 10)) ∷ word (get 2 s 12) ∷ word (get 2 s 14) ∷ []
 
     module _ (h : 20 ≤ length s) where
-      pub body-cut : (o k : ℕ) → numbersOf (get 2 s 12) s 20 ≡ Cut o k → body size s 8 ≡ stop (PastEnd o k)
-      unfolding body
-      body-cut o k t =
-          let r : numbers (get 2 s 12) s 20 ≡ stop (PastEnd o k) = numbers-run (get 2 s 12) s 20 ∙ rw t in
-          rw (num-there 2 s 8 (omega arith), num-there 1 s 10 (omega arith), num-there 1 s 11 (omega arith), num-there 2 s 12 (omega arith), num-there 2 s 14 (omega arith), num-there 4 s 16 h, r)
-
       pub body-there : (q : ℕ) → numbersOf (get 2 s 12) s 20 ≡ Next q
-          → body size s 8 ≡ before headWords (joined (visit 20 texture (numbersAt (get 2 s 12) s 20) s q) (λ j. joined (contents (get 4 s 16) (get 2 s 14) s j) (λ k. endAt (seekTo size s k))))
+          → body size s 8 ≡ before headItems (joined (visit 20 texture (numbersAt (get 2 s 12) s 20) s q) (λ j. joined (contents (get 4 s 16) (get 2 s 14) s j) (λ k. endAt (seekTo size s k))))
       unfolding body
       body-there q t =
           let r : numbers (get 2 s 12) s 20 ≡ ok (numbersAt (get 2 s 12) s 20) q = numbers-run (get 2 s 12) s 20 ∙ rw t in
           rw (num-there 2 s 8 (omega arith), num-there 1 s 10 (omega arith), num-there 1 s 11 (omega arith), num-there 2 s 12 (omega arith), num-there 2 s 14 (omega arith), num-there 4 s 16 h, r)
-          (chain headWords s size (get 4 s 16) (get 2 s 14) (visit 20 texture (numbersAt (get 2 s 12) s 20) s q))
+          (chain headItems s size (get 4 s 16) (get 2 s 14) (visit 20 texture (numbersAt (get 2 s 12) s 20) s q))
 
 -- ---- the contents
 
@@ -155,79 +123,120 @@ module _ (s : List ℕ) (size table n : ℕ) where
   chained (stop f) = refl
   chained (ok ts j) = ap (before ts) (sym (ending-is j))
 
--- what is behind the section's first eight bytes, as the code has it
-pub body-parts : (s : List ℕ) (size : ℕ) → 20 ≤ length s → {nt table nc q : ℕ} → nt ≡ get 2 s 12 → table ≡ get 4 s 16 → nc ≡ get 2 s 14 → numbersOf nt s 20 ≡ Next q
-    → body size s 8 ≡ before (headWords s size) (parts size (numbersAt nt s 20) table nc s q)
-body-parts s size h {nt} {table} {nc} {q} et ea ec e =
-    let d : numbersOf (get 2 s 12) s 20 ≡ Next q = rw et at e in
-    let ts = visit 20 texture (numbersAt (get 2 s 12) s 20) s q in
-    rw (et, ea, ec)
-    (body-there s size h q d
-    ∙ ap (before (headWords s size)) (chained s size (get 4 s 16) (get 2 s 14) ts ∙ sym (parts-is s size (get 4 s 16) (get 2 s 14) (numbersAt (get 2 s 12) s 20) q)))
+-- ---- the head, and what is behind it
 
--- ---- the header, by core's answers: refused at its letters, at its size, or read whole
+abbrev pub headOf : List ℕ → SectionHead
+headOf vs = record { frames = getD vs 0 0; looping = getD vs 1 0; textures = getD vs 3 0; contents = getD vs 4 0; table = getD vs 5 0 }
+
+abbrev pub widths : List ℕ
+widths = 2 ∷ 1 ∷ 1 ∷ 2 ∷ 2 ∷ 4 ∷ []
 
 module _ (s : List ℕ) where
-  pub header-letters : (o k : ℕ) → readOf 4 s 0 ≡ ReadPast o k → stop (PastEnd o k) ≡ header s 0
-  unfolding header
-  header-letters o k f = rw (num-past 4 s 0 o k f)
+  -- the reads of the code, as a row, are the head
+  head-row : head s 8 ≡ rowThen widths (λ vs. ret (headOf vs)) s 8
+  unfolding head rowThen
+  head-row = refl
 
-  pub header-size : {a p : ℕ} (o k : ℕ) → readOf 4 s 0 ≡ Value a p → readOf 4 s p ≡ ReadPast o k → stop (PastEnd o k) ≡ header s 0
-  unfolding header
-  header-size {a} {p} o k e f = rw (num-on 4 s 0 a p e, num-past 4 s p o k f)
+  head-ends : (h : SectionHead) (q : ℕ) → rowThen widths (λ vs. ret (headOf vs)) s 8 ≡ ok h q → (q ≡ 20) × (q ≤ length s)
+  unfolding total
+  head-ends h q e = row-ends s 2 (1 ∷ 1 ∷ 2 ∷ 2 ∷ 4 ∷ []) headOf 8 h q e
 
-  pub header-whole : {a b p q : ℕ} → readOf 4 s 0 ≡ Value a p → readOf 4 s p ≡ Value b q → ok (record { magic = a; size = b }) 8 ≡ header s 0
-  unfolding header
-  header-whole {a} {b} {p} {q} e f =
-      let n : q ≡ 8 = read-value 4 s p b q f .next ∙ ap (λ (i : ℕ). i + 4) (read-value 4 s 0 a p e .next) in
-      rw (num-on 4 s 0 a p e, num-on 4 s p b q f, n)
+  pub head-stop : (f : Fault) → Row widths (λ vs. ret (headOf vs)) s 8 (stop f) → stop f ≡ head s 8
+  head-stop f r = sym (head-row ∙ r .gives)
+
+  pub head-whole : (h : SectionHead) (q : ℕ) → Row widths (λ vs. ret (headOf vs)) s 8 (ok h q) → ok h 20 ≡ head s 8
+  head-whole h q r = sym (head-row ∙ r .gives ∙ ap (ok h) (head-ends h q (r .gives) .0))
+
+  pub head-fits : (h : SectionHead) → ok h 20 ≡ head s 8 → 20 ≤ length s
+  head-fits h e = head-ends h 20 (sym head-row ∙ sym e) .1
+
+  module _ (size : ℕ) where
+    body-row : body size s 8 ≡ rowThen widths (λ vs. behind size (headOf vs)) s 8
+    unfolding body behind rowThen
+    body-row = refl
+
+    body-head : body size s 8 ≡ andThen (head s 8) (behind size) s
+    body-head = body-row ∙ sym (row-bind widths (λ vs. ret (headOf vs)) (behind size) s 8) ∙ ap (λ (r : Res SectionHead). andThen r (behind size) s) (sym head-row)
+
+    pub body-stop : (f : Fault) → stop f ≡ head s 8 → body size s 8 ≡ stop f
+    body-stop f e = body-head ∙ ap (λ (r : Res SectionHead). andThen r (behind size) s) (sym e)
+
+    pub body-on : (h : SectionHead) → ok h 20 ≡ head s 8 → body size s 8 ≡ behind size h s 20
+    body-on h e = body-head ∙ ap (λ (r : Res SectionHead). andThen r (behind size) s) (sym e)
+
+    module _ (h : SectionHead) where
+      pub behind-cut : (o k : ℕ) → numbersOf (h .textures) s 20 ≡ Cut o k → behind size h s 20 ≡ stop (PastEnd o k)
+      unfolding behind
+      behind-cut o k t =
+          let r : numbers (h .textures) s 20 ≡ stop (PastEnd o k) = numbers-run (h .textures) s 20 ∙ rw t in
+          rw r
+
+      pub behind-parts : (q : ℕ) → numbersOf (h .textures) s 20 ≡ Next q
+          → behind size h s 20 ≡ before (map word (headWords h)) (parts size (numbersAt (h .textures) s 20) (h .table) (h .contents) s q)
+      unfolding behind
+      behind-parts q t =
+          let os = numbersAt (h .textures) s 20 in
+          let r : numbers (h .textures) s 20 ≡ ok os q = numbers-run (h .textures) s 20 ∙ rw t in
+          rw r
+          (chain (map word (headWords h)) s size (h .table) (h .contents) (visit 20 texture os s q)
+          ∙ ap (before (map word (headWords h))) (chained s size (h .table) (h .contents) (visit 20 texture os s q) ∙ sym (parts-is s size (h .table) (h .contents) os q)))
+
+-- ---- the header, and what is behind it
+
+abbrev pub headerOf : List ℕ → SectionHeader
+headerOf vs = record { magic = getD vs 0 0; size = getD vs 1 0 }
+
+module _ (s : List ℕ) where
+  header-row : header s 0 ≡ rowThen (4 ∷ 4 ∷ []) (λ vs. ret (headerOf vs)) s 0
+  unfolding header rowThen
+  header-row = refl
+
+  header-ends : (h : SectionHeader) (q : ℕ) → rowThen (4 ∷ 4 ∷ []) (λ vs. ret (headerOf vs)) s 0 ≡ ok h q → q ≡ 8
+  unfolding total
+  header-ends h q e = row-ends s 4 (4 ∷ []) headerOf 0 h q e .0
+
+  pub header-stop : (f : Fault) → Row (4 ∷ 4 ∷ []) (λ vs. ret (headerOf vs)) s 0 (stop f) → stop f ≡ header s 0
+  header-stop f r = sym (header-row ∙ r .gives)
+
+  pub header-whole : (h : SectionHeader) (q : ℕ) → Row (4 ∷ 4 ∷ []) (λ vs. ret (headerOf vs)) s 0 (ok h q) → ok h 8 ≡ header s 0
+  header-whole h q r = sym (header-row ∙ r .gives ∙ ap (ok h) (header-ends h q (r .gives)))
 
   -- a section by its header
-  behind : SectionHeader → List ℕ → ℕ → Res (List Item)
-  behind h = given (eqb (h .magic) pai1) (body (h .size)) (fail (NotPai1 (h .magic)))
+  behindHeader : SectionHeader → List ℕ → ℕ → Res (List Item)
+  behindHeader h = given (eqb (h .magic) pai1) (body (h .size)) (fail (NotPai1 (h .magic)))
 
-  section-header : section s 0 ≡ andThen (header s 0) behind s
-  unfolding section header behind
-  section-header = go (num 4 s 0)
-    where
-      go : (r : Res ℕ)
-          → andThen r (λ (a : ℕ) (s₁ : List ℕ) (i : ℕ). andThen (num 4 s₁ i) (λ (b : ℕ). given (eqb a pai1) (body b) (fail (NotPai1 a))) s₁) s
-          ≡ andThen (andThen r (λ (a : ℕ) (s₁ : List ℕ) (i : ℕ). andThen (num 4 s₁ i) (λ (b : ℕ) (s₂ : List ℕ) (j : ℕ). ok (record { magic = a; size = b }) j) s₁) s) behind s
-      go (stop f) = refl
-      go (ok a i) = inner (num 4 s i)
-        where
-          inner : (r : Res ℕ) → andThen r (λ (b : ℕ). given (eqb a pai1) (body b) (fail (NotPai1 a))) s ≡ andThen (andThen r (λ (b : ℕ) (s₂ : List ℕ) (j : ℕ). ok (record { magic = a; size = b }) j) s) behind s
-          inner (stop f) = refl
-          inner (ok b j) = refl
+  section-row : section s 0 ≡ rowThen (4 ∷ 4 ∷ []) (λ vs. behindHeader (headerOf vs)) s 0
+  unfolding section behindHeader rowThen
+  section-row = refl
+
+  section-header : section s 0 ≡ andThen (header s 0) behindHeader s
+  section-header = section-row ∙ sym (row-bind (4 ∷ 4 ∷ []) (λ vs. ret (headerOf vs)) behindHeader s 0) ∙ ap (λ (r : Res SectionHeader). andThen r behindHeader s) (sym header-row)
 
   pub section-short : (f : Fault) → stop f ≡ header s 0 → section s 0 ≡ stop f
-  section-short f e = section-header ∙ ap (λ (r : Res SectionHeader). andThen r behind s) (sym e)
+  section-short f e = section-header ∙ ap (λ (r : Res SectionHeader). andThen r behindHeader s) (sym e)
 
   module _ (h : SectionHeader) (e : ok h 8 ≡ header s 0) where
     pub section-other : (h .magic ≡ pai1 → ⊥) → section s 0 ≡ stop (NotPai1 (h .magic))
-    unfolding behind
-    section-other n = section-header ∙ ap (λ (r : Res SectionHeader). andThen r behind s) (sym e) ∙ rw (ne-eqb (h .magic) pai1 n)
+    unfolding behindHeader
+    section-other n = section-header ∙ ap (λ (r : Res SectionHeader). andThen r behindHeader s) (sym e) ∙ rw (ne-eqb (h .magic) pai1 n)
 
     pub section-pai1 : h .magic ≡ pai1 → section s 0 ≡ body (h .size) s 8
-    unfolding behind
-    section-pai1 n = section-header ∙ ap (λ (r : Res SectionHeader). andThen r behind s) (sym e) ∙ rw (eq-eqb (h .magic) pai1 n)
+    unfolding behindHeader
+    section-pai1 n = section-header ∙ ap (λ (r : Res SectionHeader). andThen r behindHeader s) (sym e) ∙ rw (eq-eqb (h .magic) pai1 n)
 
 -- ---- walks
 
--- the four words of the head, stored
-pub head-stores : (s w : List ℕ) (t u : Tally) {a b c d k : ℕ} {w₁ w₂ : List ℕ} → length w ≤ 18446744073709551615 → u ≡ moved t 2 → w₁ ≡ sets w (t .words) (a ∷ b ∷ []) → w₂ ≡ sets w₁ (u .words) (c ∷ d ∷ [])
-    → a ≡ get 2 s 8 → b ≡ flagOf k → k ≡ get 1 s 10 → c ≡ get 2 s 12 → d ≡ get 2 s 14
-    → w₂ ≡ sets w (t .words) (get 2 s 8 ∷ flagOf (get 1 s 10) ∷ get 2 s 12 ∷ get 2 s 14 ∷ [])
-head-stores s w t u {a} {b} {c} {d} {k} h eu e₁ e₂ ea eb ek ec ed =
-    let f = four-stores w t u a b c d h eu e₁ e₂ in
-    let b′ : b ≡ flagOf (get 1 s 10) = eb ∙ ap flagOf ek in
-    let g : sets w (t .words) (a ∷ b ∷ c ∷ d ∷ []) ≡ sets w (t .words) (get 2 s 8 ∷ flagOf (get 1 s 10) ∷ get 2 s 12 ∷ get 2 s 14 ∷ []) = rw (ea, b′, ec, ed) in
-    f ∙ g
+-- the four words of the head, stored two by two
+pub head-stores : (w : List ℕ) (t u : Tally) (h : SectionHead) {b : ℕ} {w₁ w₂ : List ℕ} → length w ≤ 18446744073709551615 → u ≡ moved t 2 → b ≡ flagOf (h .looping)
+    → w₁ ≡ sets w (t .words) (h .frames ∷ b ∷ []) → w₂ ≡ sets w₁ (u .words) (h .textures ∷ h .contents ∷ []) → w₂ ≡ sets w (t .words) (headWords h)
+head-stores w t u h {b} hw eu eb e₁ e₂ =
+    four-stores w t u (h .frames) b (h .textures) (h .contents) hw eu e₁ e₂
+    ∙ ap (λ (n : ℕ). sets w (t .words) (h .frames ∷ n ∷ h .textures ∷ h .contents ∷ [])) eb
 
 -- and what follows them
-pub run-section : (s : List ℕ) (t u : Tally) (w v x : List ℕ) (size : ℕ) (r : Res (List Item)) → length w ≤ 18446744073709551615 → t .words ≤ 18446744073709551615 → u ≡ moved t 4
-    → v ≡ sets w (t .words) (get 2 s 8 ∷ flagOf (get 1 s 10) ∷ get 2 s 12 ∷ get 2 s 14 ∷ []) → run s u v x r ≡ run s t w x (before (headWords s size) r)
-run-section s t u w v x size r hw ht eu ev = rw (eu, ev) (sym (run-words s t w x (get 2 s 8 ∷ flagOf (get 1 s 10) ∷ get 2 s 12 ∷ get 2 s 14 ∷ []) r hw ht))
+pub run-section : (s : List ℕ) (t u : Tally) (w v x : List ℕ) (h : SectionHead) (r : Res (List Item)) → length w ≤ 18446744073709551615 → t .words ≤ 18446744073709551615 → u ≡ moved t 4
+    → v ≡ sets w (t .words) (headWords h) → run s u v x r ≡ run s t w x (before (map word (headWords h)) r)
+run-section s t u w v x h r hw ht eu ev = rw (eu, ev) (sym (run-words s t w x (headWords h) r hw ht))
 
 module _ (s : List ℕ) (t : Tally) (w x : List ℕ) (size table n i : ℕ) (hw : length w ≤ 18446744073709551615) (hx : length x ≤ 18446744073709551615) (r : Walk) (w′ x′ : List ℕ) where
   module _ (e : told r w′ x′ ≡ run s t w x (contents table n s i)) where

@@ -7,7 +7,7 @@ use mathlib.Core.List.{List, [], _∷_, _++_, map, map-append}
 use native.Mathlib.Omega.{arith}
 use borrow.Author.Tests.{leb-true, leb-false, le-leb, lt-leb}
 use lib.Dec.{leb}
-use lib.ListN.{length}
+use lib.ListN.{length, getD}
 use lib.Seq.{sets, length-sets}
 use Rattle.core.specs.Number.{get}
 use Rattle.core.specs.Run.{pairsAt, pairsOf}
@@ -21,76 +21,37 @@ use Rattle.bflan.specs.declared.tally.Tally.{Tally}
 use Rattle.bflan.specs.declared.tally.Walk.{Walk}
 use Rattle.bflan.specs.declared.tally.Walk.the-variants.{On, No}
 use Rattle.bflan.specs.Letters.{targetOf}
-use Rattle.bflan.specs.Reader.{Res, ok, stop, P, andThen, _>>=_, ret, Item, word, seekTo, numbers, visit}
+use Rattle.bflan.specs.Reader.{Res, ok, stop, P, andThen, _>>=_, ret, Item, word, num, seekTo, numbers, visit}
 use Rattle.bflan.specs.Reading.{curveOf, countOf, keys, target}
 use Rattle.bflan.specs.Walk.{asItems, wordsOf, sat, moved, run, told}
-use Rattle.bflan.proofs.Emits.{sought-on, sought-past, sought-there, sought-over}
-use Rattle.bflan.proofs.KeyRuns.{asNumbers, num-to, num-short, keys-constant, keys-step, keys-hermite, keys-above, texts-words, words-more, texts-more, tallied-more, moved-fits}
+use Rattle.bflan.proofs.Emits.{sought-on, sought-past, sought-there}
+use Rattle.bflan.proofs.KeyRuns.{asNumbers, num-to, keys-constant, keys-step, keys-hermite, keys-above, texts-words, words-more, texts-more, tallied-more, moved-fits}
+use Rattle.bflan.proofs.Rows.{rowThen, Row}
 use Rattle.bflan.proofs.Walks.{Three, before, joined, before-before, put-before, visit-cons, visit-nil, sets-sat}
 
--- ---- where the reading stops of a target whose twelve bytes are not all there
+-- ---- the reads of its head, by core's answers
+
+-- what is read behind the numbers of a target's head
+abbrev pub targetAfter : ℕ → ℕ → List ℕ → List ℕ → ℕ → Res (List Item)
+targetAfter letters base vs =
+    _>>=_ (seekTo (base + getD vs 6 0))
+    (λ at. _>>=_ (keys (getD vs 2 0) (getD vs 4 0))
+    (λ ks. ret (word (getD vs 0 0) ∷ word (targetOf letters (getD vs 1 0)) ∷ word (curveOf (getD vs 2 0)) ∷ word (countOf (getD vs 2 0) (getD vs 4 0)) ∷ ks)))
+
+abbrev pub widths : List ℕ
+widths = 1 ∷ 1 ∷ 1 ∷ 1 ∷ 2 ∷ 2 ∷ 4 ∷ []
 
 module _ (letters base : ℕ) (s : List ℕ) (i : ℕ) where
-  pub target-out : length s < base → target letters base s i ≡ stop (PastEnd (length s) (base - length s))
-  unfolding target
-  target-out h = rw (sought-over s base i h)
+  -- a seek, its numbers as a row, and what is behind them
+  target-seek : target letters base s i ≡ andThen (seekTo base s i) (λ at. rowThen widths (targetAfter letters base)) s
+  unfolding target rowThen
+  target-seek = refl
 
-  -- in its four single bytes
-  short-1 : length s ≡ base → target letters base s i ≡ stop (PastEnd base 1)
-  unfolding target
-  short-1 h = rw (sought-there s base i (omega arith), num-short 1 s base (omega arith))
+  pub target-out : (o k : ℕ) → seekOf s base ≡ SoughtPast o k → target letters base s i ≡ stop (PastEnd o k)
+  target-out o k e = target-seek ∙ rw (sought-past s base i o k e)
 
-  short-2 : length s ≡ base + 1 → target letters base s i ≡ stop (PastEnd (base + 1) 1)
-  unfolding target
-  short-2 h = rw (sought-there s base i (omega arith), num-to 1 s base (base + 1) (omega arith) (omega arith), num-short 1 s (base + 1) (omega arith))
-
-  short-3 : length s ≡ base + 2 → target letters base s i ≡ stop (PastEnd (base + 2) 1)
-  unfolding target
-  short-3 h = rw (sought-there s base i (omega arith), num-to 1 s base (base + 1) (omega arith) (omega arith), num-to 1 s (base + 1) (base + 2) (omega arith) (omega arith), num-short 1 s (base + 2) (omega arith))
-
-  short-4 : length s ≡ base + 3 → target letters base s i ≡ stop (PastEnd (base + 3) 1)
-  unfolding target
-  short-4 h = rw (sought-there s base i (omega arith), num-to 1 s base (base + 1) (omega arith) (omega arith), num-to 1 s (base + 1) (base + 2) (omega arith) (omega arith), num-to 1 s (base + 2) (base + 3) (omega arith) (omega arith), num-short 1 s (base + 3) (omega arith))
-
-  at-size : (p : ℕ) → length s ≡ p → target letters base s i ≡ stop (PastEnd p 1) → target letters base s i ≡ stop (PastEnd (length s) 1)
-  at-size p h e = rw h e
-
-  pub target-bytes : base ≤ length s → length s < base + 4 → target letters base s i ≡ stop (PastEnd (length s) 1)
-  target-bytes h l = go (leb (base + 1) (length s)) refl (leb (base + 2) (length s)) refl (leb (base + 3) (length s)) refl
-    where
-      go : (a : Bool) → leb (base + 1) (length s) ≡ a → (b : Bool) → leb (base + 2) (length s) ≡ b → (d : Bool) → leb (base + 3) (length s) ≡ d
-          → target letters base s i ≡ stop (PastEnd (length s) 1)
-      go false ea b eb d ed =
-          let x = leb-false (base + 1) (length s) ea in
-          let q : length s ≡ base = omega arith in
-          at-size base q (short-1 q)
-      go true ea false eb d ed =
-          let x = leb-true (base + 1) (length s) ea in
-          let y = leb-false (base + 2) (length s) eb in
-          let q : length s ≡ base + 1 = omega arith in
-          at-size (base + 1) q (short-2 q)
-      go true ea true eb false ed =
-          let x = leb-true (base + 2) (length s) eb in
-          let y = leb-false (base + 3) (length s) ed in
-          let q : length s ≡ base + 2 = omega arith in
-          at-size (base + 2) q (short-3 q)
-      go true ea true eb true ed =
-          let x = leb-true (base + 3) (length s) ed in
-          let q : length s ≡ base + 3 = omega arith in
-          at-size (base + 3) q (short-4 q)
-
-  -- in its key count, in the two bytes behind it, and in its offset
-  pub target-count : base + 4 ≤ length s → length s < base + 6 → target letters base s i ≡ stop (PastEnd (base + 4) 2)
-  unfolding target
-  target-count h l = rw (sought-there s base i (omega arith), num-to 1 s base (base + 1) (omega arith) (omega arith), num-to 1 s (base + 1) (base + 2) (omega arith) (omega arith), num-to 1 s (base + 2) (base + 3) (omega arith) (omega arith), num-to 1 s (base + 3) (base + 4) (omega arith) (omega arith), num-short 2 s (base + 4) (omega arith))
-
-  pub target-reserve : base + 6 ≤ length s → length s < base + 8 → target letters base s i ≡ stop (PastEnd (base + 6) 2)
-  unfolding target
-  target-reserve h l = rw (sought-there s base i (omega arith), num-to 1 s base (base + 1) (omega arith) (omega arith), num-to 1 s (base + 1) (base + 2) (omega arith) (omega arith), num-to 1 s (base + 2) (base + 3) (omega arith) (omega arith), num-to 1 s (base + 3) (base + 4) (omega arith) (omega arith), num-to 2 s (base + 4) (base + 6) (omega arith) (omega arith), num-short 2 s (base + 6) (omega arith))
-
-  pub target-offset : base + 8 ≤ length s → length s < base + 12 → target letters base s i ≡ stop (PastEnd (base + 8) 4)
-  unfolding target
-  target-offset h l = rw (sought-there s base i (omega arith), num-to 1 s base (base + 1) (omega arith) (omega arith), num-to 1 s (base + 1) (base + 2) (omega arith) (omega arith), num-to 1 s (base + 2) (base + 3) (omega arith) (omega arith), num-to 1 s (base + 3) (base + 4) (omega arith) (omega arith), num-to 2 s (base + 4) (base + 6) (omega arith) (omega arith), num-to 2 s (base + 6) (base + 8) (omega arith) (omega arith), num-short 4 s (base + 8) (omega arith))
+  pub target-row : {p : ℕ} {x : Res (List Item)} → seekOf s base ≡ At p → Row widths (targetAfter letters base) s p x → target letters base s i ≡ x
+  target-row {p} e r = target-seek ∙ rw (sought-on s base i p e) (r .gives)
 
   -- with all of them there it goes on with its keys, where its offset is in the section
   abbrev targetRest : ℕ → ℕ → ℕ → ℕ → ℕ → Res (List Item)
@@ -200,39 +161,39 @@ wordy-keys (suc zero) n s p = record { values = asNumbers (pairsOf n s p) (pairs
 wordy-keys (suc (suc zero)) n s p = record { values = numbers (3 * n) s p; same = keys-hermite n s p }
 wordy-keys (suc (suc (suc c))) n s p = record { values = ok [] p; same = keys-above (suc (suc (suc c))) n s p (omega arith) }
 
-pub wordy-target : (letters base : ℕ) (s : List ℕ) (i : ℕ) → Wordy (target letters base s i)
-wordy-target letters base s i = start (leb base (length s)) refl
+-- a row is one where what is read behind it is
+wordy-row : (s ks : List ℕ) (c : List ℕ → P (List Item)) → ((vs : List ℕ) (j : ℕ) → Wordy (c vs s j)) → (i : ℕ) → Wordy (rowThen ks c s i)
+unfolding rowThen
+wordy-row s [] c h i = h [] i
+wordy-row s (k ∷ ks) c h i = go (num k s i) (λ v j. wordy-row s ks (λ vs. c (v ∷ vs)) (λ vs. h (v ∷ vs)) j)
   where
-    sought : base + 12 ≤ length s → (b : Bool) → leb (base + get 4 s (base + 8)) (length s) ≡ b → Wordy (target letters base s i)
-    sought h true e =
-        let to = base + get 4 s (base + 8) in
-        let curve = get 1 s (base + 2) in
-        let n = get 2 s (base + 4) in
-        let vs = get 1 s base ∷ targetOf letters (get 1 s (base + 1)) ∷ curveOf curve ∷ countOf curve n ∷ [] in
-        wordy-same (target-on letters base s i to h (seek-there s to (leb-true to (length s) e)) ∙ put-before (map word vs) (keys curve n s to) s) (wordy-before vs (keys curve n s to) (wordy-keys curve n s to))
-    sought h false e =
-        let to = base + get 4 s (base + 8) in
-        wordy-same (target-past letters base s i _ _ h (seek-over s to (leb-false to (length s) e))) (wordy-stop _)
+    go : (r : Res ℕ) → ((v j : ℕ) → Wordy (rowThen ks (λ vs. c (v ∷ vs)) s j)) → Wordy (andThen r (λ v. rowThen ks (λ vs. c (v ∷ vs))) s)
+    go (ok v j) f = f v j
+    go (stop e) f = wordy-stop e
 
-    offset : base + 8 ≤ length s → (b : Bool) → leb (base + 12) (length s) ≡ b → Wordy (target letters base s i)
-    offset h true e = sought (leb-true (base + 12) (length s) e) (leb (base + get 4 s (base + 8)) (length s)) refl
-    offset h false e = wordy-same (target-offset letters base s i h (leb-false (base + 12) (length s) e)) (wordy-stop _)
+wordy-after : (letters base : ℕ) (s vs : List ℕ) (j : ℕ) → Wordy (targetAfter letters base vs s j)
+wordy-after letters base s vs j = go (seekTo (base + getD vs 6 0) s j)
+  where
+    ws : List ℕ
+    ws = getD vs 0 0 ∷ targetOf letters (getD vs 1 0) ∷ curveOf (getD vs 2 0) ∷ countOf (getD vs 2 0) (getD vs 4 0) ∷ []
 
-    reserve : base + 6 ≤ length s → (b : Bool) → leb (base + 8) (length s) ≡ b → Wordy (target letters base s i)
-    reserve h true e = offset (leb-true (base + 8) (length s) e) (leb (base + 12) (length s)) refl
-    reserve h false e = wordy-same (target-reserve letters base s i h (leb-false (base + 8) (length s) e)) (wordy-stop _)
+    go : (r : Res ℕ)
+        → Wordy
+        (andThen r
+        (λ at. _>>=_ (keys (getD vs 2 0) (getD vs 4 0))
+        (λ ks. ret (word (getD vs 0 0) ∷ word (targetOf letters (getD vs 1 0)) ∷ word (curveOf (getD vs 2 0)) ∷ word (countOf (getD vs 2 0) (getD vs 4 0)) ∷ ks)))
+        s)
+    go (ok p q) =
+        wordy-same (put-before (map word ws) (keys (getD vs 2 0) (getD vs 4 0) s q) s)
+        (wordy-before ws (keys (getD vs 2 0) (getD vs 4 0) s q) (wordy-keys (getD vs 2 0) (getD vs 4 0) s q))
+    go (stop f) = wordy-stop f
 
-    count : base + 4 ≤ length s → (b : Bool) → leb (base + 6) (length s) ≡ b → Wordy (target letters base s i)
-    count h true e = reserve (leb-true (base + 6) (length s) e) (leb (base + 8) (length s)) refl
-    count h false e = wordy-same (target-count letters base s i h (leb-false (base + 6) (length s) e)) (wordy-stop _)
-
-    bytes : base ≤ length s → (b : Bool) → leb (base + 4) (length s) ≡ b → Wordy (target letters base s i)
-    bytes h true e = count (leb-true (base + 4) (length s) e) (leb (base + 6) (length s)) refl
-    bytes h false e = wordy-same (target-bytes letters base s i h (leb-false (base + 4) (length s) e)) (wordy-stop _)
-
-    start : (b : Bool) → leb base (length s) ≡ b → Wordy (target letters base s i)
-    start true e = bytes (leb-true base (length s) e) (leb (base + 4) (length s)) refl
-    start false e = wordy-same (target-out letters base s i (leb-false base (length s) e)) (wordy-stop _)
+pub wordy-target : (letters base : ℕ) (s : List ℕ) (i : ℕ) → Wordy (target letters base s i)
+wordy-target letters base s i = wordy-same (target-seek letters base s i) (go (seekTo base s i))
+  where
+    go : (r : Res ℕ) → Wordy (andThen r (λ at. rowThen widths (targetAfter letters base)) s)
+    go (ok p q) = wordy-row s widths (targetAfter letters base) (wordy-after letters base s) q
+    go (stop f) = wordy-stop f
 
 -- the text bytes as a walk that has words alone leaves them
 abbrev kept : Walk → List ℕ → List ℕ

@@ -1,12 +1,13 @@
 -- What a walk over a section leaves behind: its tally, and the two tables, by the items that it met.
-use Prim.Native.Nat.{ℕ, min, _+_}
+use Prim.Native.Nat.{ℕ, min, _+_, _-_}
 use mathlib.Core.Path.{_≡_}
 use mathlib.Core.Bool.{true}
 use mathlib.Core.List.{List, [], _∷_, _++_, map}
-use lib.Dec.{eqb}
+use lib.Dec.{eqb, ltb}
 use lib.ListN.{length}
 use lib.Seq.{slice, sets}
 use Rattle.core.specs.Choice.{pick}
+use Rattle.core.specs.Number.{get}
 use Rattle.core.specs.Utf8.{decode}
 use Rattle.core.specs.declared.run.Run.{Run}
 use Rattle.core.specs.declared.run.Run.the-variants.{Next, Cut}
@@ -100,6 +101,11 @@ asName (Missing f) = stop f
 abbrev pub nameEnd : Name → ℕ
 nameEnd (Found a n q plain) = a + n
 nameEnd (Missing f) = 0
+
+-- the length that the next entry of an offset table suggests for a name whose own entry, the first of `left` ones, stands at `at`: names stand
+-- one behind another, each with its zero. The last one has no suggestion. No answer depends on it
+unfoldable pub guessOf : List ℕ → ℕ → ℕ → ℕ → ℕ
+guessOf s at left off = pick (ltb left 2) 0 (get 4 s (at + 4) - off - 1)
 
 -- a name that is said to be plain is shown as it is
 abbrev pub asIs : List ℕ → Name → Type 0

@@ -17,10 +17,15 @@ use crate::offset::byte_at;
 use crate::offset::offset_at;
 use crate::tally::Tally;
 use crate::tally::Walk;
+use core::cursor::fixed_string_at;
+use core::cursor::seek_to;
+use core::cursor::u8_at;
+use core::number::Read;
 use core::run::Run;
 use core::run::numbers_end;
 use core::seek::Sought;
 use core::seek::seek;
+use core::text::TextAt;
 use core::text::first_zero;
 
 // An info table that was looked for: where it stands, or what stopped the search.
@@ -29,25 +34,26 @@ pub enum TableAt {
     Stop(Fault),
 }
 
-// Where the reading of a content stops whose thirty-two bytes are not all there.
+// Where the reading of a content stops whose thirty-two bytes are not all there: the reads in order. Where all but the last are there, that is
+// the one that is refused.
 fn short(s: &[u8], base: usize) -> Fault
-    requires { ⌜ (length (now s) < base + 32) × (base ≤ 8589934592) ⌝ }
+    requires { ⌜ length (now s) < base + 32 ⌝ }
     ensures { λ r. ⌜ ((i : ℕ) → content base (now (s .entry)) i ≡ stop r) ⌝ }
 {
-    let size = s.len();
-    if size < base {
-        return Fault::PastEnd(size, base - size);
+    match seek_to(s, base) {
+        Sought::Past(o, k) => Fault::PastEnd(o, k),
+        Sought::At(p) => match fixed_string_at(s, p, 28) {
+            TextAt::Past(o, k) => Fault::PastEnd(o, k),
+            TextAt::Unended(from) => Fault::NoZero(from),
+            TextAt::Text(_len, p1) => match u8_at(s, p1) {
+                Read::Past(o, k) => Fault::PastEnd(o, k),
+                Read::Value(_n, p2) => match u8_at(s, p2) {
+                    Read::Past(o, k) => Fault::PastEnd(o, k),
+                    Read::Value(_kind, p3) => Fault::PastEnd(p3, 2),
+                },
+            },
+        },
     }
-    if size == base {
-        return Fault::PastEnd(base, 28);
-    }
-    if size < base + 29 {
-        return Fault::PastEnd(size, 1);
-    }
-    if size < base + 30 {
-        return Fault::PastEnd(base + 29, 1);
-    }
-    Fault::PastEnd(base + 30, 2)
 }
 
 // Where the info table of a content stands, `p` being the place behind its head.
@@ -196,7 +202,7 @@ pub(crate) fn contents_of(
     requires { ⌜ length (now s) ≤ 16777216 ⌝ }
     ensures { λ r. ⌜ ((i : ℕ) → told r (now (words .exit)) (now (texts .exit)) ≡ run (now (s .entry)) t (now (words .entry)) (now (texts .entry)) (contents table n (now (s .entry)) i)) ⌝ }
 {
-    match seek(s, table) {
+    match seek_to(s, table) {
         Sought::Past(offset, excess) => Walk::No(Fault::PastEnd(offset, excess)),
         Sought::At(q) => match numbers_end(s, q, n) {
             Run::Cut(offset, requested) => Walk::No(Fault::PastEnd(offset, requested)),

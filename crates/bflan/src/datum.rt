@@ -14,9 +14,9 @@ use crate::tally::Tally;
 use crate::tally::Walk;
 use crate::tally::more_words;
 use crate::texture::text_at;
+use core::cursor::u16_at;
+use core::cursor::u32_at;
 use core::number::Read;
-use core::number::read_u16;
-use core::number::read_u32;
 use core::run::put_word;
 
 // The numbers before a datum's values.
@@ -37,15 +37,15 @@ pub enum Head {
 fn head_at(s: &[u8], p: usize) -> Head
     ensures { λ r. ⌜ asHead r ≡ head (now (s .entry)) p ⌝ }
 {
-    match read_u32(s, p) {
+    match u32_at(s, p) {
         Read::Past(o, k) => Head::Short(Fault::PastEnd(o, k)),
-        Read::Value(size, p1) => match read_u16(s, p1) {
+        Read::Value(size, p1) => match u16_at(s, p1) {
             Read::Past(o, k) => Head::Short(Fault::PastEnd(o, k)),
-            Read::Value(one, p2) => match read_u16(s, p2) {
+            Read::Value(one, p2) => match u16_at(s, p2) {
                 Read::Past(o, k) => Head::Short(Fault::PastEnd(o, k)),
-                Read::Value(two, p3) => match read_u32(s, p3) {
+                Read::Value(two, p3) => match u32_at(s, p3) {
                     Read::Past(o, k) => Head::Short(Fault::PastEnd(o, k)),
-                    Read::Value(base, p4) => match read_u32(s, p4) {
+                    Read::Value(base, p4) => match u32_at(s, p4) {
                         Read::Past(o, k) => Head::Short(Fault::PastEnd(o, k)),
                         Read::Value(three, p5) => Head::Got(
                             Fields {
@@ -80,7 +80,7 @@ fn key_text(s: &[u8], p: usize, words: &mut [u32], texts: &mut [u8], t: Tally) -
     requires { ⌜ length (now s) ≤ 16777216 ⌝ }
     ensures { λ r. ⌜ told r (now (words .exit)) (now (texts .exit)) ≡ run (now (s .entry)) t (now (words .entry)) (now (texts .entry)) (keyText (now (s .entry)) p) ⌝ }
 {
-    match read_u32(s, p) {
+    match u32_at(s, p) {
         Read::Value(offset, _) => text_at(s, p + (offset as usize), words, texts, t),
         Read::Past(o, k) => Walk::No(Fault::PastEnd(o, k)),
     }

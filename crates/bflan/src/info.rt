@@ -20,28 +20,33 @@ use crate::offset::word_at;
 use crate::tally::Tally;
 use crate::tally::Walk;
 use crate::target::targets;
+use core::cursor::seek_to;
+use core::cursor::u8_at;
+use core::cursor::u32_at;
+use core::number::Read;
 use core::run::Run;
 use core::run::numbers_end;
+use core::seek::Sought;
 
-// Where the reading of an info stops whose eight bytes are not all there.
+// Where the reading of an info stops whose eight bytes are not all there: the reads in order. Where all but the last are there, that is the one
+// that is refused.
 fn short(s: &[u8], base: usize) -> Fault
-    requires { ⌜ (length (now s) < base + 8) × (base ≤ 8589934592) ⌝ }
+    requires { ⌜ length (now s) < base + 8 ⌝ }
     ensures { λ r. ⌜ ((i : ℕ) → info base (now (s .entry)) i ≡ stop r) ⌝ }
 {
-    let size = s.len();
-    if size < base {
-        return Fault::PastEnd(size, base - size);
+    match seek_to(s, base) {
+        Sought::Past(o, k) => Fault::PastEnd(o, k),
+        Sought::At(p) => match u32_at(s, p) {
+            Read::Past(o, k) => Fault::PastEnd(o, k),
+            Read::Value(_letters, p1) => match u8_at(s, p1) {
+                Read::Past(o, k) => Fault::PastEnd(o, k),
+                Read::Value(_n, p2) => match u8_at(s, p2) {
+                    Read::Past(o, k) => Fault::PastEnd(o, k),
+                    Read::Value(_reserve, p3) => Fault::PastEnd(p3, 2),
+                },
+            },
+        },
     }
-    if size < base + 4 {
-        return Fault::PastEnd(base, 4);
-    }
-    if size < base + 5 {
-        return Fault::PastEnd(base + 4, 1);
-    }
-    if size < base + 6 {
-        return Fault::PastEnd(base + 5, 1);
-    }
-    Fault::PastEnd(base + 6, 2)
 }
 
 // An extended info: two words, and its data.

@@ -1,30 +1,26 @@
 // The section as a whole: a head of twenty bytes, textures, contents, and the seek to its end.
 ghost use mathlib.Core.Path.{_≡_};
-ghost use mathlib.Core.List.{[], _∷_};
-ghost use Prim.Native.Nat.{ℕ, _+_, _*_, _<_, _≤_};
+ghost use Prim.Native.Nat.{ℕ, _+_, _*_, _≤_};
 ghost use lib.ListN.{length};
 ghost use lib.Seq.{sets};
-ghost use Rattle.core.specs.Number.{get};
 ghost use Rattle.core.specs.Run.{numbersAt};
-ghost use Rattle.bflan.specs.Reader.{stop};
 ghost use Rattle.bflan.specs.Reading.{flagOf, body, section};
-ghost use Rattle.bflan.specs.SectionParts.{header, asHeader, ending, parts};
+ghost use Rattle.bflan.specs.SectionParts.{header, asHeader, head, asHead, headWords, behind, ending, parts};
 ghost use Rattle.bflan.specs.Walk.{moved, run, told};
 use crate::content::contents_of;
 use crate::emit::put2;
 use crate::fault::Fault;
-use crate::offset::byte_at;
-use crate::offset::half_at;
-use crate::offset::offset_at;
 use crate::tally::Tally;
 use crate::tally::Walk;
 use crate::texture::textures;
+use core::cursor::seek_to;
+use core::cursor::u8_at;
+use core::cursor::u16_at;
 use core::cursor::u32_at;
 use core::number::Read;
 use core::run::Run;
 use core::run::numbers_end;
 use core::seek::Sought;
-use core::seek::seek;
 
 // The letters `pai1`, as the number that their four bytes are.
 pub(crate) const PAI1: u32 = 0x3169_6170;
@@ -54,28 +50,50 @@ fn header_at(s: &[u8]) -> Header
     }
 }
 
-// Where the reading stops of a section that has its first eight bytes, but not the twelve behind them.
-fn short_body(s: &[u8]) -> Fault
-    requires { ⌜ length (now s) < 20 ⌝ }
-    ensures { λ r. ⌜ ((size : ℕ) → body size (now (s .entry)) 8 ≡ stop r) ⌝ }
+// The numbers behind the header (PaneAnimInfo of the Rust), of which the reserve is not kept.
+pub struct SectionHead {
+    pub frames: u32,
+    pub looping: u32,
+    pub textures: u32,
+    pub contents: u32,
+    pub table: u32,
+}
+
+// What the read of these gives: the numbers, or what stopped it.
+pub enum Head {
+    Got(SectionHead),
+    Short(Fault),
+}
+
+// The head, read through a cursor as well: where it is short, the read that is short says so.
+fn head_at(s: &[u8]) -> Head
+    ensures { λ r. ⌜ asHead r ≡ head (now (s .entry)) 8 ⌝ }
 {
-    let size = s.len();
-    if size < 10 {
-        return Fault::PastEnd(8, 2);
+    match u16_at(s, 8) {
+        Read::Past(o, k) => Head::Short(Fault::PastEnd(o, k)),
+        Read::Value(frames, p1) => match u8_at(s, p1) {
+            Read::Past(o, k) => Head::Short(Fault::PastEnd(o, k)),
+            Read::Value(looping, p2) => match u8_at(s, p2) {
+                Read::Past(o, k) => Head::Short(Fault::PastEnd(o, k)),
+                Read::Value(_reserve, p3) => match u16_at(s, p3) {
+                    Read::Past(o, k) => Head::Short(Fault::PastEnd(o, k)),
+                    Read::Value(textures, p4) => match u16_at(s, p4) {
+                        Read::Past(o, k) => Head::Short(Fault::PastEnd(o, k)),
+                        Read::Value(contents, p5) => match u32_at(s, p5) {
+                            Read::Past(o, k) => Head::Short(Fault::PastEnd(o, k)),
+                            Read::Value(table, _p6) => Head::Got(SectionHead {
+                                frames,
+                                looping,
+                                textures,
+                                contents,
+                                table,
+                            }),
+                        },
+                    },
+                },
+            },
+        },
     }
-    if size < 11 {
-        return Fault::PastEnd(10, 1);
-    }
-    if size < 12 {
-        return Fault::PastEnd(11, 1);
-    }
-    if size < 14 {
-        return Fault::PastEnd(12, 2);
-    }
-    if size < 16 {
-        return Fault::PastEnd(14, 2);
-    }
-    Fault::PastEnd(16, 4)
 }
 
 // The word of the looping byte: any but 0 is yes.
@@ -89,16 +107,12 @@ fn flag_of(b: u32) -> u32
 }
 
 // The four words of the head.
-fn put_head(s: &[u8], words: &mut [u32], t: Tally) -> Tally
-    requires { ⌜ 20 ≤ length (now s) ⌝ }
-    ensures { λ r. ⌜ (r ≡ moved t 4) × (now (words .exit) ≡ sets (now (words .entry)) (t .words) (get 2 (now (s .entry)) 8 ∷ flagOf (get 1 (now (s .entry)) 10) ∷ get 2 (now (s .entry)) 12 ∷ get 2 (now (s .entry)) 14 ∷ [])) ⌝ }
+fn put_head(words: &mut [u32], t: Tally, h: SectionHead) -> Tally
+    ensures { λ r. ⌜ (r ≡ moved t 4) × (now (words .exit) ≡ sets (now (words .entry)) (t .words) (headWords h)) ⌝ }
 {
-    let frames = half_at(s, 8);
-    let looping = flag_of(byte_at(s, 10));
-    let u = put2(words, t, frames, looping);
-    let nt = half_at(s, 12);
-    let nc = half_at(s, 14);
-    put2(words, u, nt, nc)
+    let looping = flag_of(h.looping);
+    let u = put2(words, t, h.frames, looping);
+    put2(words, u, h.textures, h.contents)
 }
 
 // The contents, and the seek to the section's end.
@@ -116,7 +130,7 @@ fn ending(
 {
     match contents_of(s, table, n, words, texts, t) {
         Walk::No(f) => Walk::No(f),
-        Walk::On(u, _p) => match seek(s, size) {
+        Walk::On(u, _p) => match seek_to(s, size) {
             Sought::At(q) => Walk::On(u, q),
             Sought::Past(offset, excess) => Walk::No(Fault::PastEnd(offset, excess)),
         },
@@ -144,20 +158,38 @@ fn parts(
     }
 }
 
-// What is behind the section's first eight bytes, with its head there.
-fn body_at(s: &[u8], size: usize, words: &mut [u32], texts: &mut [u8], t: Tally) -> Walk
+// What is behind the head of a section.
+fn behind_head(
+    s: &[u8],
+    size: usize,
+    h: SectionHead,
+    words: &mut [u32],
+    texts: &mut [u8],
+    t: Tally,
+) -> Walk
     requires { ⌜ (length (now s) ≤ 16777216) × (20 ≤ length (now s)) ⌝ }
-    ensures { λ r. ⌜ told r (now (words .exit)) (now (texts .exit)) ≡ run (now (s .entry)) t (now (words .entry)) (now (texts .entry)) (body size (now (s .entry)) 8) ⌝ }
+    ensures { λ r. ⌜ told r (now (words .exit)) (now (texts .exit)) ≡ run (now (s .entry)) t (now (words .entry)) (now (texts .entry)) (behind size h (now (s .entry)) 20) ⌝ }
 {
-    let nt = half_at(s, 12) as usize;
+    let nt = h.textures as usize;
     match numbers_end(s, 20, nt) {
         Run::Cut(offset, requested) => Walk::No(Fault::PastEnd(offset, requested)),
         Run::Next(p) => {
-            let nc = half_at(s, 14) as usize;
-            let table = offset_at(s, 16);
-            let u = put_head(s, words, t);
+            let nc = h.contents as usize;
+            let table = h.table as usize;
+            let u = put_head(words, t, h);
             parts(s, size, nt, p, table, nc, words, texts, u)
         }
+    }
+}
+
+// What is behind the section's first eight bytes.
+fn body_at(s: &[u8], size: usize, words: &mut [u32], texts: &mut [u8], t: Tally) -> Walk
+    requires { ⌜ length (now s) ≤ 16777216 ⌝ }
+    ensures { λ r. ⌜ told r (now (words .exit)) (now (texts .exit)) ≡ run (now (s .entry)) t (now (words .entry)) (now (texts .entry)) (body size (now (s .entry)) 8) ⌝ }
+{
+    match head_at(s) {
+        Head::Short(f) => Walk::No(f),
+        Head::Got(h) => behind_head(s, size, h, words, texts, t),
     }
 }
 
@@ -172,9 +204,6 @@ pub(crate) fn section_at(s: &[u8], words: &mut [u32], texts: &mut [u8], t: Tally
             let magic = h.magic;
             if magic != PAI1 {
                 return Walk::No(Fault::NotPai1(magic));
-            }
-            if s.len() < 20 {
-                return Walk::No(short_body(s));
             }
             body_at(s, h.size as usize, words, texts, t)
         }

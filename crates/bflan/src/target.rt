@@ -21,28 +21,41 @@ use crate::offset::half_at;
 use crate::offset::offset_at;
 use crate::tally::Tally;
 use crate::tally::Walk;
+use core::cursor::seek_to;
+use core::cursor::u8_at;
+use core::cursor::u16_at;
+use core::number::Read;
 use core::seek::Sought;
 use core::seek::seek;
 
-// Where the reading of a target stops whose twelve bytes are not all there.
+// Where the reading of a target stops whose twelve bytes are not all there: the reads in order. Where all but the last are there, that is the one
+// that is refused.
 fn short(s: &[u8], base: usize) -> Fault
     requires { ⌜ length (now s) < base + 12 ⌝ }
     ensures { λ r. ⌜ ((letters : ℕ) (i : ℕ) → target letters base (now (s .entry)) i ≡ stop r) ⌝ }
 {
-    let size = s.len();
-    if size < base {
-        return Fault::PastEnd(size, base - size);
+    match seek_to(s, base) {
+        Sought::Past(o, k) => Fault::PastEnd(o, k),
+        Sought::At(p) => match u8_at(s, p) {
+            Read::Past(o, k) => Fault::PastEnd(o, k),
+            Read::Value(_layer, p1) => match u8_at(s, p1) {
+                Read::Past(o, k) => Fault::PastEnd(o, k),
+                Read::Value(_raw, p2) => match u8_at(s, p2) {
+                    Read::Past(o, k) => Fault::PastEnd(o, k),
+                    Read::Value(_curve, p3) => match u8_at(s, p3) {
+                        Read::Past(o, k) => Fault::PastEnd(o, k),
+                        Read::Value(_reserve, p4) => match u16_at(s, p4) {
+                            Read::Past(o, k) => Fault::PastEnd(o, k),
+                            Read::Value(_n, p5) => match u16_at(s, p5) {
+                                Read::Past(o, k) => Fault::PastEnd(o, k),
+                                Read::Value(_padding, p6) => Fault::PastEnd(p6, 4),
+                            },
+                        },
+                    },
+                },
+            },
+        },
     }
-    if size < base + 4 {
-        return Fault::PastEnd(size, 1);
-    }
-    if size < base + 6 {
-        return Fault::PastEnd(base + 4, 2);
-    }
-    if size < base + 8 {
-        return Fault::PastEnd(base + 6, 2);
-    }
-    Fault::PastEnd(base + 8, 4)
 }
 
 // The words of a curve and of its key count: above curve 2 both are 0.

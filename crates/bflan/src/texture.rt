@@ -5,16 +5,16 @@ ghost use lib.ListN.{length};
 ghost use Rattle.core.specs.Run.{numbersAt};
 ghost use Rattle.bflan.specs.Reader.{oneEnded, visit};
 ghost use Rattle.bflan.specs.Reading.{texture};
-ghost use Rattle.bflan.specs.Walk.{asName, nameEnd, asIs, run, told};
+ghost use Rattle.bflan.specs.Walk.{asName, nameEnd, asIs, guessOf, run, told};
 use crate::emit::put_text;
 use crate::fault::Fault;
 use crate::offset::offset_at;
 use crate::tally::Tally;
 use crate::tally::Walk;
+use core::cursor::null_terminated_string_at;
 use core::seek::Sought;
 use core::seek::seek;
 use core::text::TextAt;
-use core::text::ended_text;
 use core::text::plain_text;
 
 // A name that was looked for.
@@ -28,7 +28,7 @@ pub enum Name {
 fn ended_name(s: &[u8], p: usize) -> Name
     ensures { λ r. ⌜ (asName r ≡ oneEnded (now (s .entry)) p) × (nameEnd r ≤ length (now (s .entry))) × asIs (now (s .entry)) r ⌝ }
 {
-    match ended_text(s, p) {
+    match null_terminated_string_at(s, p) {
         TextAt::Text(len, next) => Name::Found(p, len, next, false),
         TextAt::Past(offset, requested) => Name::Missing(Fault::PastEnd(offset, requested)),
         TextAt::Unended(from) => Name::Missing(Fault::NoZero(from)),
@@ -48,10 +48,11 @@ fn name_at(s: &[u8], base: usize, guess: usize) -> Name
     }
 }
 
-// A guess at the length of the name whose entry `off` of an offset table stands at `at`: names stand in the table's order, so this one ends before
-// the next one starts.
+// A guess at the length of the name whose entry `off` of an offset table stands at `at`, the first of `left`: names stand in the table's order, so
+// this one ends before the next one starts.
 fn guess_at(s: &[u8], at: usize, left: usize, off: usize) -> usize
     requires { ⌜ at + 4 * left ≤ length (now s) ⌝ }
+    ensures { λ r. ⌜ r ≡ guessOf (now (s .entry)) at left off ⌝ }
 {
     if left < 2 {
         return 0;

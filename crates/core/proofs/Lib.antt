@@ -12,4 +12,5 @@ pub mod Runs
 pub mod Seeks
 pub mod Stores
 pub mod Table
+pub mod Tests
 pub mod Zeros

@@ -1,6 +1,6 @@
 -- What the calls answer, in document 01's numbers and values (the refusals' table: 3 with the offset and the bytes requested, 4 with the
 -- text's start). Assumes nothing.
-use Prim.Native.Nat.{ℕ, _+_, _-_, _*_, _/_}
+use Prim.Native.Nat.{ℕ, min, _+_, _-_, _*_, _/_}
 use mathlib.Core.Path.{_≡_, refl, _∙_}
 use mathlib.Core.Bool.{Bool, true, false}
 use mathlib.Core.List.{List, [], _∷_}
@@ -33,9 +33,9 @@ module _ (s : List ℕ) (at : ℕ) where
   seek-answers = pick-of ofSought (leb at (length s)) _ _
 
   pub fixed-answers : (n : ℕ) → ofText (fixedOf n s at)
-      ≡ pick (ltb at (length s)) (accepted (beforeZero (take n (drop at s)) ∷ (at + length (take n (drop at s))) ∷ [])) (refused 3 (at ∷ n ∷ []))
+      ≡ pick (leb (at + min n 1) (length s)) (accepted (beforeZero (take n (drop at s)) ∷ (at + length (take n (drop at s))) ∷ [])) (refused 3 (at ∷ n ∷ []))
   unfolding ofText fixedOf
-  fixed-answers n = pick-of ofText (ltb at (length s)) _ _
+  fixed-answers n = pick-of ofText (leb (at + min n 1) (length s)) _ _
 
   pub ended-answers : ofText (endedOf s at)
       ≡ pick (ltb (at + beforeZero (drop at s)) (length s)) (accepted (beforeZero (drop at s) ∷ (at + beforeZero (drop at s) + 1) ∷ [])) (refused 4 (at ∷ []))

@@ -7,12 +7,12 @@ use mathlib.Core.List.{List, [], _∷_, _++_}
 use native.Mathlib.Nat.{zero-add, add-zero, suc-add}
 use native.Mathlib.Numerals.{add-one}
 use native.Mathlib.Omega.{arith}
-use borrow.Author.Tests.{eq-eqb, ne-eqb, eqb-true, eqb-false, ltb-true, ltb-false, lt-ltb, leb-true, leb-false}
+use borrow.Author.Tests.{eq-eqb, ne-eqb, eqb-true, eqb-false, ltb-true, ltb-false, lt-ltb, le-leb, leb-true, leb-false}
 use lib.Dec.{eqb, ltb, leb}
 use lib.ListN.{length, getD, take, drop, length-append, length-take, length-drop, take-append-drop, drop-of-length-le}
 use lib.Seq.{drop-cons, drop-drop}
 use Rattle.core.specs.Choice.{pick}
-use Rattle.core.specs.Text.{beforeZero, zeroFree, fixedOf, endedOf}
+use Rattle.core.specs.Text.{beforeZero, every, zeroFree, fixedOf, endedOf}
 use Rattle.core.specs.declared.text.TextAt.the-variants.{Text, Past, Unended}
 
 -- ---- one byte
@@ -29,11 +29,11 @@ before-other b bs e = rw (ne-eqb _ _ e)
 
 -- and the test of all bytes fails at a zero, or goes on
 free-zero : (b : ℕ) (bs : List ℕ) → b ≡ 0 → zeroFree (b ∷ bs) ≡ false
-unfolding zeroFree
+unfolding zeroFree every
 free-zero b bs e = rw (eq-eqb _ _ e)
 
 free-other : (b : ℕ) (bs : List ℕ) → (b ≡ 0 → ⊥) → zeroFree (b ∷ bs) ≡ zeroFree bs
-unfolding zeroFree
+unfolding zeroFree every
 free-other b bs e = rw (ne-eqb _ _ e)
 
 -- a byte that passes the test is above zero
@@ -129,8 +129,12 @@ before-skip (b ∷ bs) (suc k) h =
     by-byte b (λ e. absurd (omega (arith, before-zero b bs e)))
     (λ e. before-other b bs e ∙ ap suc (before-skip bs k (omega (arith, before-other b bs e))) ∙ sym (suc-add k (beforeZero (drop k bs))))
 
+free-nil : zeroFree [] ≡ true
+unfolding zeroFree every
+free-nil = refl
+
 free-take : (n : ℕ) (s : List ℕ) → n ≤ beforeZero s → zeroFree (take n s) ≡ true
-free-take zero s h = unfold zeroFree in refl
+free-take zero s h = free-nil
 free-take (suc n) [] h = absurd (unfold beforeZero in omega arith)
 free-take (suc n) (b ∷ bs) h =
     by-byte b (λ e. absurd (omega (arith, before-zero b bs e)))
@@ -185,27 +189,11 @@ zero-in-four s at true true true i j k h l m ex ey ez ei ej ek =
     let f : at + 16 + 8 ≤ beforeZero s = block-free s (at + 16) 8 (omega (arith, q)) (omega arith) (sym ez) in
     (omega (arith, a, b, c, f), omega (arith, a, b, c, m))
 
--- a turn of a loop that tests k bytes, of which it has tested i
-pub clear-turn : (s : List ℕ) (at k i : ℕ) (t all : Bool) → at + k ≤ length s → i < k → t && zeroFree (take (k - i) (drop (at + i) s)) ≡ all
-    → (t && not (eqb (getD s (at + i) 0) 0)) && zeroFree (take (k - (i + 1)) (drop (at + (i + 1)) s)) ≡ all
-unfolding zeroFree
-clear-turn s at k i t all h l e =
-    let m : k - i ≡ suc (k - (i + 1)) = omega arith in
-    let p : at + (i + 1) ≡ suc (at + i) = omega arith in
-    rw (and-assoc, p) (rw (m, drop-cons s (at + i) 0 (omega arith)) at e)
-
--- its end: all k are tested
-pub clear-done : (l : List ℕ) (k i : ℕ) (t all : Bool) → k ≤ i → t && zeroFree (take (k - i) l) ≡ all → t ≡ all
-unfolding zeroFree
-clear-done l k i t all h e =
-    let m : k - i ≡ 0 = omega arith in
-    sym (and-true t) ∙ (rw m at e)
-
 -- ---- the answers, taken apart
 
 -- a text of a field: it lies within the field, and the field within the slice
 pub record Fixed (n : ℕ) (s : List ℕ) (at len next : ℕ) : Type 0 where
-  pub starts : at < length s
+  pub starts : at + min n 1 ≤ length s
   pub text : len ≡ beforeZero (take n (drop at s))
   pub within : at + len ≤ next
   pub field : next ≡ at + min n (length s - at)
@@ -213,13 +201,13 @@ pub record Fixed (n : ℕ) (s : List ℕ) (at len next : ℕ) : Type 0 where
 
 pub fixed-text : (n : ℕ) (s : List ℕ) (at len next : ℕ) → fixedOf n s at ≡ Text len next → Fixed n s at len next
 unfolding fixedOf
-fixed-text n s at len next e = go (ltb at (length s)) refl e
+fixed-text n s at len next e = go (leb (at + min n 1) (length s)) refl e
   where
-    go : (t : Bool) → ltb at (length s) ≡ t
+    go : (t : Bool) → leb (at + min n 1) (length s) ≡ t
         → pick t (Text (beforeZero (take n (drop at s))) (at + length (take n (drop at s)))) (Past at n) ≡ Text len next
         → Fixed n s at len next
     go true q e =
-        let i : at < length s = ltb-true _ _ q in
+        let i : at + min n 1 ≤ length s = leb-true _ _ q in
         let a : beforeZero (take n (drop at s)) ≡ len = cc in
         let b : at + length (take n (drop at s)) ≡ next = cc in
         let l : length (take n (drop at s)) ≡ min n (length s - at) = simp (length-take, length-drop) in
@@ -228,29 +216,29 @@ fixed-text n s at len next e = go (ltb at (length s)) refl e
     go false q e = let z : _≡_ {A = ℕ} 0 1 = cc in absurd (omega arith)
 
 -- a field that holds the text t and then nothing, or a zero
-pub fixed-there : (n : ℕ) (s : List ℕ) (at : ℕ) (t z : List ℕ) → at < length s → take n (drop at s) ≡ t ++ z → beforeZero t ≡ length t → beforeZero z ≡ 0
+pub fixed-there : (n : ℕ) (s : List ℕ) (at : ℕ) (t z : List ℕ) → at + min n 1 ≤ length s → take n (drop at s) ≡ t ++ z → beforeZero t ≡ length t → beforeZero z ≡ 0
     → fixedOf n s at ≡ Text (length t) (at + min n (length s - at))
 unfolding fixedOf
 fixed-there n s at t z h e f g =
     let b : beforeZero (take n (drop at s)) ≡ length t = ap beforeZero e ∙ before-free t z f ∙ rw (g, add-zero) in
     let l : length (take n (drop at s)) ≡ min n (length s - at) = simp (length-take, length-drop) in
-    rw (lt-ltb at (length s) h, b, l)
+    rw (le-leb (at + min n 1) (length s) h, b, l)
 
 -- a field that is refused: nothing of the slice is left for it
-pub fixed-past : (n : ℕ) (s : List ℕ) (at o m : ℕ) → fixedOf n s at ≡ Past o m → (length s ≤ at) × (o ≡ at) × (m ≡ n)
+pub fixed-past : (n : ℕ) (s : List ℕ) (at o m : ℕ) → fixedOf n s at ≡ Past o m → (length s < at + min n 1) × (o ≡ at) × (m ≡ n)
 unfolding fixedOf
-fixed-past n s at o m e = go (ltb at (length s)) refl e
+fixed-past n s at o m e = go (leb (at + min n 1) (length s)) refl e
   where
-    go : (t : Bool) → ltb at (length s) ≡ t
+    go : (t : Bool) → leb (at + min n 1) (length s) ≡ t
         → pick t (Text (beforeZero (take n (drop at s))) (at + length (take n (drop at s)))) (Past at n) ≡ Past o m
-        → (length s ≤ at) × (o ≡ at) × (m ≡ n)
+        → (length s < at + min n 1) × (o ≡ at) × (m ≡ n)
     go true q e = let z : _≡_ {A = ℕ} 0 1 = cc in absurd (omega arith)
-    go false q e = (ltb-false _ _ q, cc, cc)
+    go false q e = (leb-false _ _ q, cc, cc)
 
 -- and it is never refused for want of a zero
 pub fixed-ends : (n : ℕ) (s : List ℕ) (at a : ℕ) → fixedOf n s at ≡ Unended a → ⊥
 unfolding fixedOf
-fixed-ends n s at a e = go (ltb at (length s)) e
+fixed-ends n s at a e = go (leb (at + min n 1) (length s)) e
   where
     go : (t : Bool) → pick t (Text (beforeZero (take n (drop at s))) (at + length (take n (drop at s)))) (Past at n) ≡ Unended a → ⊥
     go true e = let z : _≡_ {A = ℕ} 0 1 = cc in omega arith

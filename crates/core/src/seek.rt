@@ -1,8 +1,7 @@
 // A position that reading is to go on from.
 ghost use mathlib.Core.Path.{_≡_};
-ghost use Rattle.core.specs.Seek.{seekOf, skipOf};
+ghost use Rattle.core.specs.Seek.{seekOf};
 use crate::fill::ahead;
-use crate::number::total;
 
 // What a seek gives.
 pub enum Sought {
@@ -21,11 +20,4 @@ pub fn seek(s: &[u8], to: usize) -> Sought
         return Sought::At(to);
     }
     Sought::Past(size, excess)
-}
-
-// The position behind `n` bytes that nothing tests. It stays at the largest usize, where no slice has a byte.
-pub fn skip(at: usize, n: usize) -> usize
-    ensures { λ r. ⌜ r ≡ skipOf at n ⌝ }
-{
-    total(at, n)
 }

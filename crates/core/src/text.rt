@@ -1,13 +1,9 @@
 // Texts among bytes: where the first zero or the first fault stands, a field of fixed length, a text that ends at a zero.
 ghost use mathlib.Core.Path.{_≡_};
-ghost use mathlib.Core.Bool.{true};
 ghost use Prim.Native.Nat.{_+_, _*_, _≤_, _<_};
 ghost use lib.ListN.{length, take, drop};
-ghost use lib.Seq.{slice};
 ghost use Rattle.core.specs.Choice.{pick};
-ghost use Rattle.core.specs.Text.{beforeZero, zeroFree, firstFault, fixedOf, endedOf};
-ghost use Rattle.core.specs.Utf8.{decode};
-ghost use Rattle.core.specs.declared.text.TextAt.the-variants.{Text};
+ghost use Rattle.core.specs.Text.{beforeZero, zeroFree, firstFault, fixedOf, endedOf, plainAt};
 use crate::utf8::first_ill;
 use crate::utf8::scan::is_plain;
 
@@ -36,7 +32,8 @@ fn clear_in(text: &[u8], at: usize, n: usize) -> bool
     clear
 }
 
-// A place that no zero stands before: behind the blocks of `size` bytes from `from` on that have none.
+// A place that no zero stands before: behind the blocks of `size` bytes from `from` on that have none. Fewer than `size` bytes on, a zero or the
+// end stands; which place it is is left open, since `first_zero` finds the same zero from each.
 fn clear_blocks(text: &[u8], from: usize, size: usize) -> usize
     requires { ⌜ (0 < size) × (from ≤ beforeZero (now text)) ⌝ }
     ensures { λ r. ⌜ (from ≤ r) × (r ≤ beforeZero (now (text .entry))) × (r + size ≤ length (now (text .entry)) → beforeZero (now (text .entry)) < r + size) ⌝ }
@@ -150,13 +147,16 @@ pub fn first_fault(text: &[u8]) -> usize
 pub fn fixed_text(s: &[u8], at: usize, n: usize) -> TextAt
     ensures { λ r. ⌜ r ≡ fixedOf n (now (s .entry)) at ⌝ }
 {
-    if s.len() <= at {
+    if s.len() < at {
         return TextAt::Past(at, n);
     }
     let left = s.len() - at;
-    if n < left {
+    if n <= left {
         let end = at + n;
         return TextAt::Text(first_zero(&s[at..end]), end);
+    }
+    if left == 0 {
+        return TextAt::Past(at, n);
     }
     TextAt::Text(first_zero(&s[at..]), s.len())
 }
@@ -177,10 +177,10 @@ pub fn ended_text(s: &[u8], at: usize) -> TextAt
     }
 }
 
-// Whether the text at `at` has `n` bytes and is plain: 8 to 32 of ASCII. Of no other it is said. Where a text's length is foreseen this is one
-// test in place of a search for its zero, and the text needs no further one.
+// Whether a text of `n` bytes stands at `at` with a zero behind it, and is plain: 8 to 32 bytes of ASCII without a zero. Where a text's length is
+// foreseen this is one test in place of a search for its zero, and the text needs no further one.
 pub fn plain_text(s: &[u8], at: usize, n: usize) -> bool
-    ensures { λ r. ⌜ (r ≡ true → (at + n < length (now (s .entry))) × (endedOf (now (s .entry)) at ≡ Text n (at + n + 1)) × (decode (slice at (at + n) (now (s .entry))) ≡ slice at (at + n) (now (s .entry)))) ⌝ }
+    ensures { λ r. ⌜ r ≡ plainAt (now (s .entry)) at n ⌝ }
 {
     let size = s.len();
     if size <= at {

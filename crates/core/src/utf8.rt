@@ -1,7 +1,8 @@
 // UTF-8 by the Unicode Standard's Table 3-7: decoding with one U+FFFD for each maximal ill-formed subpart, and what is asked of a text.
 ghost use mathlib.Core.Path.{_≡_};
-ghost use mathlib.Core.Bool.{true};
-ghost use Prim.Native.Nat.{_+_, _-_, _<_, min};
+ghost use mathlib.Core.Bool.{true, _&&_};
+ghost use Prim.Native.Nat.{_+_, _-_, min};
+ghost use lib.Dec.{ltb, eqb};
 ghost use lib.ListN.{length, getD};
 ghost use lib.Seq.{sets};
 ghost use Rattle.core.specs.Choice.{pick};
@@ -45,7 +46,8 @@ fn put_replacement(out: &mut [u8], at: usize) -> usize
     at + 3
 }
 
-// Whether a short text is well-formed, by one way through the automaton.
+// Whether a short text is well-formed, by one way through the automaton. A no is left open: the caller then goes through the text as if nothing
+// had been asked.
 fn short_sound(text: &[u8], classes: &[u8; 256], rows: &[u64; 16]) -> bool
     requires { ⌜ Classes (now classes) × Rows (now rows) ⌝ }
     ensures { λ r. ⌜ (r ≡ true → sound (now (text .entry)) ≡ length (now (text .entry))) ⌝ }
@@ -100,7 +102,7 @@ pub fn well_formed(text: &[u8]) -> bool
 // A byte that begins nothing is an ill-formed subpart by itself.
 fn lone(text: &[u8], at: usize, classes: &[u8; 256]) -> bool
     requires { ⌜ Classes (now classes) ⌝ }
-    ensures { λ r. ⌜ (r ≡ true → (at < length (now (text .entry))) × (classOf (getD (now (text .entry)) at 0) ≡ 0)) ⌝ }
+    ensures { λ r. ⌜ r ≡ (ltb at (length (now (text .entry))) && eqb (classOf (getD (now (text .entry)) at 0)) 0) ⌝ }
 {
     if at < text.len() {
         let c = class_in(classes, text[at]);

@@ -2,9 +2,9 @@
 -- Assumes nothing.
 use Prim.Native.Nat.{ℕ, zero, suc, min, _+_, _-_, _*_, _<_, _≤_}
 use mathlib.Core.Path.{_≡_, refl, ap, ap₂, sym, _∙_}
-use mathlib.Core.Bool.{Bool, true, false}
-use borrow.Author.Tests.{leb-true, leb-false}
-use lib.Dec.{leb}
+use mathlib.Core.Bool.{Bool, true, false, _&&_}
+use borrow.Author.Tests.{ltb-true, eqb-true}
+use lib.Dec.{leb, ltb, eqb}
 use mathlib.Core.List.{List, [], _∷_, _++_, append-nil}
 use native.Mathlib.Nat.{add-zero, zero-add}
 use native.Mathlib.Numerals.{add-one}
@@ -14,13 +14,15 @@ use lib.Seq.{sets, slice, slice-empty, length-slice, drop-cons, drop-drop, take-
 use Rattle.core.specs.declared.utf8.step.Step.{Step}
 use Rattle.core.specs.declared.utf8.step.Step.the-variants.{Good, Bad}
 use Rattle.core.specs.Utf8.{rows, classOf, laterOf, matched, more, good, stepOf, replacement, decode, decodedSize, sound, illSize}
-use Rattle.core.specs.Text.{beforeZero, firstFault, endedOf}
+use Rattle.core.specs.Choice.{pick}
+use Rattle.core.specs.Text.{beforeZero, firstFault, every, notZero, ascii, plain, asciiSeen, isPlain, plainAt, endedOf}
 use Rattle.core.specs.declared.text.TextAt.the-variants.{Text}
 use Rattle.core.proofs.Stores.{sets-on}
-use Rattle.core.proofs.Zeros.{free-of, ended-there}
+use Rattle.core.proofs.Tests.{every-at}
+use Rattle.core.proofs.Zeros.{byte-some, free-of, ended-there}
 use Rattle.core.proofs.utf8.Steps.{matched-none, ascii-class, step-none}
 use Rattle.core.proofs.utf8.Pieces.{more-within, step-good, step-bad, decode-nil, decode-good, sound-nil, sound-good, sound-bad, ill-nil, ill-bad}
-use Rattle.core.proofs.utf8.Laws.{good-from, whole-well, decode-well, sound-le, decode-front, ill-short, ill-within, ill-or-end, decode-ill}
+use Rattle.core.proofs.utf8.Laws.{both-true, good-from, whole-well, decode-well, sound-le, decode-front, ill-short, ill-within, ill-or-end, decode-ill}
 
 -- ---- parts of a list
 
@@ -118,29 +120,26 @@ ascii-run s i (suc m) h f =
     let w : sound (drop (i + suc m) s) ≡ sound (drop (i + 1 + m) s) = rw p in
     omega (arith, a, d, g .1)
 
--- what holds of every byte of a text, by its parts
-module _ (P : ℕ → Type 0) (s : List ℕ) where
-  pub bytes-on : (i m : ℕ) → ((k : ℕ) → k < i → P (getD s k 0)) → ((k : ℕ) → k < m → P (getD s (i + k) 0)) → (k : ℕ) → k < i + m → P (getD s k 0)
-  bytes-on i m f g k h = go (leb i k) refl
-    where
-      go : (b : Bool) → leb i k ≡ b → P (getD s k 0)
-      go true e =
-          let l = leb-true i k e in
-          let q : i + (k - i) ≡ k = omega arith in
-          rw q at (g (k - i) (omega arith))
-      go false e = f k (leb-false i k e)
+-- what the tests of a byte say
+pub ascii-byte : (b : ℕ) → ascii b ≡ true → b < 128
+ascii-byte b e = ltb-true b 128 e
 
-  -- the last part may overlap the one before it
-  pub bytes-last : (i m : ℕ) → m ≤ length s → length s ≤ i + m → ((k : ℕ) → k < i → P (getD s k 0)) → ((k : ℕ) → k < m → P (getD s (length s - m + k) 0))
-      → (k : ℕ) → k < length s → P (getD s k 0)
-  bytes-last i m l e f g k h = bytes-on (length s - m) m (λ j q. f j (omega arith)) g k (omega arith)
+pub plain-byte : (b : ℕ) → plain b ≡ true → (0 < b) × (b < 128)
+plain-byte b e = let h = both-true (notZero b) (ascii b) e in (byte-some b (h .0), ascii-byte b (h .1))
 
-  pub bytes-four : (b c : ℕ) → 8 ≤ length s → length s ≤ 32 → b ≡ min 8 (length s - 8) → c ≡ min 16 (length s - 8)
-      → ((k : ℕ) → k < 8 → P (getD s (0 + k) 0)) → ((k : ℕ) → k < 8 → P (getD s (b + k) 0)) → ((k : ℕ) → k < 8 → P (getD s (c + k) 0))
-      → ((k : ℕ) → k < 8 → P (getD s (length s - 8 + k) 0)) → (k : ℕ) → k < length s → P (getD s k 0)
-  bytes-four b c l e eb ec f g h i =
-      bytes-last (c + 8) 8 l (omega arith)
-      (λ k x. bytes-on c 8 (λ j y. bytes-on b 8 (λ n z. rw zero-add at (f n (omega arith))) g j (omega arith)) h k x) i
+-- a text that is seen to be ASCII has no other byte
+pub seen-ascii : (s : List ℕ) → asciiSeen s ≡ true → (k : ℕ) → k < length s → getD s k 0 < 128
+unfolding asciiSeen
+seen-ascii s e k h = go (leb 8 (length s) && leb (length s) 32) e
+  where
+    go : (b : Bool) → every (pick b plain ascii) s ≡ true → getD s k 0 < 128
+    go true f = plain-byte _ (every-at plain s f k h) .1
+    go false f = ascii-byte _ (every-at ascii s f k h)
+
+-- and so has a plain text, and no zero
+pub plain-bytes : (t : List ℕ) → isPlain t ≡ true → (k : ℕ) → k < length t → (0 < getD t k 0) × (getD t k 0 < 128)
+unfolding isPlain
+plain-bytes t e k h = plain-byte _ (every-at plain t (both-true (leb 8 (length t) && leb (length t) 32) (every plain t) e .1) k h)
 
 -- a text that is all ASCII is its own decoding
 pub ascii-sound : (s : List ℕ) → ((j : ℕ) → j < length s → getD s j 0 < 128) → sound s ≡ length s
@@ -150,9 +149,10 @@ ascii-sound s f =
     omega (arith, r, e)
 
 -- a text of ASCII without a zero has no fault
-pub plain-fault : (s : List ℕ) → ((k : ℕ) → k < length s → (0 < getD s k 0) × (getD s k 0 < 128)) → length s ≡ firstFault s
+pub plain-fault : (s : List ℕ) → isPlain s ≡ true → length s ≡ firstFault s
 unfolding firstFault
-plain-fault s f =
+plain-fault s e =
+    let f = plain-bytes s e in
     let z = free-of s (λ k h e. let p = f k h .0 in omega (arith, p, e)) in
     let a = ascii-sound s (λ k h. f k h .1) in
     omega (arith, z, a)
@@ -264,19 +264,28 @@ sets-run s out o i end skip part m n p q r h es em ep en eq =
 pub part-is : (i end : ℕ) (s : List ℕ) → i ≤ end → take (end - i) (drop i s) ≡ slice i end s
 part-is i end s h = let e : i + (end - i) ≡ end = omega arith in take-drop i (end - i) s ∙ ap (λ (n : ℕ). slice i n s) e
 
--- a text of ASCII without a zero, and a zero behind it
-pub plain-ended : (s : List ℕ) (at n : ℕ) → at + n < length s → getD s (at + n) 0 ≡ 0
-    → ((k : ℕ) → k < length (slice at (at + n) s) → (0 < getD (slice at (at + n) s) k 0) × (getD (slice at (at + n) s) k 0 < 128))
-    → (endedOf s at ≡ Text n (at + n + 1)) × (decode (slice at (at + n) s) ≡ slice at (at + n) s)
-plain-ended s at n h z f =
+-- a plain text at a position, with a zero behind it: the text that ends there, and it is shown as it is
+pub record PlainText (s : List ℕ) (at n : ℕ) : Type 0 where
+  pub fits : at + n < length s
+  pub ended : endedOf s at ≡ Text n (at + n + 1)
+  pub shown : decode (slice at (at + n) s) ≡ slice at (at + n) s
+
+pub plain-text : (s : List ℕ) (at n : ℕ) → plainAt s at n ≡ true → PlainText s at n
+unfolding plainAt
+plain-text s at n e =
     let t : List ℕ = slice at (at + n) s in
+    let u = both-true (ltb (at + n) (length s) && eqb (getD s (at + n) 0) 0) (isPlain t) e in
+    let v = both-true (ltb (at + n) (length s)) (eqb (getD s (at + n) 0) 0) (u .0) in
+    let h = ltb-true (at + n) (length s) (v .0) in
+    let f = plain-bytes t (u .1) in
     let l : length t ≡ n = length-slice at (at + n) s (omega arith) ∙ omega arith in
     let m : n ≡ at + n - at = omega arith in
     let p : take n (drop at s) ≡ t = ap (λ (k : ℕ). take k (drop at s)) m ∙ part-is at (at + n) s (omega arith) in
     let d : drop at s ≡ t ++ 0 ∷ drop (suc (at + n)) s =
-    sym (take-append-drop n (drop at s)) ∙ ap₂ (λ (a b : List ℕ). a ++ b) p (drop-drop n at s ∙ drop-cons s (at + n) 0 h ∙ ap (λ (b : ℕ). b ∷ drop (suc (at + n)) s) z) in
+    sym (take-append-drop n (drop at s))
+    ∙ ap₂ (λ (a b : List ℕ). a ++ b) p (drop-drop n at s ∙ drop-cons s (at + n) 0 h ∙ ap (λ (b : ℕ). b ∷ drop (suc (at + n)) s) (eqb-true _ _ (v .1))) in
     let b : beforeZero t ≡ length t = free-of t (λ k m e. let q = f k m .0 in omega (arith, q, e)) in
-    (rw l at (ended-there s at t (drop (suc (at + n)) s) d b), ascii-decode t (λ k m. f k m .1))
+    record { fits = h; ended = rw l at (ended-there s at t (drop (suc (at + n)) s) d b); shown = ascii-decode t (λ k m. f k m .1) }
 
 -- ---- the same for one step at a time
 
@@ -292,8 +301,10 @@ pub run-bad : (s : List ℕ) (i k : ℕ) → BadAt s i k → RunAt s i i k
 run-bad s i k b = run-at s i i k (omega (arith, b .reach)) (omega (arith, b .here)) (b .size)
 
 -- and so is a byte that begins nothing
-pub lone-bad : (s : List ℕ) (i : ℕ) → (i < length s) × (classOf (getD s i 0) ≡ 0) → BadAt s i 1
-lone-bad s i h = bad-at s i 1 (h .0) (Bad 1) (step-none _ _ (h .1)) refl
+pub lone-bad : (s : List ℕ) (i : ℕ) → ltb i (length s) && eqb (classOf (getD s i 0)) 0 ≡ true → BadAt s i 1
+lone-bad s i e =
+    let h = both-true (ltb i (length s)) (eqb (classOf (getD s i 0)) 0) e in
+    bad-at s i 1 (ltb-true _ _ (h .0)) (Bad 1) (step-none _ _ (eqb-true _ _ (h .1))) refl
 
 pub counted-end : (s : List ℕ) (i grown : ℕ) → Counted s i grown → length s ≤ i → length s + grown ≡ length (decode s)
 counted-end s i grown c h =

@@ -1,10 +1,12 @@
 // ASCII, and the characters from a position on, up to the first ill-formed subpart.
 ghost use mathlib.Core.Path.{_≡_};
-ghost use mathlib.Core.Bool.{true};
-ghost use Prim.Native.Nat.{ℕ, _+_, _≤_, _<_, max};
-ghost use lib.ListN.{length, getD, drop};
+ghost use mathlib.Core.Bool.{_&&_};
+ghost use Prim.Native.Nat.{_+_, _%_, _≤_, _<_, min, max};
+ghost use lib.Dec.{eqb};
+ghost use lib.ListN.{length, take, drop};
+ghost use Rattle.core.specs.Text.{every, ascii, plain, asciiSeen, isPlain};
 ghost use Rattle.core.specs.Utf8.{Classes, sound, illSize};
-ghost use Rattle.core.specs.Flow.{stateOf, Rows, Flow};
+ghost use Rattle.core.specs.Flow.{Rows, Flow};
 use crate::fill::least;
 use crate::utf8::flow::flow_over;
 use crate::utf8::flow::next_state;
@@ -18,7 +20,7 @@ pub struct Run {
 // Whether the `n` bytes from `at` on are ASCII. There is no test on the way, so that the loop runs on whole vectors where `n` is a constant.
 fn ascii_in(s: &[u8], at: usize, n: usize) -> bool
     requires { ⌜ at + n ≤ length (now s) ⌝ }
-    ensures { λ r. ⌜ (r ≡ true → (k : ℕ) → k < n → getD (now (s .entry)) (at + k) 0 < 128) ⌝ }
+    ensures { λ r. ⌜ r ≡ every ascii (take n (drop at (now (s .entry)))) ⌝ }
 {
     let mut all = true;
     let mut k = 0;
@@ -33,7 +35,7 @@ fn ascii_in(s: &[u8], at: usize, n: usize) -> bool
 // zero has no other.
 fn plain_in(s: &[u8], at: usize, n: usize) -> bool
     requires { ⌜ at + n ≤ length (now s) ⌝ }
-    ensures { λ r. ⌜ (r ≡ true → (k : ℕ) → k < n → (0 < getD (now (s .entry)) (at + k) 0) × (getD (now (s .entry)) (at + k) 0 < 128)) ⌝ }
+    ensures { λ r. ⌜ r ≡ every plain (take n (drop at (now (s .entry)))) ⌝ }
 {
     let mut all = true;
     let mut k = 0;
@@ -48,7 +50,7 @@ fn plain_in(s: &[u8], at: usize, n: usize) -> bool
 // Whether a whole text of 32 bytes or more is ASCII, by blocks of which the last may overlap the one before it.
 fn ascii_long(s: &[u8]) -> bool
     requires { ⌜ 32 ≤ length (now s) ⌝ }
-    ensures { λ r. ⌜ (r ≡ true → (k : ℕ) → k < length (now (s .entry)) → getD (now (s .entry)) k 0 < 128) ⌝ }
+    ensures { λ r. ⌜ r ≡ every ascii (now (s .entry)) ⌝ }
 {
     let n = s.len();
     let mut i = 0;
@@ -66,7 +68,7 @@ fn ascii_long(s: &[u8]) -> bool
 // to foresee.
 fn plain_four(s: &[u8]) -> bool
     requires { ⌜ (8 ≤ length (now s)) × (length (now s) ≤ 32) ⌝ }
-    ensures { λ r. ⌜ (r ≡ true → (k : ℕ) → k < length (now (s .entry)) → (0 < getD (now (s .entry)) k 0) × (getD (now (s .entry)) k 0 < 128)) ⌝ }
+    ensures { λ r. ⌜ r ≡ every plain (now (s .entry)) ⌝ }
 {
     let last = s.len() - 8;
     let a = plain_in(s, 0, 8);
@@ -76,11 +78,10 @@ fn plain_four(s: &[u8]) -> bool
     a & b & c & d
 }
 
-// Whether a text is ASCII. Only a yes promises something: a no is also said of a text of 8 to 32 bytes that is ASCII and has a zero, and the
-// caller then takes the way that is right for every text.
+// Whether a text is seen to be ASCII. A no is also said of a text of 8 to 32 bytes that is ASCII and has a zero, and the caller then takes the way
+// that is right for every text.
 pub(crate) fn is_ascii(s: &[u8]) -> bool
-    ensures { λ r. ⌜ (r ≡ true → (k : ℕ) → k < length (now (s .entry)) → getD (now (s .entry)) k 0 < 128)
-        × (r ≡ true → 8 ≤ length (now (s .entry)) → length (now (s .entry)) ≤ 32 → (k : ℕ) → k < length (now (s .entry)) → 0 < getD (now (s .entry)) k 0) ⌝ }
+    ensures { λ r. ⌜ r ≡ asciiSeen (now (s .entry)) ⌝ }
 {
     let n = s.len();
     if n < 8 {
@@ -92,9 +93,9 @@ pub(crate) fn is_ascii(s: &[u8]) -> bool
     ascii_long(s)
 }
 
-// Whether a text of 8 to 32 bytes is ASCII and without a zero; of no other it is said. It asks `is_ascii`, so that this stays one function.
+// Whether a text has 8 to 32 bytes and is ASCII without a zero. It asks `is_ascii`, so that this stays one function.
 pub(crate) fn is_plain(s: &[u8]) -> bool
-    ensures { λ r. ⌜ (r ≡ true → (k : ℕ) → k < length (now (s .entry)) → (0 < getD (now (s .entry)) k 0) × (getD (now (s .entry)) k 0 < 128)) ⌝ }
+    ensures { λ r. ⌜ r ≡ isPlain (now (s .entry)) ⌝ }
 {
     let n = s.len();
     if n < 8 {
@@ -109,7 +110,7 @@ pub(crate) fn is_plain(s: &[u8]) -> bool
 // Whether the 32 bytes from `at` on can be passed as they are: between two characters, where they are ASCII.
 fn plain_block(s: &[u8], at: usize, state: u64) -> bool
     requires { ⌜ at + 32 ≤ length (now s) ⌝ }
-    ensures { λ r. ⌜ (r ≡ true → (stateOf state ≡ 0) × ((k : ℕ) → k < 32 → getD (now (s .entry)) (at + k) 0 < 128)) ⌝ }
+    ensures { λ r. ⌜ r ≡ (eqb (state % 64) 0 && every ascii (take 32 (drop at (now (s .entry))))) ⌝ }
 {
     if state % 64 == 0 {
         ascii_in(s, at, 32)
@@ -118,7 +119,8 @@ fn plain_block(s: &[u8], at: usize, state: u64) -> bool
     }
 }
 
-// The end of the text where the automaton comes to it between two characters, or `good`.
+// The end of the text where the automaton comes to it between two characters, or `good`. Which of the two is left open: from either it is as far
+// to the first ill-formed subpart.
 fn last_block(
     s: &[u8],
     good: usize,
@@ -138,7 +140,8 @@ fn last_block(
     good
 }
 
-// Whole characters, 32 bytes at a time, as far as that goes. `good` is the last end of a block that stands between two characters.
+// Whole characters, 32 bytes at a time, as far as that goes. `good` is the last end of a block that stands between two characters. How far it goes
+// is left open: the caller walks on from there, byte by byte.
 fn blocks(s: &[u8], from: usize, classes: &[u8; 256], rows: &[u64; 16]) -> usize
     requires { ⌜ (from ≤ length (now s)) × Classes (now classes) × Rows (now rows) ⌝ }
     ensures { λ r. ⌜ (from ≤ r) × (r ≤ length (now (s .entry))) × (r + sound (drop r (now (s .entry))) ≡ from + sound (drop from (now (s .entry)))) ⌝ }
@@ -216,7 +219,7 @@ fn far_run(s: &[u8], from: usize, classes: &[u8; 256], rows: &[u64; 16]) -> Run
 // A place eight bytes on, or the end.
 fn near(from: usize, size: usize) -> usize
     requires { ⌜ from ≤ size ⌝ }
-    ensures { λ r. ⌜ (from ≤ r) × (r ≤ size) ⌝ }
+    ensures { λ r. ⌜ r ≡ min (from + 8) size ⌝ }
 {
     if size - from < 8 { size } else { from + 8 }
 }

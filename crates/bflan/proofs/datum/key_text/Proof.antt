@@ -9,8 +9,8 @@ use borrow.Author.Needs.{needs}
 use Rattle.bflan.proofs.datum.key_text.Statement.{statement}
 use Rattle.bflan.proofs.datum.key_text.Tie as tie
 
-read-u32-requires : tie.Need-read-u32-requires
-read-u32-requires c κs = search needs
+u32-at-requires : tie.Need-u32-at-requires
+u32-at-requires c κs = search needs
 
 enum-known-offset : tie.Need-enum-known-offset
 enum-known-offset c = search needs
@@ -20,7 +20,7 @@ cast-text-at c = search needs
 
 add-text-at : tie.Need-add-text-at
 add-text-at c =
-    let g = read-value _ _ _ _ _ (sym (c .before .before .before .read-u32 .ensures) ∙ c .before .offset .given .1) in
+    let g = read-value _ _ _ _ _ (sym (c .before .before .before .u32-at .ensures) ∙ c .before .offset .given .1) in
     omega (arith, g .fits, c .before .before .before .before .before .before .before .pre)
 
 text-at-requires : tie.Need-text-at-requires
@@ -37,17 +37,17 @@ same-length-2 c = search needs
 
 returns : tie.Need-returns
 returns c =
-    let d = key-on _ _ _ _ (sym (c .before .before .before .before .before .before .before .before .before .before .read-u32 .ensures) ∙ c .before .before .before .before .before .before .before .before .offset .given .1) in
+    let d = key-on _ _ _ _ (sym (c .before .before .before .before .before .before .before .before .before .before .u32-at .ensures) ∙ c .before .before .before .before .before .before .before .before .offset .given .1) in
     rw d (c .before .before .before .before .text-at .ensures _)
 
 returns-2 : tie.Need-returns-2
-returns-2 c = let d = key-past _ _ _ _ (sym (c .before .before .before .read-u32 .ensures) ∙ c .before .o .given .1) in rw d (told-stop _ _ _ _ _ _ _)
+returns-2 c = let d = key-past _ _ _ _ (sym (c .before .before .before .u32-at .ensures) ∙ c .before .o .given .1) in rw d (told-stop _ _ _ _ _ _ _)
 
 pub key-text-spec : {M : Type 1} → statement M
 key-text-spec =
     tie.close
     (tie.spec
-    read-u32-requires
+    u32-at-requires
     enum-known-offset
     cast-text-at
     add-text-at

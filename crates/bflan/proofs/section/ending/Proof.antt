@@ -19,8 +19,8 @@ enum-known-f c = search needs
 enum-known-u : tie.Need-enum-known-u
 enum-known-u c = search needs
 
-seek-requires : tie.Need-seek-requires
-seek-requires c κs = search needs
+seek-to-requires : tie.Need-seek-to-requires
+seek-to-requires c κs = search needs
 
 enum-known-q : tie.Need-enum-known-q
 enum-known-q c = search needs
@@ -50,7 +50,7 @@ returns-2 : tie.Need-returns-2
 returns-2 c = λ i.
     let hw : length (now (c .before .before .before .before .before .before .before .before .before .before .before .before .before .before .before .before .before .args .words)) ≤ 18446744073709551615 = omega (arith, c .before .before .before .before .before .before .before .before .before .before .before .before .before .before .before .before .before .good) in
     let hx : length (now (c .before .before .before .before .before .before .before .before .before .before .before .before .before .before .before .before .before .args .texts)) ≤ 18446744073709551615 = omega (arith, c .before .before .before .before .before .before .before .before .before .before .before .before .before .before .before .before .before .good) in
-    ending-on (now (c .before .before .before .before .before .before .before .before .before .before .before .before .before .before .before .before .before .args .s)) (c .before .before .before .before .before .before .before .before .before .before .before .before .before .before .before .before .before .args .t) (now (c .before .before .before .before .before .before .before .before .before .before .before .before .before .before .before .before .before .args .words)) (now (c .before .before .before .before .before .before .before .before .before .before .before .before .before .before .before .before .before .args .texts)) (c .before .before .before .before .before .before .before .before .before .before .before .before .before .before .before .before .before .args .size) (c .before .before .before .before .before .before .before .before .before .before .before .before .before .before .before .before .before .args .table) (c .before .before .before .before .before .before .before .before .before .before .before .before .before .before .before .before .before .args .n) i hw hx _ _ _ (c .before .before .before .before .before .before .before .before .before .before .before .contents-of .ensures i) _ _ _ (c .before .before .before .before .before .u .given .1) (sym (c .before .before .before .seek .ensures) ∙ c .before .q .given .1)
+    ending-on (now (c .before .before .before .before .before .before .before .before .before .before .before .before .before .before .before .before .before .args .s)) (c .before .before .before .before .before .before .before .before .before .before .before .before .before .before .before .before .before .args .t) (now (c .before .before .before .before .before .before .before .before .before .before .before .before .before .before .before .before .before .args .words)) (now (c .before .before .before .before .before .before .before .before .before .before .before .before .before .before .before .before .before .args .texts)) (c .before .before .before .before .before .before .before .before .before .before .before .before .before .before .before .before .before .args .size) (c .before .before .before .before .before .before .before .before .before .before .before .before .before .before .before .before .before .args .table) (c .before .before .before .before .before .before .before .before .before .before .before .before .before .before .before .before .before .args .n) i hw hx _ _ _ (c .before .before .before .before .before .before .before .before .before .before .before .contents-of .ensures i) _ _ _ (c .before .before .before .before .before .u .given .1) (sym (c .before .before .before .seek-to .ensures) ∙ c .before .q .given .1)
 
 same-length-5 : tie.Need-same-length-5
 same-length-5 c = search needs
@@ -62,7 +62,7 @@ returns-3 : tie.Need-returns-3
 returns-3 c = λ i.
     let hw : length (now (c .before .before .before .before .before .before .before .before .before .before .before .before .before .before .before .before .before .args .words)) ≤ 18446744073709551615 = omega (arith, c .before .before .before .before .before .before .before .before .before .before .before .before .before .before .before .before .before .good) in
     let hx : length (now (c .before .before .before .before .before .before .before .before .before .before .before .before .before .before .before .before .before .args .texts)) ≤ 18446744073709551615 = omega (arith, c .before .before .before .before .before .before .before .before .before .before .before .before .before .before .before .before .before .good) in
-    ending-past (now (c .before .before .before .before .before .before .before .before .before .before .before .before .before .before .before .before .before .args .s)) (c .before .before .before .before .before .before .before .before .before .before .before .before .before .before .before .before .before .args .t) (now (c .before .before .before .before .before .before .before .before .before .before .before .before .before .before .before .before .before .args .words)) (now (c .before .before .before .before .before .before .before .before .before .before .before .before .before .before .before .before .before .args .texts)) (c .before .before .before .before .before .before .before .before .before .before .before .before .before .before .before .before .before .args .size) (c .before .before .before .before .before .before .before .before .before .before .before .before .before .before .before .before .before .args .table) (c .before .before .before .before .before .before .before .before .before .before .before .before .before .before .before .before .before .args .n) i hw hx _ _ _ (c .before .before .before .before .before .before .before .before .before .before .before .contents-of .ensures i) _ _ _ _ _ _ (c .before .before .before .before .before .u .given .1) (sym (c .before .before .before .seek .ensures) ∙ c .before .offset .given .1)
+    ending-past (now (c .before .before .before .before .before .before .before .before .before .before .before .before .before .before .before .before .before .args .s)) (c .before .before .before .before .before .before .before .before .before .before .before .before .before .before .before .before .before .args .t) (now (c .before .before .before .before .before .before .before .before .before .before .before .before .before .before .before .before .before .args .words)) (now (c .before .before .before .before .before .before .before .before .before .before .before .before .before .before .before .before .before .args .texts)) (c .before .before .before .before .before .before .before .before .before .before .before .before .before .before .before .before .before .args .size) (c .before .before .before .before .before .before .before .before .before .before .before .before .before .before .before .before .before .args .table) (c .before .before .before .before .before .before .before .before .before .before .before .before .before .before .before .before .before .args .n) i hw hx _ _ _ (c .before .before .before .before .before .before .before .before .before .before .before .contents-of .ensures i) _ _ _ _ _ _ (c .before .before .before .before .before .u .given .1) (sym (c .before .before .before .seek-to .ensures) ∙ c .before .offset .given .1)
 
 pub ending-spec : {M : Type 1} → statement M
 ending-spec =
@@ -71,7 +71,7 @@ ending-spec =
     contents-of-requires
     enum-known-f
     enum-known-u
-    seek-requires
+    seek-to-requires
     enum-known-q
     enum-known-offset
     same-length

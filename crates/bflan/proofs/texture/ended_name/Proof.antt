@@ -12,8 +12,8 @@ use borrow.Author.Needs.{needs}
 use Rattle.bflan.proofs.texture.ended_name.Statement.{statement}
 use Rattle.bflan.proofs.texture.ended_name.Tie as tie
 
-ended-text-requires : tie.Need-ended-text-requires
-ended-text-requires c κs = search needs
+null-terminated-string-at-requires : tie.Need-null-terminated-string-at-requires
+null-terminated-string-at-requires c κs = search needs
 
 enum-known-len : tie.Need-enum-known-len
 enum-known-len c = search needs
@@ -26,20 +26,20 @@ enum-known-from c = search needs
 
 returns : tie.Need-returns
 returns c =
-    let t = ended-text _ _ _ _ (sym (c .before .before .before .ended-text .ensures) ∙ c .before .len .given .1) in
-    (sym (ended-on _ _ _ _ (sym (c .before .before .before .ended-text .ensures) ∙ c .before .len .given .1)), omega (arith, t .fits, t .after), λ e. absurd (true≢false (sym e)))
+    let t = ended-text _ _ _ _ (sym (c .before .before .before .null-terminated-string-at .ensures) ∙ c .before .len .given .1) in
+    (sym (ended-on _ _ _ _ (sym (c .before .before .before .null-terminated-string-at .ensures) ∙ c .before .len .given .1)), omega (arith, t .fits, t .after), λ e. absurd (true≢false (sym e)))
 
 returns-2 : tie.Need-returns-2
-returns-2 c = let h : 0 ≤ length (now (c .before .before .before .before .before .args .s)) = omega arith in (sym (ended-past _ _ _ _ (sym (c .before .before .before .ended-text .ensures) ∙ c .before .offset .given .1)), h, tt)
+returns-2 c = let h : 0 ≤ length (now (c .before .before .before .before .before .args .s)) = omega arith in (sym (ended-past _ _ _ _ (sym (c .before .before .before .null-terminated-string-at .ensures) ∙ c .before .offset .given .1)), h, tt)
 
 returns-3 : tie.Need-returns-3
-returns-3 c = let h : 0 ≤ length (now (c .before .before .before .before .before .args .s)) = omega arith in (sym (ended-none _ _ _ (sym (c .before .before .before .ended-text .ensures) ∙ c .before .from .given .1)), h, tt)
+returns-3 c = let h : 0 ≤ length (now (c .before .before .before .before .before .args .s)) = omega arith in (sym (ended-none _ _ _ (sym (c .before .before .before .null-terminated-string-at .ensures) ∙ c .before .from .given .1)), h, tt)
 
 pub ended-name-spec : {M : Type 1} → statement M
 ended-name-spec =
     tie.close
     (tie.spec
-    ended-text-requires
+    null-terminated-string-at-requires
     enum-known-len
     enum-known-offset
     enum-known-from

@@ -8,19 +8,20 @@ use mathlib.Core.Path.{sym, _∙_}
 use native.Mathlib.Omega.{arith}
 use denote.Ref.{now}
 use lib.ListN.{length}
+use Rattle.core.proofs.utf8.Turns.{plain-text}
 use Rattle.bflan.proofs.Emits.{texture-on, texture-past, texture-plain}
 
 plain-text-requires : tie.Need-plain-text-requires
 plain-text-requires c κs = search needs
 
 add-t8 : tie.Need-add-t8
-add-t8 c = let p = c .before .plain-text .ensures (c .if1 .taken) in omega (arith, p .0)
+add-t8 c = let p = plain-text _ _ _ (sym (c .before .plain-text .ensures) ∙ c .if1 .taken) in omega (arith, p .fits)
 
 add-t9 : tie.Need-add-t9
-add-t9 c = let p = c .before .plain-text .ensures (c .if1 .taken) in omega (arith, p .0)
+add-t9 c = let p = plain-text _ _ _ (sym (c .before .plain-text .ensures) ∙ c .if1 .taken) in omega (arith, p .fits)
 
 returns : tie.Need-returns
-returns c = let p = c .before .plain-text .ensures (c .if1 .taken) in (λ i. sym (texture-plain _ _ i _ (p .0) (p .1)), omega (arith, p .0), λ e. p .2)
+returns c = let p = plain-text _ _ _ (sym (c .before .plain-text .ensures) ∙ c .if1 .taken) in (λ i. sym (texture-plain _ _ i _ (p .fits) (p .ended)), omega (arith, p .fits), λ e. p .shown)
 
 seek-requires : tie.Need-seek-requires
 seek-requires c κs = search needs

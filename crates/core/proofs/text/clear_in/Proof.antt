@@ -7,8 +7,8 @@ use native.Mathlib.Nat.{add-zero, sub-zero}
 use native.Mathlib.Omega.{arith}
 use denote.Ref.{now}
 use lib.ListN.{take, drop}
-use Rattle.core.specs.Text.{zeroFree}
-use Rattle.core.proofs.Zeros.{clear-turn, clear-done}
+use Rattle.core.specs.Text.{notZero, zeroFree}
+use Rattle.core.proofs.Tests.{every-turn, every-done}
 use borrow.Author.Needs.{needs}
 use Rattle.core.proofs.text.clear_in.Statement.{statement}
 use Rattle.core.proofs.text.clear_in.Tie as tie
@@ -35,10 +35,12 @@ loop-less : tie.Need-loop-less Inv-loop μ-loop
 loop-less c = search needs
 
 loop-again : tie.Need-loop-again Inv-loop μ-loop
-loop-again c = (omega arith, clear-turn (now (c .before .before .before .args .text)) (c .before .before .before .args .at) (c .before .before .before .args .n) (c .before .before .loop .i) (c .before .before .loop .clear) _ (c .before .before .before .pre) (c .before .loop-test .taken) (c .before .before .loop .inv .1))
+unfolding zeroFree
+loop-again c = (omega arith, every-turn notZero (now (c .before .before .before .args .text)) (c .before .before .before .args .at) (c .before .before .before .args .n) (c .before .before .loop .i) (c .before .before .loop .clear) _ (c .before .before .before .pre) (c .before .loop-test .taken) (c .before .before .loop .inv .1))
 
 returns : tie.Need-returns Inv-loop μ-loop
-returns c = clear-done (drop (c .before .before .args .at + c .before .loop .i) (now (c .before .before .args .text))) (c .before .before .args .n) (c .before .loop .i) (c .before .loop .clear) _ (c .loop-test .left) (c .before .loop .inv .1)
+unfolding zeroFree
+returns c = every-done notZero (drop (c .before .before .args .at + c .before .loop .i) (now (c .before .before .args .text))) (c .before .before .args .n) (c .before .loop .i) (c .before .loop .clear) _ (c .loop-test .left) (c .before .loop .inv .1)
 
 pub clear-in-spec : {M : Type 1} → statement M
 clear-in-spec =

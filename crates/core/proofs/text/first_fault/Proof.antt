@@ -3,6 +3,7 @@
 use borrow.Author.Needs.{needs}
 use Rattle.core.proofs.text.first_fault.Statement.{statement}
 use Rattle.core.proofs.text.first_fault.Tie as tie
+use mathlib.Core.Path.{sym, _∙_}
 use native.Mathlib.Omega.{arith}
 use Rattle.core.specs.Text.{firstFault}
 use Rattle.core.proofs.utf8.Turns.{plain-fault}
@@ -11,7 +12,7 @@ is-plain-requires : tie.Need-is-plain-requires
 is-plain-requires c κs = search needs
 
 returns : tie.Need-returns
-returns c = plain-fault _ (c .before .is-plain .ensures (c .if1 .taken))
+returns c = plain-fault _ (sym (c .before .is-plain .ensures) ∙ c .if1 .taken)
 
 first-zero-requires : tie.Need-first-zero-requires
 first-zero-requires c κs = search needs

@@ -1,25 +1,39 @@
 -- `text::plain_text` meets its contract.
 -- Assumes nothing.
-use borrow.Author.Needs.{needs}
-use Rattle.core.proofs.text.plain_text.Statement.{statement}
-use Rattle.core.proofs.text.plain_text.Tie as tie
-use Prim.Native.Nat.{ℕ, _+_, _<_}
-use mathlib.Core.Path.{_≡_, sym}
-use mathlib.Core.Bool.{true≢false}
+use Prim.Native.Nat.{ℕ, _+_, _-_, _<_, _≤_}
+use mathlib.Core.Path.{_≡_, refl, sym, ap, _∙_}
+use mathlib.Core.Bool.{Bool, false}
 use mathlib.Core.List.{List}
 use native.Mathlib.Omega.{arith}
-use denote.Ref.{now}
-use lib.ListN.{length, getD}
-use Rattle.core.proofs.utf8.Turns.{part-is, plain-ended}
+use borrow.Author.Needs.{needs}
+use borrow.Author.Tests.{eq-eqb, ne-eqb, lt-ltb, le-ltb}
+use lib.ListN.{length, getD, take, drop}
+use Rattle.core.specs.Text.{isPlain, plainAt}
+use Rattle.core.proofs.utf8.Turns.{part-is}
+use Rattle.core.proofs.text.plain_text.Statement.{statement}
+use Rattle.core.proofs.text.plain_text.Tie as tie
+
+module _ (s : List ℕ) (at n : ℕ) where
+  over : length s ≤ at + n → false ≡ plainAt s at n
+  unfolding plainAt
+  over h = rw (le-ltb (at + n) (length s) h)
+
+  other : at + n < length s → (getD s (at + n) 0 ≡ 0 → ⊥) → false ≡ plainAt s at n
+  unfolding plainAt
+  other h e = rw (lt-ltb (at + n) (length s) h, ne-eqb _ _ e)
+
+  there : (r : Bool) → at + n < length s → getD s (at + n) 0 ≡ 0 → r ≡ isPlain (take (at + n - at) (drop at s)) → r ≡ plainAt s at n
+  unfolding plainAt
+  there r h e p = rw (lt-ltb (at + n) (length s) h, eq-eqb _ _ e) (p ∙ ap isPlain (part-is at (at + n) s (omega arith)))
 
 returns : tie.Need-returns
-returns c = λ e. absurd (true≢false (sym e))
+returns c = over _ _ _ (omega arith)
 
 sub-if2 : tie.Need-sub-if2
 sub-if2 c = search needs
 
 returns-2 : tie.Need-returns-2
-returns-2 c = λ e. absurd (true≢false (sym e))
+returns-2 c = over _ _ _ (omega arith)
 
 add-zero : tie.Need-add-zero
 add-zero c = search needs
@@ -28,7 +42,7 @@ shared-slice-read-if3 : tie.Need-shared-slice-read-if3
 shared-slice-read-if3 c = search needs
 
 returns-3 : tie.Need-returns-3
-returns-3 c = λ e. absurd (true≢false (sym e))
+returns-3 c = other _ _ _ (omega arith) (c .if3 .taken)
 
 sub-is-plain : tie.Need-sub-is-plain
 sub-is-plain c = search needs
@@ -43,14 +57,7 @@ is-plain-requires : tie.Need-is-plain-requires
 is-plain-requires c κs = search needs
 
 returns-4 : tie.Need-returns-4
-returns-4 c = λ e.
-    let s = now (c .before .before .before .before .before .before .before .args .s) in
-    let at = c .before .before .before .before .before .before .before .args .at in
-    let n = c .before .before .before .before .before .before .before .args .n in
-    let h : at + n < length s = omega (arith, c .before .before .before .before .before .if1 .left, c .before .before .before .before .if2 .left) in
-    let f = c .is-plain .ensures e in
-    let p = plain-ended s at n h (c .before .before .if3 .left) (rw (part-is at (at + n) s (omega arith)) at f) in
-    (h, p .0, p .1)
+returns-4 c = there _ _ _ _ (omega (arith, c .before .before .before .before .before .if1 .left, c .before .before .before .before .if2 .left)) (c .before .before .if3 .left) (c .is-plain .ensures)
 
 pub plain-text-spec : {M : Type 1} → statement M
 plain-text-spec =

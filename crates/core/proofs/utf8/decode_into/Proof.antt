@@ -6,7 +6,7 @@ use Prim.Native.Nat.{ℕ}
 use native.Mathlib.Omega.{arith}
 use denote.Ref.{now}
 use lib.Seq.{sets}
-use Rattle.core.proofs.utf8.Turns.{ascii-decode, ascii-size}
+use Rattle.core.proofs.utf8.Turns.{seen-ascii, ascii-decode, ascii-size}
 use borrow.Author.Needs.{needs}
 use Rattle.core.proofs.utf8.decode_into.Statement.{statement}
 use Rattle.core.proofs.utf8.decode_into.Tie as tie
@@ -22,7 +22,7 @@ same-length c = search needs
 
 returns : tie.Need-returns
 returns c =
-    let f = c .before .before .before .before .before .is-ascii .ensures .0 (c .before .before .before .before .if1 .taken) in
+    let f = seen-ascii _ (sym (c .before .before .before .before .before .is-ascii .ensures) ∙ c .before .before .before .before .if1 .taken) in
     (ascii-size _ (omega (arith, c .before .before .before .before .before .before .before .before .good)) f, c .before .before .copy .ensures ∙ ap (λ (l : List ℕ). sets (now (c .before .before .before .before .before .before .before .before .args .out)) (c .before .before .before .before .before .before .before .before .args .at) l) (sym (ascii-decode _ f)))
 
 decode-mixed-requires : tie.Need-decode-mixed-requires

@@ -20,7 +20,7 @@ abbrev μ-loop : tie.MeasureT-loop
 μ-loop text out₀ at classes rows i₀ o₀ grown₀ out i o grown = length text - i
 
 bad : (c : tie.Then1 Inv-loop μ-loop) → BadAt (now (c .before .before .before .before .before .args .text)) (c .before .before .loop .i) 1
-bad c = lone-bad _ _ (c .before .lone .ensures (c .if1 .taken))
+bad c = lone-bad _ _ (sym (c .before .lone .ensures) ∙ c .if1 .taken)
 
 run : (c : tie.After-next-run Inv-loop μ-loop) → RunAt (now (c .before .before .before .before .before .before .args .text)) (c .before .before .before .loop .i) (c .next-run .result .end) (c .next-run .result .skip)
 run c = run-at _ _ _ _ (c .before .before .before .loop .inv .0 .0) (c .next-run .ensures .0) (c .next-run .ensures .1)

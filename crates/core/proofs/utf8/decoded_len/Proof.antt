@@ -1,7 +1,8 @@
 -- `utf8::decoded_len` meets its contract.
 -- Assumes nothing.
+use mathlib.Core.Path.{sym, _∙_}
 use native.Mathlib.Omega.{arith}
-use Rattle.core.proofs.utf8.Turns.{ascii-size}
+use Rattle.core.proofs.utf8.Turns.{seen-ascii, ascii-size}
 use borrow.Author.Needs.{needs}
 use Rattle.core.proofs.utf8.decoded_len.Statement.{statement}
 use Rattle.core.proofs.utf8.decoded_len.Tie as tie
@@ -10,7 +11,7 @@ is-ascii-requires : tie.Need-is-ascii-requires
 is-ascii-requires c κs = search needs
 
 returns : tie.Need-returns
-returns c = ascii-size _ (omega (arith, c .before .before .before .good)) (c .before .is-ascii .ensures .0 (c .if1 .taken))
+returns c = ascii-size _ (omega (arith, c .before .before .before .good)) (seen-ascii _ (sym (c .before .is-ascii .ensures) ∙ c .if1 .taken))
 
 slice-aggregate-decode-mixed : tie.Need-slice-aggregate-decode-mixed
 slice-aggregate-decode-mixed c = search needs

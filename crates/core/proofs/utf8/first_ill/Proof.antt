@@ -1,7 +1,7 @@
 -- `utf8::first_ill` meets its contract.
 -- Assumes nothing.
-use mathlib.Core.Path.{sym}
-use Rattle.core.proofs.utf8.Turns.{ascii-sound}
+use mathlib.Core.Path.{sym, _∙_}
+use Rattle.core.proofs.utf8.Turns.{seen-ascii, ascii-sound}
 use borrow.Author.Needs.{needs}
 use Rattle.core.proofs.utf8.first_ill.Statement.{statement}
 use Rattle.core.proofs.utf8.first_ill.Tie as tie
@@ -10,7 +10,7 @@ is-ascii-requires : tie.Need-is-ascii-requires
 is-ascii-requires c κs = search needs
 
 returns : tie.Need-returns
-returns c = sym (ascii-sound _ (c .before .is-ascii .ensures .0 (c .if1 .taken)))
+returns c = sym (ascii-sound _ (seen-ascii _ (sym (c .before .is-ascii .ensures) ∙ c .if1 .taken)))
 
 ill-mixed-requires : tie.Need-ill-mixed-requires
 ill-mixed-requires c κs = search needs

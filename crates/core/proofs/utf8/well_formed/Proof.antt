@@ -1,8 +1,8 @@
 -- `utf8::well_formed` meets its contract.
 -- Assumes nothing.
-use mathlib.Core.Path.{sym}
+use mathlib.Core.Path.{sym, _∙_}
 use Rattle.core.proofs.utf8.Laws.{well-sound, whole-well}
-use Rattle.core.proofs.utf8.Turns.{ascii-sound}
+use Rattle.core.proofs.utf8.Turns.{seen-ascii, ascii-sound}
 use borrow.Author.Needs.{needs}
 use Rattle.core.proofs.utf8.well_formed.Statement.{statement}
 use Rattle.core.proofs.utf8.well_formed.Tie as tie
@@ -11,7 +11,7 @@ is-ascii-requires : tie.Need-is-ascii-requires
 is-ascii-requires c κs = search needs
 
 returns : tie.Need-returns
-returns c = sym (whole-well _ (ascii-sound _ (c .before .is-ascii .ensures .0 (c .if1 .taken))))
+returns c = sym (whole-well _ (ascii-sound _ (seen-ascii _ (sym (c .before .is-ascii .ensures) ∙ c .if1 .taken))))
 
 ill-mixed-requires : tie.Need-ill-mixed-requires
 ill-mixed-requires c κs = search needs

@@ -1,12 +1,17 @@
 -- `utf8::scan::blocks` meets its contract. The loop's invariant: from `good` on it is as far to the first ill-formed subpart as from the start, and the automaton came from there.
 -- Assumes nothing.
-use mathlib.Core.Path.{_≡_, refl, _∙_}
+use mathlib.Core.Path.{_≡_, refl, sym, _∙_}
 use Prim.Native.Nat.{_+_, _-_, _≤_}
 use native.Mathlib.Omega.{arith}
+use borrow.Author.Tests.{eqb-true}
+use denote.Ref.{now}
 use lib.ListN.{length, drop}
 use Rattle.core.specs.Utf8.{sound}
 use Rattle.core.specs.Flow.{Flow}
-use Rattle.core.proofs.utf8.Turns.{ascii-run}
+use Rattle.core.specs.Text.{ascii}
+use Rattle.core.proofs.Tests.{every-in}
+use Rattle.core.proofs.utf8.Laws.{both-true}
+use Rattle.core.proofs.utf8.Turns.{ascii-byte, ascii-run}
 use Rattle.core.proofs.utf8.Automaton.{zero-state, state-zero, flow-start, flow-join, flow-here, flow-end}
 use Rattle.core.proofs.utf8.scan.blocks.Statement.{statement}
 use Rattle.core.proofs.utf8.scan.blocks.Tie as tie
@@ -34,9 +39,10 @@ loop-less c = omega (arith, c .before .before .before .loop .inv .1 .fits)
 
 loop-again : tie.Need-loop-again Inv-loop μ-loop
 loop-again c =
-    let p = c .before .plain-block .ensures (c .if1 .taken) in
+    let p = both-true _ _ (sym (c .before .plain-block .ensures) ∙ c .if1 .taken) in
+    let z = state-zero _ (eqb-true _ _ (p .0)) in
     let f = c .before .before .before .loop .inv .1 in
-    (omega (arith, c .before .before .before .loop .inv .0, f .start), flow-here _ _ _ (f .held) (p .0) (omega (arith, f .fits)), ascii-run _ _ 32 (omega (arith, f .fits)) (p .1) ∙ flow-end _ _ _ _ f (p .0) ∙ c .before .before .before .loop .inv .2)
+    (omega (arith, c .before .before .before .loop .inv .0, f .start), flow-here _ _ _ (f .held) z (omega (arith, f .fits)), ascii-run _ _ 32 (omega (arith, f .fits)) (λ k h. ascii-byte _ (every-in ascii (now (c .before .before .before .before .before .args .s)) (c .before .before .before .loop .j) 32 (omega (arith, f .fits)) (p .1) k h)) ∙ flow-end _ _ _ _ f z ∙ c .before .before .before .loop .inv .2)
 
 add-next : tie.Need-add-next Inv-loop μ-loop
 add-next c = omega (arith, c .before .before .before .loop .inv .1 .fits)

@@ -1,28 +1,49 @@
 -- `utf8::scan::is_ascii` meets its contract.
 -- Assumes nothing.
-use native.Mathlib.Nat.{zero-add}
+use Prim.Native.Nat.{ℕ, _<_, _≤_}
+use mathlib.Core.Path.{_≡_, sym, ap, _∙_}
+use mathlib.Core.Bool.{Bool}
+use mathlib.Core.List.{List}
 use native.Mathlib.Omega.{arith}
 use borrow.Author.Needs.{needs}
+use borrow.Author.Tests.{le-leb, lt-leb}
+use lib.ListN.{length, take, drop}
+use lib.Seq.{take-all}
+use Rattle.core.specs.Text.{every, ascii, plain, asciiSeen}
 use Rattle.core.proofs.utf8.scan.is_ascii.Statement.{statement}
 use Rattle.core.proofs.utf8.scan.is_ascii.Tie as tie
+
+-- which of the two tests it is, by the length
+module _ (s : List ℕ) (r : Bool) where
+  fewer : length s < 8 → r ≡ every ascii (take (length s) (drop 0 s)) → r ≡ asciiSeen s
+  unfolding asciiSeen
+  fewer h e = rw (lt-leb 8 (length s) h) (e ∙ ap (every ascii) (take-all (length s) s (omega arith)))
+
+  between : 8 ≤ length s → length s ≤ 32 → r ≡ every plain s → r ≡ asciiSeen s
+  unfolding asciiSeen
+  between h k e = rw (le-leb 8 (length s) h, le-leb (length s) 32 k) e
+
+  longer : 32 < length s → r ≡ every ascii s → r ≡ asciiSeen s
+  unfolding asciiSeen
+  longer h e = rw (le-leb 8 (length s) (omega arith), lt-leb (length s) 32 h) e
 
 ascii-in-requires : tie.Need-ascii-in-requires
 ascii-in-requires c κs = search needs
 
 returns : tie.Need-returns
-returns c = (λ e k h. rw zero-add at (c .ascii-in .ensures e k h), λ e l. absurd (omega (arith, l, c .before .if1 .taken)))
+returns c = fewer _ _ (c .before .if1 .taken) (c .ascii-in .ensures)
 
 plain-four-requires : tie.Need-plain-four-requires
 plain-four-requires c κs = search needs
 
 returns-2 : tie.Need-returns-2
-returns-2 c = (λ e k h. c .plain-four .ensures e k h .1, λ e l m k h. c .plain-four .ensures e k h .0)
+returns-2 c = between _ _ (c .before .before .if1 .left) (omega (arith, c .before .if2 .taken)) (c .plain-four .ensures)
 
 ascii-long-requires : tie.Need-ascii-long-requires
 ascii-long-requires c κs = search needs
 
 returns-3 : tie.Need-returns-3
-returns-3 c = (λ e k h. c .ascii-long .ensures e k h, λ e l m. absurd (omega (arith, m, c .before .if2 .left)))
+returns-3 c = longer _ _ (omega (arith, c .before .if2 .left)) (c .ascii-long .ensures)
 
 pub is-ascii-spec : {M : Type 1} → statement M
 is-ascii-spec =
