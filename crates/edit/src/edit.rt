@@ -103,7 +103,7 @@ fn change_at(
 }
 
 // Puts values in the field at a place.
-pub fn edit_values(
+fn edit_values(
     section: &mut [u8],
     journal: &mut [u32],
     count: usize,
