@@ -28,7 +28,7 @@ ghost use lib.ListN.{length};
 use crate::answer::Step;
 use crate::answer::of_edit;
 use crate::answer::of_undo;
-use crate::change::Change;
+use crate::change::Command;
 use crate::change::edited;
 use crate::change::named;
 use crate::change::numbers_of;
@@ -59,10 +59,10 @@ fn say_usage() {
 }
 
 // Says what is wrong with the change at argument `i`, which is unknown or has too few arguments behind it, and how changes are said.
-fn say_none(i: usize, c: Change) {
+fn say_none(i: usize, c: Command) {
     say_number(b"argument ", i);
     match c {
-        Change::Unknown => say(b" is no name of a change\n"),
+        Command::Unknown => say(b" is no name of a change\n"),
         _ => say(b" is a change with too few numbers behind it\n"),
     }
     say_usage();
@@ -73,12 +73,12 @@ fn make(
     section: &mut [u8],
     journal: &mut [u32],
     count: usize,
-    c: Change,
+    c: Command,
     numbers: &[u32],
     i: usize,
 ) -> Step {
     match c {
-        Change::Undo => of_undo(undo(section, journal, count), i),
+        Command::Undo => of_undo(undo(section, journal, count), i),
         _ => of_edit(edited(section, journal, count, c, numbers), i),
     }
 }
