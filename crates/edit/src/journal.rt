@@ -1,4 +1,4 @@
-// The journal: five words an entry. The old bytes of a field stand in three of them, and so do the new ones until they are written.
+// The journal: five words an entry. The old bytes of a field stand in three of them.
 ghost use mathlib.Core.Path.{_≡_};
 ghost use mathlib.Core.Bool.{true, _&&_};
 ghost use lib.ListN.{length, take, drop};
@@ -83,7 +83,7 @@ pub(crate) fn entry_at(journal: &[u32], n: usize) -> Entry
     }
 }
 
-fn read_value(r: Read) -> u32
+pub(crate) fn read_value(r: Read) -> u32
     ensures { λ v. ⌜ v ≡ readValue r ⌝ }
 {
     match r {

@@ -32,7 +32,7 @@ ghost use lib.ListN.{length};
 use crate::answer::Step;
 use crate::answer::of_edit;
 use crate::answer::of_undo;
-use crate::change::Change;
+use crate::change::Command;
 use crate::change::edited;
 use crate::change::named;
 use crate::change::numbers_of;
@@ -103,10 +103,10 @@ fn say_usage(fd: i32) {
 }
 
 // Says what is wrong with the change at argument `i`, which is unknown or has too few arguments behind it, and how changes are said.
-fn say_none(i: usize, c: Change) {
+fn say_none(i: usize, c: Command) {
     say_number_to(STDERR_FILENO, b"argument ", i);
     match c {
-        Change::Unknown => say_to(STDERR_FILENO, b" is no name of a change\n"),
+        Command::Unknown => say_to(STDERR_FILENO, b" is no name of a change\n"),
         _ => say_to(
             STDERR_FILENO,
             b" is a change with too few numbers behind it\n",
@@ -120,12 +120,12 @@ fn make(
     section: &mut [u8],
     journal: &mut [u32],
     count: usize,
-    c: Change,
+    c: Command,
     numbers: &[u32],
     i: usize,
 ) -> Step {
     match c {
-        Change::Undo => of_undo(undo(section, journal, count), i),
+        Command::Undo => of_undo(undo(section, journal, count), i),
         _ => of_edit(edited(section, journal, count, c, numbers), i),
     }
 }
