@@ -158,6 +158,9 @@ pub fn edit(section: &mut [u8], journal: &mut Journal, change: &Change) -> Resul
 
 /// Takes the last edit of the journal back: the bytes that it changed are as they were. Returns how many are left.
 ///
+/// An entry of another section's journal is not noticed: its bytes are restored where they lie within this section, and
+/// what stood there is lost. So keep a journal with its section, as [`Section`] does.
+///
 /// Refused with [`Refusal::TooLong`], [`Refusal::NothingToUndo`] or [`Refusal::BadJournal`].
 pub fn undo(section: &mut [u8], journal: &mut Journal) -> Result<usize, Refusal> {
     journal.undo(section)

@@ -343,7 +343,8 @@ fn every_refusal() {
     assert_eq!(bytes, edited);
 
     let refusal = Refusal::BadJournal { count: 2 };
-    let sentence = "the last entry of the journal (2 in all) is none of an edit of this section";
+    let sentence = "the journal's last entry (2 in all) is not there, or its byte count is none of 1, 2, 4, 6 and 12, or \
+                    its fill is not zero, or its bytes lie past the section";
     let mut short = Journal::of_words(journal.words().to_vec(), 2);
     is(&mut met, undo(&mut bytes, &mut short).unwrap_err(), refusal, sentence);
     // 3 bytes; fill that is not zero; bytes past the section's end
@@ -397,6 +398,67 @@ fn the_default_journal_grows() {
         assert_eq!(undo(&mut bytes, &mut journal), Ok(left));
     }
     assert_eq!(bytes, content_p());
+}
+
+/// A journal that was kept goes on as it was: it grows, also where words are over, and takes back what it had.
+#[test]
+fn a_kept_journal_grows() {
+    let before = content_p();
+    for over in 0..5 {
+        let mut bytes = before.clone();
+        let mut journal = Journal::bounded(2);
+        assert_eq!(edit(&mut bytes, &mut journal, &Change::FrameCount(1)), Ok(1));
+        assert_eq!(edit(&mut bytes, &mut journal, &Change::FrameCount(2)), Ok(2));
+        assert_eq!(edit(&mut bytes, &mut journal, &Change::FrameCount(3)), Err(Refusal::JournalFull { capacity: 2 }));
+        let kept = [journal.words(), &vec![7; over]].concat();
+        let mut journal = Journal::of_words(kept, journal.count());
+        for i in 2..20 {
+            assert_eq!(edit(&mut bytes, &mut journal, &Change::FrameCount(i as u16 + 1)), Ok(i + 1));
+        }
+        for left in (0..20).rev() {
+            assert_eq!(undo(&mut bytes, &mut journal), Ok(left));
+            assert_eq!(read(&bytes).unwrap().frame_count(), left as u16);
+        }
+        assert_eq!(bytes, before);
+    }
+}
+
+/// A count above the room: no entry is made up for those that are missing, and nothing is asked for.
+#[test]
+fn a_kept_journal_without_its_entries() {
+    for (words, count) in [(0, 1), (4, 1), (5, 2), (9, 2), (10, 1 << 60), (10, usize::MAX)] {
+        let mut bytes = content_p();
+        let mut journal = Journal::of_words(vec![0; words], count);
+        let refusal = Refusal::JournalFull { capacity: words / 5 };
+        assert_eq!(edit(&mut bytes, &mut journal, &Change::FrameCount(1)), Err(refusal));
+        assert_eq!(undo(&mut bytes, &mut journal), Err(Refusal::BadJournal { count }));
+        assert_eq!((bytes, journal.words(), journal.count()), (content_p(), &vec![0; words][..], count));
+    }
+}
+
+/// An entry of another section's journal is restored where its bytes lie within the section: nothing tells it apart.
+#[test]
+fn a_journal_of_another_section() {
+    let mut other = Section::new(content_p()).unwrap();
+    other.edit(&Change::Key(TARGET, 0, Key::Step(StepKey { frame: 0.0, value: 0 }))).unwrap();
+    let (_, journal) = other.into_parts();
+    let entry = journal.entries().next().unwrap().unwrap();
+    let mut section = Section::with_journal(datum_k(), journal);
+    assert_eq!(section.undo(), Ok(0));
+    let mut restored = datum_k();
+    restored[entry.offset()..][..entry.old().len()].copy_from_slice(entry.old());
+    assert_ne!(restored, datum_k());
+    assert_eq!(section.bytes(), restored);
+}
+
+/// A section is read if its record fits what the caller is ready to hold.
+#[test]
+fn a_section_read_within_a_bound() {
+    let section = Section::new(content_p()).unwrap();
+    assert_eq!(section.read_within(15, 1), section.read());
+    for (words, texts) in [(14, 1), (15, 0), (0, 0)] {
+        assert_eq!(section.read_within(words, texts), Err(Refusal::TablesTooShort { words: 15, texts: 1 }));
+    }
 }
 
 /// A key that lies on its own target, so that the edit changes the curve: it goes where the reader goes, and the undo back.
