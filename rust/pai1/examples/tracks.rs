@@ -82,8 +82,9 @@ fn change_a_key(section: &mut Section, record: &Record) -> Result<(), Refusal> {
         Key::Step(key) => Key::Step(StepKey { value: key.value.wrapping_add(1), ..key }),
         Key::Hermite(key) => Key::Hermite(HermiteKey { value: key.value + 1.0, ..key }),
     };
-    section.edit(&Change::Key(place, 0, new))?;
-    println!("edited key 0 of {place:?}: {key:?} is now {new:?}");
+    let change = Change::Key(place, 0, new);
+    section.edit(&change)?;
+    println!("edited key 0 of {place:?}: it was {key:?}, and now {:?}", section.field_at(change.place())?);
     let entry = section.journal().entries().flatten().last().expect("the entry of the edit");
     let now = &section.bytes()[entry.offset()..][..entry.old().len()];
     println!("bytes from {} on were {:02X?} and are {now:02X?}", entry.offset(), entry.old());

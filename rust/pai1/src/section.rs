@@ -1,8 +1,8 @@
-use crate::change::Change;
+use crate::change::{Change, Place};
 use crate::journal::Journal;
 use crate::record::Record;
 use crate::refusal::Refusal;
-use crate::{edit, read, read_within, undo};
+use crate::{edit, field_at, read, read_within, undo};
 
 /// A section that is edited: its bytes, and the journal of its edits.
 ///
@@ -64,6 +64,11 @@ impl Section {
     /// [`read_within`](crate::read_within). A section of a stranger can ask for tables far longer than itself.
     pub fn read_within(&self, most_words: usize, most_texts: usize) -> Result<Record, Refusal> {
         read_within(&self.bytes, most_words, most_texts)
+    }
+
+    /// What stands in a field now, as the change that puts it there: [`field_at`](crate::field_at).
+    pub fn field_at(&self, place: Place) -> Result<Change, Refusal> {
+        field_at(&self.bytes, place)
     }
 
     /// Changes a field, and returns how many edits can now be taken back: [`edit`](crate::edit).
