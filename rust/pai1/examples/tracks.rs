@@ -84,7 +84,7 @@ fn change_a_key(section: &mut Section, record: &Record) -> Result<(), Refusal> {
     };
     let change = Change::Key(place, 0, new);
     section.edit(&change)?;
-    println!("edited key 0 of {place:?}: it was {key:?}, and now {:?}", section.field_at(change.place())?);
+    println!("edited: there stood {key:?}, and now {:?}", section.field_at(change.place())?);
     let entry = section.journal().entries().flatten().last().expect("the entry of the edit");
     let now = &section.bytes()[entry.offset()..][..entry.old().len()];
     println!("bytes from {} on were {:02X?} and are {now:02X?}", entry.offset(), entry.old());
