@@ -6,8 +6,9 @@ use crate::layout::{InfoAt, PartsAt, Rules, TargetAt, Walked, targets_of, walk};
 use crate::reader::store;
 use crate::record::LIMIT;
 
-/// Edits sections and takes edits back, as document 01 says. The answer is its number and two values. A number that an
-/// answer has no place for is dropped, and no other place of an answer changes.
+/// Edits sections, takes edits back and says what stands in a field, as document 01 says. The answer of an edit or an undo
+/// is its number and two values. A number that an answer has no place for is dropped, and no other place of an answer
+/// changes.
 pub trait Editor {
     /// Changes one field of the section, and keeps its old bytes in the journal as entry `count`.
     fn edit(&self, section: &mut [u8], journal: &mut [u32], count: usize, change: &Change, answer: &mut [usize]);
