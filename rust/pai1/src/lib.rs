@@ -152,9 +152,9 @@ pub fn write(record: &Record) -> Result<Vec<u8>, Refusal> {
 /// What stands in a field of a section now, as the change that puts it there: of the same field and place, with the value
 /// that reading gives. Nothing is read into tables for it.
 ///
-/// Looping and a target's number are as the record has them: a looping byte of 5 is true, and a target at or above its
-/// letters' number is 0, or 255 in an invalid info. So the change always fits its place. An edit by it changes the byte
-/// where it was another.
+/// Looping and a target's number are as the record has them: a looping byte of 5 is true, a target at or above its letters'
+/// number is 0, and every target of an invalid info is 255. So the change always fits its place. An edit by it changes the
+/// byte where it was another.
 ///
 /// Refused as [`needs`] is, then with [`Refusal::NoSuchPlace`].
 ///
