@@ -4,6 +4,7 @@
 // that the slices are there and that no byte that a call may change is in another of its slices. README.md has them as C sees them.
 mod answer;
 mod change;
+mod field;
 
 ghost use mathlib.Core.Path.{_≡_};
 ghost use lib.ListN.{length};
@@ -17,6 +18,7 @@ ghost use Rattle.edit.specs.Editing.{undoing};
 ghost use Rattle.edit.specs.declared.values.Values.the-variants.{One, Two, Three};
 ghost use Rattle.capi.specs.Flat.{flat};
 ghost use Rattle.capi.specs.Changed.{changed};
+ghost use Rattle.capi.specs.FieldNumbers.{fieldNumbers};
 use crate::answer::of_finding;
 use crate::answer::of_reading;
 use crate::answer::of_undoing;
@@ -24,6 +26,7 @@ use crate::answer::of_writing;
 use crate::answer::put3;
 use crate::answer::put4;
 use crate::change::change;
+use crate::field::field;
 use bflan::place::Place;
 use edit::values::Values;
 
@@ -332,4 +335,78 @@ pub extern "C" fn nnbfl_undo(
 {
     let r = edit::undo::undo(section, journal, count);
     put3(answer, of_undoing(r));
+}
+
+// What stands at a place is a function for each field too.
+#[no_mangle]
+pub extern "C" fn nnbfl_field_frame_count(section: &[u8], answer: &mut [usize])
+    ensures { λ _. ⌜ now (answer .exit) ≡ sets (now (answer .entry)) 0 (fieldNumbers (now (section .entry)) FrameCount) ⌝ }
+{
+    field(section, Place::FrameCount, answer);
+}
+
+#[no_mangle]
+pub extern "C" fn nnbfl_field_looping(section: &[u8], answer: &mut [usize])
+    ensures { λ _. ⌜ now (answer .exit) ≡ sets (now (answer .entry)) 0 (fieldNumbers (now (section .entry)) Looping) ⌝ }
+{
+    field(section, Place::Looping, answer);
+}
+
+#[no_mangle]
+pub extern "C" fn nnbfl_field_layer(
+    section: &[u8],
+    content: usize,
+    info: usize,
+    target: usize,
+    answer: &mut [usize],
+)
+    ensures { λ _. ⌜ now (answer .exit) ≡ sets (now (answer .entry)) 0 (fieldNumbers (now (section .entry)) (Layer content info target)) ⌝ }
+{
+    field(section, Place::Layer(content, info, target), answer);
+}
+
+#[no_mangle]
+pub extern "C" fn nnbfl_field_target(
+    section: &[u8],
+    content: usize,
+    info: usize,
+    target: usize,
+    answer: &mut [usize],
+)
+    ensures { λ _. ⌜ now (answer .exit) ≡ sets (now (answer .entry)) 0 (fieldNumbers (now (section .entry)) (Target content info target)) ⌝ }
+{
+    field(section, Place::Target(content, info, target), answer);
+}
+
+#[no_mangle]
+pub extern "C" fn nnbfl_field_key(
+    section: &[u8],
+    content: usize,
+    info: usize,
+    target: usize,
+    key: usize,
+    answer: &mut [usize],
+)
+    ensures { λ _. ⌜ now (answer .exit) ≡ sets (now (answer .entry)) 0 (fieldNumbers (now (section .entry)) (Key content info target key)) ⌝ }
+{
+    field(section, Place::Key(content, info, target, key), answer);
+}
+
+#[no_mangle]
+pub extern "C" fn nnbfl_field_value(
+    section: &[u8],
+    content: usize,
+    info: usize,
+    datum: usize,
+    list: usize,
+    index: usize,
+    answer: &mut [usize],
+)
+    ensures { λ _. ⌜ now (answer .exit) ≡ sets (now (answer .entry)) 0 (fieldNumbers (now (section .entry)) (Value content info datum list index)) ⌝ }
+{
+    field(
+        section,
+        Place::Value(content, info, datum, list, index),
+        answer,
+    );
 }

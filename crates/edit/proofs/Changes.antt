@@ -243,6 +243,11 @@ old-get : (n : ℕ) (s : List ℕ) (at j : ℕ) → get 4 (padded (take n (drop 
 unfolding padded
 old-get n s at j = pad-get 4 (take n (drop at s)) (12 - length (take n (drop at s))) j ∙ part-get n 4 s at j
 
+-- a number that was read
+pub got : (s : List ℕ) (k i : ℕ) {v : ℕ} → i + k ≤ length s → v ≡ readValue (readOf k s i) → v ≡ get k s i
+unfolding readValue
+got s k i h e = e ∙ rw (read-there k s i h)
+
 -- the three words by three numbers, of as many bytes as there are
 module _ (n : ℕ) (s : List ℕ) (at : ℕ) where
   old-words : (ka kb kc : ℕ) {a b c : ℕ} → min 4 (n - 0) ≡ ka → min 4 (n - 4) ≡ kb → min 4 (n - 8) ≡ kc → a ≡ get ka s at → b ≡ get kb s (at + 4) → c ≡ get kc s (at + 8)
@@ -253,27 +258,22 @@ module _ (n : ℕ) (s : List ℕ) (at : ℕ) where
   none : (i : ℕ) → 0 ≡ get 0 s i
   none i = sym (get-zero s i)
 
-  -- a number that was read
-  got : (k i : ℕ) {v : ℕ} → i + k ≤ length s → v ≡ readValue (readOf k s i) → v ≡ get k s i
-  unfolding readValue
-  got k i h e = e ∙ rw (read-there k s i h)
-
   module _ (h : at + n ≤ length s) where
     pub old-1 : {v : ℕ} → n ≡ 1 → v ≡ readValue (readOf 1 s at) → _≡_ {A = Packed} (record { a = v; b = 0; c = 0 }) (packed (take n (drop at s)))
-    old-1 e ev = old-words 1 0 0 (omega arith) (omega arith) (omega arith) (got 1 at (omega arith) ev) (none (at + 4)) (none (at + 8))
+    old-1 e ev = old-words 1 0 0 (omega arith) (omega arith) (omega arith) (got s 1 at (omega arith) ev) (none (at + 4)) (none (at + 8))
 
     pub old-2 : {v : ℕ} → n ≡ 2 → v ≡ readValue (readOf 2 s at) → _≡_ {A = Packed} (record { a = v; b = 0; c = 0 }) (packed (take n (drop at s)))
-    old-2 e ev = old-words 2 0 0 (omega arith) (omega arith) (omega arith) (got 2 at (omega arith) ev) (none (at + 4)) (none (at + 8))
+    old-2 e ev = old-words 2 0 0 (omega arith) (omega arith) (omega arith) (got s 2 at (omega arith) ev) (none (at + 4)) (none (at + 8))
 
     pub old-4 : {v : ℕ} → n ≡ 4 → v ≡ readValue (readOf 4 s at) → _≡_ {A = Packed} (record { a = v; b = 0; c = 0 }) (packed (take n (drop at s)))
-    old-4 e ev = old-words 4 0 0 (omega arith) (omega arith) (omega arith) (got 4 at (omega arith) ev) (none (at + 4)) (none (at + 8))
+    old-4 e ev = old-words 4 0 0 (omega arith) (omega arith) (omega arith) (got s 4 at (omega arith) ev) (none (at + 4)) (none (at + 8))
 
     pub old-6 : {v w : ℕ} → n ≡ 6 → v ≡ readValue (readOf 4 s at) → w ≡ readValue (readOf 2 s (at + 4)) → _≡_ {A = Packed} (record { a = v; b = w; c = 0 }) (packed (take n (drop at s)))
-    old-6 e ev ew = old-words 4 2 0 (omega arith) (omega arith) (omega arith) (got 4 at (omega arith) ev) (got 2 (at + 4) (omega arith) ew) (none (at + 8))
+    old-6 e ev ew = old-words 4 2 0 (omega arith) (omega arith) (omega arith) (got s 4 at (omega arith) ev) (got s 2 (at + 4) (omega arith) ew) (none (at + 8))
 
     pub old-12 : {v w x : ℕ} → n ≡ 12 → v ≡ readValue (readOf 4 s at) → w ≡ readValue (readOf 4 s (at + 4)) → x ≡ readValue (readOf 4 s (at + 8))
         → _≡_ {A = Packed} (record { a = v; b = w; c = x }) (packed (take n (drop at s)))
-    old-12 e ev ew ex = old-words 4 4 4 (omega arith) (omega arith) (omega arith) (got 4 at (omega arith) ev) (got 4 (at + 4) (omega arith) ew) (got 4 (at + 8) (omega arith) ex)
+    old-12 e ev ew ex = old-words 4 4 4 (omega arith) (omega arith) (omega arith) (got s 4 at (omega arith) ev) (got s 4 (at + 4) (omega arith) ew) (got s 4 (at + 8) (omega arith) ex)
 
 -- ---- the entry
 

@@ -3,4 +3,5 @@ pub mod Changes
 pub mod Demand
 pub mod Entries
 pub mod Exercises
+pub mod FieldAt
 pub mod Pai1

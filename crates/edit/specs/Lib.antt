@@ -1,4 +1,5 @@
 pub mod Editing
+pub mod FieldAt
 pub mod Format
 pub mod Journal
 pub mod Machine

@@ -83,7 +83,7 @@ pub(crate) fn entry_at(journal: &[u32], n: usize) -> Entry
     }
 }
 
-fn read_value(r: Read) -> u32
+pub(crate) fn read_value(r: Read) -> u32
     ensures { λ v. ⌜ v ≡ readValue r ⌝ }
 {
     match r {

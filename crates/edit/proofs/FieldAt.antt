@@ -1,0 +1,93 @@
+-- What stands at a place: the values that are read there as the field's case, and the answer by where the field is.
+-- Assumes nothing.
+use Prim.Native.Nat.{ℕ, zero, suc, _+_, _≤_}
+use mathlib.Core.Path.{_≡_, refl, ap, sym, _∙_}
+use mathlib.Core.Bool.{Bool, true, false}
+use mathlib.Core.List.{List, [], _∷_}
+use native.Mathlib.Omega.{arith}
+use lib.ListN.{length, getD}
+use Rattle.core.specs.Float.{floatOf, hermiteOf, patternsAt}
+use Rattle.core.specs.Number.{get}
+use Rattle.core.specs.declared.float.Binary32.{Binary32}
+use Rattle.core.specs.declared.float.Hermite.{Hermite as HermiteForm}
+use Rattle.core.proofs.Numbers.{get-zero, get-suc}
+use Rattle.bflan.specs.FieldValues.{numbersIn, asRead}
+use Rattle.bflan.specs.Letters.{targetOf}
+use Rattle.bflan.specs.Locating.{locating}
+use Rattle.bflan.specs.Places.{widths, total}
+use Rattle.bflan.specs.Reading.{flagOf}
+use Rattle.bflan.specs.Record.{keyWidths}
+use Rattle.bflan.specs.declared.place.Field.{Field}
+use Rattle.bflan.specs.declared.place.Field.the-variants.{FrameCount as frames, Looping as looping, Layer as layer, Target as number, Key as key, Value as value}
+use Rattle.bflan.specs.declared.place.Located.{Located}
+use Rattle.bflan.specs.declared.place.Place.{Place}
+use Rattle.edit.specs.declared.field.FieldValue.the-variants.{FrameCount, Looping, Layer, Target, Key, Value}
+use Rattle.edit.specs.declared.key.NewKey.{NewKey}
+use Rattle.edit.specs.declared.key.NewKey.the-variants.{Constant, Step, Hermite}
+use Rattle.edit.specs.FieldAt.{keyOf, fieldValue, readAt, atLocated, fieldAt}
+
+-- ---- what is read
+
+pub byte-there : (s : List ℕ) (at : ℕ) → getD s at 0 ≡ get 1 s at
+byte-there s at = let z : get 0 s (at + 1) ≡ 0 = get-zero s (at + 1) in let e = get-suc 0 s at in omega (arith, z, e)
+
+-- the size of a key that is known to be there
+pub constant-room : (at : ℕ) {c n : ℕ} → c ≡ 0 → at + total (keyWidths c) ≤ n → at + 4 ≤ n
+unfolding total keyWidths
+constant-room at e h = rw e at h
+
+pub step-room : (at : ℕ) {c n : ℕ} → c ≡ 1 → at + total (keyWidths c) ≤ n → at + 6 ≤ n
+unfolding total keyWidths
+step-room at e h = rw e at h
+
+-- a field that is known to be there
+pub field-room : (at : ℕ) {f g : Field} {k n : ℕ} → f ≡ g → total (widths g) ≡ k → at + total (widths f) ≤ n → at + k ≤ n
+field-room at {f} {g} {k} {n} e q h = let i : at + total (widths g) ≤ n = rw e at h in omega (arith, q, i)
+
+-- a key of each curve
+module _ (s : List ℕ) (at : ℕ) where
+  pub constant-at : (c : ℕ) {x : Binary32} → c ≡ 0 → x ≡ floatOf (get 4 s at) → Constant x ≡ keyOf c (numbersIn (keyWidths c) s at)
+  unfolding keyOf numbersIn keyWidths
+  constant-at c e ex = rw (e, ex)
+
+  pub step-at : (c : ℕ) {x : Binary32} {v : ℕ} → c ≡ 1 → x ≡ floatOf (get 4 s at) → v ≡ get 2 s (at + 4) → Step x v ≡ keyOf c (numbersIn (keyWidths c) s at)
+  unfolding keyOf numbersIn keyWidths
+  step-at c e ex ev = rw (e, ex, ev)
+
+  pub hermite-key : (c : ℕ) {h : HermiteForm} → (c ≡ 0 → ⊥) → (c ≡ 1 → ⊥) → h ≡ hermiteOf (patternsAt s at) → Hermite h ≡ keyOf c (numbersIn (keyWidths c) s at)
+  unfolding keyOf numbersIn keyWidths patternsAt
+  hermite-key zero a b e = absurd (a refl)
+  hermite-key (suc zero) a b e = absurd (b refl)
+  hermite-key (suc (suc c)) a b e = let third : at + 4 + 4 ≡ at + 8 = omega arith in rw third (ap Hermite e)
+
+  -- a field
+  module _ {f : Field} {v : ℕ} where
+    pub frames-at : f ≡ frames → v ≡ get 2 s at → FrameCount v ≡ readAt s at f
+    unfolding readAt fieldValue asRead numbersIn widths
+    frames-at e ev = rw (e, ev)
+
+    pub looping-at : f ≡ looping → v ≡ flagOf (get 1 s at) → Looping v ≡ readAt s at f
+    unfolding readAt fieldValue asRead numbersIn widths
+    looping-at e ev = rw (e, ev)
+
+    pub layer-at : f ≡ layer → v ≡ get 1 s at → Layer v ≡ readAt s at f
+    unfolding readAt fieldValue asRead numbersIn widths
+    layer-at e ev = rw (e, ev)
+
+    pub number-at : {letters : ℕ} → f ≡ number letters → v ≡ targetOf letters (get 1 s at) → Target v ≡ readAt s at f
+    unfolding readAt fieldValue asRead numbersIn widths
+    number-at e ev = rw (e, ev)
+
+    pub value-at : f ≡ value → v ≡ get 4 s at → Value v ≡ readAt s at f
+    unfolding readAt fieldValue asRead numbersIn widths
+    value-at e ev = rw (e, ev)
+
+  pub key-at : {f : Field} {curve : ℕ} {k : NewKey} → f ≡ key curve → k ≡ keyOf curve (numbersIn (keyWidths curve) s at) → Key k ≡ readAt s at f
+  unfolding readAt fieldValue asRead widths
+  key-at e ek = rw (e, ek)
+
+-- ---- the answer, by where the field is
+
+pub field-by : (s : List ℕ) (p : Place) {l x : Located} → l ≡ locating s p → l ≡ x → atLocated s x ≡ fieldAt s p
+unfolding fieldAt
+field-by s p el e = ap (atLocated s) (sym e ∙ el)

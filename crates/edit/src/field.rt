@@ -1,0 +1,127 @@
+// What stands at a place of a section now.
+ghost use mathlib.Core.Path.{_≡_};
+ghost use Prim.Native.Nat.{_+_, _≤_};
+ghost use lib.ListN.{length};
+ghost use Rattle.core.specs.Float.{floatOf, hermiteOf, patternsAt};
+ghost use Rattle.core.specs.Number.{get};
+ghost use Rattle.bflan.specs.FieldValues.{numbersIn};
+ghost use Rattle.bflan.specs.Places.{widths, total};
+ghost use Rattle.bflan.specs.Reading.{flagOf};
+ghost use Rattle.bflan.specs.Record.{keyWidths};
+ghost use Rattle.edit.specs.FieldAt.{keyOf, readAt, fieldAt};
+use crate::journal::read_value;
+use crate::key::NewKey;
+use bflan::fault::Fault;
+use bflan::letters::resolve;
+use bflan::place::Field;
+use bflan::place::Located;
+use bflan::place::Place;
+use bflan::place::locate;
+use core::float::Binary32;
+use core::float::Hermite;
+use core::float::HermiteBits;
+use core::float::ReadFloat;
+use core::float::ReadHermite;
+use core::float::from_bits;
+use core::float::hermite_from_bits;
+use core::float::read_f32;
+use core::float::read_hermite;
+use core::number::read_u16;
+use core::number::read_u32;
+
+// A field's value, as the record has it.
+pub enum FieldValue {
+    FrameCount(u32),
+    // 0 or 1.
+    Looping(u32),
+    Layer(u32),
+    Target(u32),
+    Key(NewKey),
+    // A binary32's bits.
+    Value(u32),
+}
+
+pub enum FieldAnswer {
+    // The section's length, above the limit.
+    TooLong(usize),
+    // The section does not read.
+    Refused(Fault),
+    NoSuchPlace,
+    Is(FieldValue),
+}
+
+// Fields that are known to be there.
+
+fn byte_at(s: &[u8], at: usize) -> u8
+    requires { ⌜ at + 1 ≤ length (now s) ⌝ }
+    ensures { λ r. ⌜ r ≡ get 1 (now (s .entry)) at ⌝ }
+{
+    s[at]
+}
+
+fn float_at(s: &[u8], at: usize) -> Binary32
+    requires { ⌜ at + 4 ≤ length (now s) ⌝ }
+    ensures { λ r. ⌜ r ≡ floatOf (get 4 (now (s .entry)) at) ⌝ }
+{
+    match read_f32(s, at) {
+        ReadFloat::Value(x, _next) => x,
+        ReadFloat::Past(_offset, _requested) => from_bits(0),
+    }
+}
+
+fn hermite_at(s: &[u8], at: usize) -> Hermite
+    requires { ⌜ at + 12 ≤ length (now s) ⌝ }
+    ensures { λ r. ⌜ r ≡ hermiteOf (patternsAt (now (s .entry)) at) ⌝ }
+{
+    match read_hermite(s, at) {
+        ReadHermite::Value(h, _next) => h,
+        ReadHermite::Past(_offset, _requested) => hermite_from_bits(HermiteBits(0, 0, 0)),
+    }
+}
+
+// A key of this curve.
+fn key_at(s: &[u8], at: usize, curve: u32) -> NewKey
+    requires { ⌜ at + total (keyWidths curve) ≤ length (now s) ⌝ }
+    ensures { λ r. ⌜ r ≡ keyOf curve (numbersIn (keyWidths curve) (now (s .entry)) at) ⌝ }
+{
+    match curve {
+        0 => NewKey::Constant(float_at(s, at)),
+        1 => NewKey::Step(float_at(s, at), read_value(read_u16(s, at + 4))),
+        _ => NewKey::Hermite(hermite_at(s, at)),
+    }
+}
+
+// Looping as the record has it.
+fn flag_of(b: u8) -> u32
+    ensures { λ r. ⌜ r ≡ flagOf b ⌝ }
+{
+    match b {
+        0 => 0,
+        _ => 1,
+    }
+}
+
+fn value_at(s: &[u8], at: usize, f: Field) -> FieldValue
+    requires { ⌜ at + total (widths f) ≤ length (now s) ⌝ }
+    ensures { λ r. ⌜ r ≡ readAt (now (s .entry)) at f ⌝ }
+{
+    match f {
+        Field::FrameCount => FieldValue::FrameCount(read_value(read_u16(s, at))),
+        Field::Looping => FieldValue::Looping(flag_of(byte_at(s, at))),
+        Field::Layer => FieldValue::Layer(byte_at(s, at) as u32),
+        Field::Target(letters) => FieldValue::Target(resolve(letters, byte_at(s, at)) as u32),
+        Field::Key(curve) => FieldValue::Key(key_at(s, at, curve)),
+        Field::Value => FieldValue::Value(read_value(read_u32(s, at))),
+    }
+}
+
+pub fn field_at(section: &[u8], place: Place) -> FieldAnswer
+    ensures { λ r. ⌜ r ≡ fieldAt (now (section .entry)) place ⌝ }
+{
+    match locate(section, place) {
+        Located::TooLong(size) => FieldAnswer::TooLong(size),
+        Located::Refused(f) => FieldAnswer::Refused(f),
+        Located::NoSuchPlace => FieldAnswer::NoSuchPlace,
+        Located::At(at, f) => FieldAnswer::Is(value_at(section, at, f)),
+    }
+}
