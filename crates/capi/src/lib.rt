@@ -1,5 +1,6 @@
 // Functions of core, bflan and edit for a program in C or Rust. Each calls the function of the same name and has its contract, but for
-// the eight `nnbfl_edit_*`, which call `edit_values` with the place and the new value that their numbers say. A slice is passed as
+// the eight `nnbfl_edit_*` and the six `nnbfl_field_*`, which call `edit` with the change and `field_at` with the place that their
+// numbers say. A slice is passed as
 // its address and its length, and an answer that is an enum comes back as numbers in a list. None asks anything of the caller but
 // that the slices are there and that no byte that a call may change is in another of its slices. README.md has them as C sees them.
 mod answer;
@@ -7,6 +8,7 @@ mod change;
 mod field;
 
 ghost use mathlib.Core.Path.{_≡_};
+ghost use mathlib.Core.List.{[], _∷_};
 ghost use lib.ListN.{length};
 ghost use lib.Seq.{sets};
 ghost use Rattle.core.specs.Text.{beforeZero, firstFault};
@@ -15,7 +17,6 @@ ghost use Rattle.bflan.specs.Answer.{finding, reading, textPart};
 ghost use Rattle.bflan.specs.Writing.{writing};
 ghost use Rattle.bflan.specs.declared.place.Place.the-variants.{FrameCount, Looping, Layer, Target, Key, Value};
 ghost use Rattle.edit.specs.Editing.{undoing};
-ghost use Rattle.edit.specs.declared.values.Values.the-variants.{One, Two, Three};
 ghost use Rattle.capi.specs.Flat.{flat};
 ghost use Rattle.capi.specs.Changed.{changed};
 ghost use Rattle.capi.specs.FieldNumbers.{fieldNumbers};
@@ -28,7 +29,11 @@ use crate::answer::put4;
 use crate::change::change;
 use crate::field::field;
 use bflan::place::Place;
-use edit::values::Values;
+use core::float::HermiteBits;
+use core::float::from_bits;
+use core::float::hermite_from_bits;
+use edit::edit::Change;
+use edit::key::NewKey;
 
 #[no_mangle]
 pub extern "C" fn nnbfl_decoded_len(text: &[u8]) -> usize
@@ -145,16 +150,10 @@ pub extern "C" fn nnbfl_edit_frame_count(
     value: u32,
     answer: &mut [usize],
 )
-    ensures { λ _. ⌜ (now (section .exit), now (journal .exit), now (answer .exit)) ≡ changed (now (section .entry)) (now (journal .entry)) count FrameCount (One value) (now (answer .entry)) ⌝ }
+    ensures { λ _. ⌜ (now (section .exit), now (journal .exit), now (answer .exit)) ≡ changed (now (section .entry)) (now (journal .entry)) count FrameCount (value ∷ []) (now (answer .entry)) ⌝ }
 {
-    change(
-        section,
-        journal,
-        count,
-        Place::FrameCount,
-        Values::One(value),
-        answer,
-    );
+    let new = Change::FrameCount(value);
+    change(section, journal, count, new, answer);
 }
 
 #[no_mangle]
@@ -165,16 +164,10 @@ pub extern "C" fn nnbfl_edit_looping(
     value: u32,
     answer: &mut [usize],
 )
-    ensures { λ _. ⌜ (now (section .exit), now (journal .exit), now (answer .exit)) ≡ changed (now (section .entry)) (now (journal .entry)) count Looping (One value) (now (answer .entry)) ⌝ }
+    ensures { λ _. ⌜ (now (section .exit), now (journal .exit), now (answer .exit)) ≡ changed (now (section .entry)) (now (journal .entry)) count Looping (value ∷ []) (now (answer .entry)) ⌝ }
 {
-    change(
-        section,
-        journal,
-        count,
-        Place::Looping,
-        Values::One(value),
-        answer,
-    );
+    let new = Change::Looping(value);
+    change(section, journal, count, new, answer);
 }
 
 #[no_mangle]
@@ -188,16 +181,10 @@ pub extern "C" fn nnbfl_edit_layer(
     value: u32,
     answer: &mut [usize],
 )
-    ensures { λ _. ⌜ (now (section .exit), now (journal .exit), now (answer .exit)) ≡ changed (now (section .entry)) (now (journal .entry)) count (Layer content info target) (One value) (now (answer .entry)) ⌝ }
+    ensures { λ _. ⌜ (now (section .exit), now (journal .exit), now (answer .exit)) ≡ changed (now (section .entry)) (now (journal .entry)) count (Layer content info target) (value ∷ []) (now (answer .entry)) ⌝ }
 {
-    change(
-        section,
-        journal,
-        count,
-        Place::Layer(content, info, target),
-        Values::One(value),
-        answer,
-    );
+    let new = Change::Layer(content, info, target, value);
+    change(section, journal, count, new, answer);
 }
 
 #[no_mangle]
@@ -211,16 +198,10 @@ pub extern "C" fn nnbfl_edit_target(
     value: u32,
     answer: &mut [usize],
 )
-    ensures { λ _. ⌜ (now (section .exit), now (journal .exit), now (answer .exit)) ≡ changed (now (section .entry)) (now (journal .entry)) count (Target content info target) (One value) (now (answer .entry)) ⌝ }
+    ensures { λ _. ⌜ (now (section .exit), now (journal .exit), now (answer .exit)) ≡ changed (now (section .entry)) (now (journal .entry)) count (Target content info target) (value ∷ []) (now (answer .entry)) ⌝ }
 {
-    change(
-        section,
-        journal,
-        count,
-        Place::Target(content, info, target),
-        Values::One(value),
-        answer,
-    );
+    let new = Change::Target(content, info, target, value);
+    change(section, journal, count, new, answer);
 }
 
 #[no_mangle]
@@ -235,16 +216,11 @@ pub extern "C" fn nnbfl_edit_constant_key(
     value: u32,
     answer: &mut [usize],
 )
-    ensures { λ _. ⌜ (now (section .exit), now (journal .exit), now (answer .exit)) ≡ changed (now (section .entry)) (now (journal .entry)) count (Key content info target key) (One value) (now (answer .entry)) ⌝ }
+    ensures { λ _. ⌜ (now (section .exit), now (journal .exit), now (answer .exit)) ≡ changed (now (section .entry)) (now (journal .entry)) count (Key content info target key) (value ∷ []) (now (answer .entry)) ⌝ }
 {
-    change(
-        section,
-        journal,
-        count,
-        Place::Key(content, info, target, key),
-        Values::One(value),
-        answer,
-    );
+    let new_key = NewKey::Constant(from_bits(value));
+    let new = Change::Key(content, info, target, key, new_key);
+    change(section, journal, count, new, answer);
 }
 
 #[no_mangle]
@@ -260,16 +236,11 @@ pub extern "C" fn nnbfl_edit_step_key(
     value: u32,
     answer: &mut [usize],
 )
-    ensures { λ _. ⌜ (now (section .exit), now (journal .exit), now (answer .exit)) ≡ changed (now (section .entry)) (now (journal .entry)) count (Key content info target key) (Two frame value) (now (answer .entry)) ⌝ }
+    ensures { λ _. ⌜ (now (section .exit), now (journal .exit), now (answer .exit)) ≡ changed (now (section .entry)) (now (journal .entry)) count (Key content info target key) (frame ∷ value ∷ []) (now (answer .entry)) ⌝ }
 {
-    change(
-        section,
-        journal,
-        count,
-        Place::Key(content, info, target, key),
-        Values::Two(frame, value),
-        answer,
-    );
+    let new_key = NewKey::Step(from_bits(frame), value);
+    let new = Change::Key(content, info, target, key, new_key);
+    change(section, journal, count, new, answer);
 }
 
 #[no_mangle]
@@ -286,16 +257,11 @@ pub extern "C" fn nnbfl_edit_hermite_key(
     slope: u32,
     answer: &mut [usize],
 )
-    ensures { λ _. ⌜ (now (section .exit), now (journal .exit), now (answer .exit)) ≡ changed (now (section .entry)) (now (journal .entry)) count (Key content info target key) (Three frame value slope) (now (answer .entry)) ⌝ }
+    ensures { λ _. ⌜ (now (section .exit), now (journal .exit), now (answer .exit)) ≡ changed (now (section .entry)) (now (journal .entry)) count (Key content info target key) (frame ∷ value ∷ slope ∷ []) (now (answer .entry)) ⌝ }
 {
-    change(
-        section,
-        journal,
-        count,
-        Place::Key(content, info, target, key),
-        Values::Three(frame, value, slope),
-        answer,
-    );
+    let new_key = NewKey::Hermite(hermite_from_bits(HermiteBits(frame, value, slope)));
+    let new = Change::Key(content, info, target, key, new_key);
+    change(section, journal, count, new, answer);
 }
 
 #[no_mangle]
@@ -311,16 +277,10 @@ pub extern "C" fn nnbfl_edit_value(
     value: u32,
     answer: &mut [usize],
 )
-    ensures { λ _. ⌜ (now (section .exit), now (journal .exit), now (answer .exit)) ≡ changed (now (section .entry)) (now (journal .entry)) count (Value content info datum list index) (One value) (now (answer .entry)) ⌝ }
+    ensures { λ _. ⌜ (now (section .exit), now (journal .exit), now (answer .exit)) ≡ changed (now (section .entry)) (now (journal .entry)) count (Value content info datum list index) (value ∷ []) (now (answer .entry)) ⌝ }
 {
-    change(
-        section,
-        journal,
-        count,
-        Place::Value(content, info, datum, list, index),
-        Values::One(value),
-        answer,
-    );
+    let new = Change::Value(content, info, datum, list, index, value);
+    change(section, journal, count, new, answer);
 }
 
 #[no_mangle]

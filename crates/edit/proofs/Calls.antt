@@ -145,11 +145,11 @@ size-twelve n h a b c d = go (eqb n 12) refl
 
 -- ---- the first bytes of them, stored
 
-le-one : (a : ℕ) → le 1 (a % 256) ≡ le 1 a
+pub le-one : (a : ℕ) → le 1 (a % 256) ≡ le 1 a
 unfolding le
 le-one a = let e : a % 256 % 256 ≡ a % 256 = omega arith in rw e
 
-le-two : (b : ℕ) → le 2 (b % 65536) ≡ le 2 b
+pub le-two : (b : ℕ) → le 2 (b % 65536) ≡ le 2 b
 unfolding le
 le-two b =
     let p : b % 65536 % 256 ≡ b % 256 = omega arith in
@@ -159,11 +159,11 @@ le-two b =
     let q : b % 65536 / 256 % 256 ≡ b / 256 % 256 = w ∙ sym (low (b % 65536 / 256) (b / 65536) v) ∙ ap (λ (n : ℕ). n % 256) (sym u) in
     rw (p, q)
 
-put-at : (s : List ℕ) (o o′ v : ℕ) → o ≡ o′ → put 4 s o v ≡ sets s o′ (le 4 v)
+pub put-at : (s : List ℕ) (o o′ v : ℕ) → o ≡ o′ → put 4 s o v ≡ sets s o′ (le 4 v)
 unfolding put
 put-at s o o′ v e = ap (λ (k : ℕ). sets s k (le 4 v)) e
 
-behind-put : (s : List ℕ) (at a : ℕ) (v : List ℕ) {s₁ : List ℕ} → s₁ ≡ put 4 s at a → sets s₁ (at + 4) v ≡ sets s at (le 4 a ++ v)
+pub behind-put : (s : List ℕ) (at a : ℕ) (v : List ℕ) {s₁ : List ℕ} → s₁ ≡ put 4 s at a → sets s₁ (at + 4) v ≡ sets s at (le 4 a ++ v)
 unfolding put
 behind-put s at a v {s₁} e = sets-turn s at (le 4 a ++ v) (le 4 a) v s₁ (at + 4) refl e (ap (λ (k : ℕ). at + k) (sym (length-le 4 a)))
 

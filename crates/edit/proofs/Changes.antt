@@ -1,29 +1,30 @@
 -- A change: which values a field takes, its bytes as they are written, the entry of the bytes that stood there, and what the call answers.
 -- Assumes nothing.
 use Prim.Native.Nat.{ℕ, zero, suc, _+_, _-_, _*_, _/_, _%_, _^_, _<_, _≤_, min}
-use mathlib.Core.Path.{_≡_, refl, sym, ap, _∙_}
+use mathlib.Core.Path.{_≡_, refl, sym, ap, subst, _∙_}
 use mathlib.Core.Bool.{Bool, true, false, _&&_}
 use mathlib.Core.List.{List, [], _∷_, _++_, append-nil}
 use native.Mathlib.Nat.{add-zero}
 use native.Mathlib.Omega.{arith}
 use borrow.Author.Tests.{leb-true, leb-false, lt-ltb, le-ltb}
-use lib.Dec.{leb, ltb}
+use lib.Dec.{eqb, leb, ltb}
 use lib.ListN.{length, getD, take, drop, replicate, length-drop}
 use lib.Seq.{sets, take-nil, drop-drop, length-take-le}
 use Rattle.core.specs.Choice.{pick}
-use Rattle.core.specs.Number.{le, val, get, readOf}
+use Rattle.core.specs.Number.{le, val, get, put, readOf}
 use Rattle.core.specs.Outcome.{Outcome}
-use Rattle.core.specs.Float.{patternOf}
+use Rattle.core.specs.Float.{patternOf, patternsOf, putPatterns}
 use Rattle.core.specs.declared.float.Binary32.{Binary32}
+use Rattle.core.specs.declared.float.HermiteBits.{HermiteBits}
 use Rattle.core.proofs.Numbers.{get-zero, get-suc, read-there}
 use Rattle.bflan.specs.Answer.{tooLong}
 use Rattle.bflan.specs.Layout.{written, row}
-use Rattle.bflan.specs.Letters.{targetFits}
+use Rattle.bflan.specs.Letters.{fleu, targetFits}
 use Rattle.bflan.specs.Limits.{limit}
 use Rattle.bflan.specs.Locating.{ofSpot, locatingIn, locating, ofLocated}
-use Rattle.bflan.specs.Places.{Spot, nowhere, spot, widths, total, fitWidths, allowed, fit, locate}
-use Rattle.bflan.specs.Reader.{Res, ok, stop, Item}
-use Rattle.bflan.specs.Reading.{section}
+use Rattle.bflan.specs.Places.{Spot, nowhere, spot, widths, total, fitWidths, allowed, fit, stride, after, keyIn, valueIn, targetIn, datumIn, infoTableIn, infoIn, contentIn, locate}
+use Rattle.bflan.specs.Reader.{Res, ok, stop, Item, many}
+use Rattle.bflan.specs.Reading.{curveOf, countOf, datum, section}
 use Rattle.bflan.specs.Record.{keyWidths}
 use Rattle.bflan.proofs.Fields.{unlike, and-left}
 use Rattle.bflan.specs.declared.fault.Fault.{Fault}
@@ -32,17 +33,19 @@ use Rattle.bflan.specs.declared.place.Field.the-variants.{FrameCount, Looping, 
 use Rattle.bflan.specs.declared.place.Located.{Located}
 use Rattle.bflan.specs.declared.place.Located.the-variants.{TooLong, Refused, NoSuchPlace, At}
 use Rattle.bflan.specs.declared.place.Place.{Place}
+use Rattle.edit.specs.declared.edit.Change.{Change}
+use Rattle.edit.specs.declared.edit.Change.the-variants.{FrameCount as setFrameCount, Looping as setLooping, Layer as setLayer, Target as setTarget, Key as setKey, Value as setValue}
 use Rattle.edit.specs.declared.edit.EditAnswer.the-variants.{Edited, TooLong as EditTooLong, Refused as EditRefused, NoSuchPlace as NoPlace, Unfit, JournalFull}
 use Rattle.edit.specs.declared.journal.Packed.{Packed}
-use Rattle.edit.specs.declared.key.NewKey.the-variants.{Step}
-use Rattle.edit.specs.declared.values.Values.{Values}
+use Rattle.edit.specs.declared.key.NewKey.{NewKey}
+use Rattle.edit.specs.declared.key.NewKey.the-variants.{Constant, Step, Hermite}
 use Rattle.edit.specs.declared.values.Values.the-variants.{One, Two, Three}
-use Rattle.edit.specs.Editing.{ofEditing, keyWords, oldAt, atSpot, onReading, editing}
+use Rattle.edit.specs.Editing.{ofEditing, keyWords, placeOf, valuesOf, oldAt, atSpot, onReading, editing}
 use Rattle.edit.specs.Format.{pai1}
 use Rattle.edit.specs.Journal.{entryWords, capacity, padded, entryOf, fieldSize}
-use Rattle.edit.specs.Packing.{unpacked, packed, entryList, readValue, valuesIn, packedOf, oneMost}
-use Rattle.edit.proofs.Calls.{size-some}
-use Rattle.edit.proofs.Entries.{of-widths, field-size}
+use Rattle.edit.specs.Packing.{packed, entryList, readValue, valuesIn, keyWidthsOf, widthsOf, oneMost}
+use Rattle.edit.proofs.Calls.{size-some, le-one, le-two, put-at, behind-put}
+use Rattle.edit.proofs.Entries.{field-size}
 
 -- ---- which values a field takes
 
@@ -172,38 +175,127 @@ module _ (a : ℕ) (b : ℕ) (vs : List ℕ) (k : ℕ) where
   unfolding fitWidths
   none-more e = unlike (sym (and-false (ltb a (256 ^ k))) ∙ e)
 
--- as many of the three words' bytes as the widths have
-abbrev Written : List ℕ → Values → Type 0
-Written ks v = fitWidths ks (valuesIn v) ≡ true → take (total ks) (unpacked (packedOf v)) ≡ written (row ks (valuesIn v))
+-- a value has as many of its lowest bytes as its width says
+module _ (s : List ℕ) (at v : ℕ) where
+  one-written : (k : ℕ) → sets s at (le k v) ≡ sets s at (written (row (k ∷ []) (v ∷ [])))
+  unfolding written row
+  one-written k = ap (sets s at) (sym (append-nil (le k v)))
 
-first-bytes : (k m a : ℕ) (bs : List ℕ) → k ≤ m → take k (le m a ++ bs) ≡ le k a
-unfolding le
-first-bytes zero m a bs h = refl
-first-bytes (suc k) zero a bs h = absurd (omega arith)
-first-bytes (suc k) (suc m) a bs h = ap (λ (l : List ℕ). a % 256 ∷ l) (first-bytes k m (a / 256) bs (omega arith))
+  pub byte-written : put 1 s at (v % 256) ≡ sets s at (written (row (1 ∷ []) (v ∷ [])))
+  unfolding put
+  byte-written = ap (sets s at) (le-one v) ∙ one-written 1
 
-written-one : (k : ℕ) → k ≤ 4 → (v : Values) → Written (k ∷ []) v
-unfolding total unpacked packedOf written row valuesIn
-written-one k h (One a) e = rw (add-zero, append-nil) (first-bytes k 4 a (le 4 0 ++ le 4 0) h)
-written-one k h (Two a b) e = absurd (none-more a b [] k e)
-written-one k h (Three a b c) e = absurd (none-more a b (c ∷ []) k e)
+  pub half-written : put 2 s at (v % 65536) ≡ sets s at (written (row (2 ∷ []) (v ∷ [])))
+  unfolding put
+  half-written = ap (sets s at) (le-two v) ∙ one-written 2
 
-written-step : (v : Values) → Written (4 ∷ 2 ∷ []) v
-unfolding total unpacked packedOf written row valuesIn le
-written-step (One a) e = absurd (unlike (step-one a ∙ e))
-written-step (Two a b) e = refl
-written-step (Three a b c) e = absurd (unlike (step-three a b c ∙ e))
+  pub word-written : put 4 s at v ≡ sets s at (written (row (4 ∷ []) (v ∷ [])))
+  unfolding put
+  word-written = one-written 4
 
-written-hermite : (v : Values) → Written (4 ∷ 4 ∷ 4 ∷ []) v
-unfolding total unpacked packedOf written row valuesIn le
-written-hermite (One a) e = absurd (unlike (hermite-one a ∙ e))
-written-hermite (Two a b) e = absurd (unlike (hermite-two a b ∙ e))
-written-hermite (Three a b c) e = refl
+-- a new key
+module _ (s : List ℕ) (at : ℕ) where
+  pub step-written : {s₁ s₂ : List ℕ} (a v : ℕ) → s₁ ≡ put 4 s at a → s₂ ≡ put 2 s₁ (at + 4) (v % 65536) → s₂ ≡ sets s at (written (row (4 ∷ 2 ∷ []) (a ∷ v ∷ [])))
+  unfolding written row
+  step-written {s₁} {s₂} a v e₁ e₂ = e₂ ∙ half-written s₁ (at + 4) v ∙ behind-put s at a (le 2 v ++ []) e₁
 
-pub new-bytes : (f : Field) (v : Values) → fit f (valuesIn v) ≡ true → take (total (widths f)) (unpacked (packedOf v)) ≡ written (row (widths f) (valuesIn v))
-new-bytes f v e =
-    of-widths (λ ks. Written ks v) (written-one 1 (omega arith) v) (written-one 2 (omega arith) v) (written-one 4 (omega arith) v) (written-step v) (written-hermite v) f
-    (and-left (fitWidths (widths f) (valuesIn v)) (allowed f (valuesIn v)) (unfold fit in e))
+  pub hermite-written : (b : HermiteBits) → putPatterns s at b ≡ sets s at (written (row (4 ∷ 4 ∷ 4 ∷ []) (b .0 ∷ b .1 ∷ b .2 ∷ [])))
+  unfolding putPatterns written row
+  hermite-written b =
+      let s₁ : List ℕ = put 4 s at (b .0) in
+      let s₂ : List ℕ = put 4 s₁ (at + 4) (b .1) in
+      let q : at + 8 ≡ at + 4 + 4 = omega arith in
+      put-at s₂ (at + 8) (at + 4 + 4) (b .2) q ∙ one-written s₂ (at + 4 + 4) (b .2) 4
+      ∙ behind-put s₁ (at + 4) (b .1) (le 4 (b .2) ++ []) refl
+      ∙ behind-put s at (b .0) (le 4 (b .1) ++ (le 4 (b .2) ++ [])) refl
+
+-- ---- the field of a change's place, where it takes the new value, has the widths that the value is written with
+
+-- a key that its curve takes is of the curve's kind
+kind-widths : (curve : ℕ) (new : NewKey) → fitWidths (keyWidths curve) (keyWords new) ≡ true → keyWidths curve ≡ keyWidthsOf new
+unfolding keyWidths keyWidthsOf keyWords valuesIn
+kind-widths zero (Constant v) e = refl
+kind-widths zero (Step f v) e = absurd (none-more (patternOf f) v [] 4 e)
+kind-widths zero (Hermite h) e = absurd (none-more (patternsOf h .0) (patternsOf h .1) (patternsOf h .2 ∷ []) 4 e)
+kind-widths (suc zero) (Constant v) e = absurd (unlike (step-one (patternOf v) ∙ e))
+kind-widths (suc zero) (Step f v) e = refl
+kind-widths (suc zero) (Hermite h) e = absurd (unlike (step-three (patternsOf h .0) (patternsOf h .1) (patternsOf h .2) ∙ e))
+kind-widths (suc (suc c)) (Constant v) e = absurd (unlike (hermite-one (patternOf v) ∙ e))
+kind-widths (suc (suc c)) (Step f v) e = absurd (unlike (hermite-two (patternOf f) v ∙ e))
+kind-widths (suc (suc c)) (Hermite h) e = refl
+
+key-widths : (curve : ℕ) (new : NewKey) → fit (Key curve) (keyWords new) ≡ true → widths (Key curve) ≡ keyWidthsOf new
+unfolding fit widths
+key-widths curve new e = kind-widths curve new (and-left (fitWidths (keyWidths curve) (keyWords new)) (allowed (Key curve) (keyWords new)) e)
+
+module _ (vs ks : List ℕ) where
+  record Alike (x : Spot) : Type 0 where
+    same : (at : ℕ) (f : Field) → x ≡ spot at f → fit f vs ≡ true → widths f ≡ ks
+
+  alike-none : Alike nowhere
+  alike-none = record { same = λ at f e. absurd (let z : _≡_ {A = ℕ} 0 1 = cc in omega arith) }
+
+  alike-spot : (at : ℕ) (f : Field) → (fit f vs ≡ true → widths f ≡ ks) → Alike (spot at f)
+  alike-spot at f h = record { same = λ b g e. let d : f ≡ g = cc in subst (λ (g : Field). fit g vs ≡ true → widths g ≡ ks) d h }
+
+  alike-pick : (b : Bool) (x : Spot) → Alike x → Alike (pick b x nowhere)
+  alike-pick true x h = h
+  alike-pick false x h = alike-none
+
+  alike-else : (b : Bool) (x : Spot) → Alike x → Alike (pick b nowhere x)
+  alike-else true x h = alike-none
+  alike-else false x h = h
+
+  alike-after : (r : Res (List Item)) (g : ℕ → Spot) → ((q : ℕ) → Alike (g q)) → Alike (after r g)
+  alike-after (ok is q) g h = h q
+  alike-after (stop f) g h = alike-none
+
+  alike-path : (s : List ℕ) (c i : ℕ) (g : ℕ → Spot) → ((b : ℕ) → Alike (g b)) → Alike (contentIn s c (λ b. infoIn s b i g))
+  unfolding contentIn infoIn
+  alike-path s c i g h =
+      let b : ℕ = get 4 s (get 4 s 16 + 4 * c) in
+      let a : ℕ = b + get 4 s (infoTableIn s b + 4 * i) in
+      alike-pick (ltb c (get 2 s 14)) (pick (ltb i (get 1 s (b + 28))) (g a) nowhere) (alike-pick (ltb i (get 1 s (b + 28))) (g a) (h a))
+
+  alike-target : (s : List ℕ) (b t : ℕ) (g : ℕ → Spot) → ((q : ℕ) → Alike (g q)) → Alike (targetIn s b t g)
+  unfolding targetIn
+  alike-target s b t g h =
+      let q : ℕ = b + get 4 s (b + 8 + 4 * t) in
+      alike-else (eqb (get 4 s b) fleu) (pick (ltb t (get 1 s (b + 4))) (g q) nowhere) (alike-pick (ltb t (get 1 s (b + 4))) (g q) (h q))
+
+  alike-datum : (s : List ℕ) (b d : ℕ) (g : ℕ → Spot) → ((q : ℕ) → Alike (g q)) → Alike (datumIn s b d g)
+  unfolding datumIn
+  alike-datum s b d g h =
+      let r : Res (List Item) = many d datum s (b + 8) in
+      alike-pick (eqb (get 4 s b) fleu) (pick (ltb d (get 1 s (b + 4))) (after r g) nowhere) (alike-pick (ltb d (get 1 s (b + 4))) (after r g) (alike-after r g h))
+
+  alike-key : (s : List ℕ) (q k : ℕ) → ((curve : ℕ) → fit (Key curve) vs ≡ true → widths (Key curve) ≡ ks) → Alike (keyIn s q k)
+  unfolding keyIn
+  alike-key s q k h =
+      let curve : ℕ = curveOf (get 1 s (q + 2)) in
+      let at : ℕ = q + get 4 s (q + 8) + k * stride curve in
+      alike-pick (ltb k (countOf (get 1 s (q + 2)) (get 2 s (q + 4)))) (spot at (Key curve)) (alike-spot at (Key curve) (h curve))
+
+  alike-value : (s : List ℕ) (q l v : ℕ) → (fit Value vs ≡ true → widths Value ≡ ks) → Alike (valueIn s q l v)
+  unfolding valueIn
+  alike-value s q l v h =
+      let at : ℕ = q + 16 + 4 * (l * get 4 s (q + 8) + v) in
+      alike-pick (ltb l 3 && ltb v (get 4 s (q + 8))) (spot at Value) (alike-spot at Value h)
+
+alike : (s : List ℕ) (change : Change) → Alike (valuesOf change) (widthsOf change) (locate s (placeOf change))
+unfolding locate placeOf valuesOf widthsOf widths
+alike s (setFrameCount v) = alike-spot (v ∷ []) (2 ∷ []) _ _ (λ e. refl)
+alike s (setLooping v) = alike-spot (v ∷ []) (1 ∷ []) _ _ (λ e. refl)
+alike s (setLayer c i t v) = alike-path (v ∷ []) (1 ∷ []) s c i _ (λ b. alike-target (v ∷ []) (1 ∷ []) s b t _ (λ q. alike-spot (v ∷ []) (1 ∷ []) _ _ (λ e. refl)))
+alike s (setTarget c i t v) = alike-path (v ∷ []) (1 ∷ []) s c i _ (λ b. alike-target (v ∷ []) (1 ∷ []) s b t _ (λ q. alike-spot (v ∷ []) (1 ∷ []) _ _ (λ e. refl)))
+alike s (setKey c i t k new) =
+    alike-path (keyWords new) (keyWidthsOf new) s c i _
+    (λ b. alike-target (keyWords new) (keyWidthsOf new) s b t _ (λ q. alike-key (keyWords new) (keyWidthsOf new) s q k (λ curve. key-widths curve new)))
+alike s (setValue c i d l n v) =
+    alike-path (v ∷ []) (4 ∷ []) s c i _ (λ b. alike-datum (v ∷ []) (4 ∷ []) s b d _ (λ q. alike-value (v ∷ []) (4 ∷ []) s q l n (λ e. refl)))
+
+pub spot-widths : (s : List ℕ) (change : Change) (at : ℕ) (f : Field) → locate s (placeOf change) ≡ spot at f → fit f (valuesOf change) ≡ true → widths f ≡ widthsOf change
+spot-widths s change at f e = alike s change .same at f e
 
 -- ---- the bytes that stood there
 
@@ -291,11 +383,6 @@ module _ (f : Field) {n : ℕ} (en : n ≡ total (widths f)) where
 
   pub size-room : (at k : ℕ) → at + total (widths f) ≤ k → at < k
   size-room at k h = omega (arith, h, size-some n size-good, en)
-
--- the field written
-pub field-written : (s : List ℕ) (at n : ℕ) (f : Field) (v : Values) (p : Packed) → n ≡ total (widths f) → p ≡ packedOf v → fit f (valuesIn v) ≡ true
-    → sets s at (take n (unpacked p)) ≡ sets s at (written (row (widths f) (valuesIn v)))
-field-written s at n f v p en ep e = rw (en, ep) (ap (sets s at) (new-bytes f v e))
 
 -- ---- the call, in a section that reads
 

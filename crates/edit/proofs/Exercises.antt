@@ -1,17 +1,20 @@
 -- The starred exercises of document 01 ('Exercises with their solutions'), as one theorem over a list of them.
 -- Assumes nothing.
 use Prim.Native.Nat.{ℕ}
-use mathlib.Core.Path.{_≡_, refl}
+use mathlib.Core.Path.{_≡_, refl, ap}
 use mathlib.Core.List.{List, [], _∷_, _++_}
+use native.Mathlib.Omega.{arith}
 use lib.ListN.{length, replicate}
 use lib.Seq.{sets}
 use Rattle.core.specs.Fill.{paddingOf}
+use Rattle.core.specs.Float.{floatOf}
 use Rattle.core.specs.Number.{le, val, get, readOf}
 use Rattle.core.specs.Outcome.{accepted}
 use Rattle.core.specs.Seek.{seekOf}
 use Rattle.core.specs.Text.{beforeZero, firstFault, fixedOf, endedOf}
 use Rattle.core.specs.Utf8.{rows as utf8Rows, within, classOf, laterOf, matched, more, good, pieceOf, piecesAfter, pieces, shown, decoded, decode, leading, sound as soundOf}
 use Rattle.core.proofs.Exercises.{TextExercise, textExercises}
+use Rattle.core.proofs.Floats.{pattern-back}
 use Rattle.bflan.specs.Answer.{ofFault, filled, reading}
 use Rattle.bflan.specs.Judge.{word, chars, text, times, row, target, datum, info, content, ends, section as judgeSection}
 use Rattle.bflan.specs.Layout.{size, written, parts, table, keySkip, keyLay, targetLay, ended, datumLay, infoHead, infoLay, dataOut, infosOut, tableFrom, infosFrom, userLay, contentBody, contentLay, namesEnd, contentTable, sectionSize, sectionLay, row as rowLay}
@@ -22,10 +25,12 @@ use Rattle.bflan.specs.Reading.{curveOf, countOf, keys, target as readTarget, d
 use Rattle.bflan.specs.Record.{keyWidths}
 use Rattle.bflan.specs.Walk.{wordsOf, textsOf}
 use Rattle.bflan.specs.Writing.{stored, judged, writing}
-use Rattle.bflan.specs.declared.place.Place.{Place}
 use Rattle.bflan.specs.declared.place.Place.the-variants.{Key}
 use Rattle.bflan.proofs.Exercises.{stepped, SectionExercise, both, reads, refused, sectionExercises}
-use Rattle.edit.specs.Editing.{atSpot, onReading, editing}
+use Rattle.edit.specs.declared.edit.Change.{Change}
+use Rattle.edit.specs.declared.edit.Change.the-variants.{Key as setKey}
+use Rattle.edit.specs.declared.key.NewKey.the-variants.{Step}
+use Rattle.edit.specs.Editing.{keyWords, placeOf, valuesOf, atSpot, onReading, editing}
 use Rattle.edit.specs.Format.{pai1}
 use Rattle.edit.specs.Journal.{capacity, padded, entryOf}
 
@@ -33,7 +38,16 @@ use Rattle.edit.specs.Journal.{capacity, padded, entryOf}
 pub data Exercise : Type 0 where
   shows : List ℕ → List ℕ → Exercise
   section : SectionExercise → Exercise
-  edits : List ℕ → Place → List ℕ → List ℕ → List ℕ → Exercise
+  edits : List ℕ → Change → List ℕ → List ℕ → Exercise
+
+-- the Step key (0.0, 1) gets the value 0
+abbrev pub valueZero : Change
+valueZero = setKey 0 0 0 0 (Step (floatOf 0) 0)
+
+-- a frame keeps its bits
+value-zero : valuesOf valueZero ≡ 0 ∷ 0 ∷ []
+unfolding valuesOf keyWords
+value-zero = ap (λ (n : ℕ). n ∷ 0 ∷ []) (pattern-back 0 (omega arith))
 
 -- into tables and an output that are just long enough
 abbrev pub Gives : List ℕ → List ℕ → List ℕ → Type 0
@@ -47,7 +61,7 @@ Solved (shows t d) = decode t ≡ d
 Solved (section (both s w x)) = Gives s w x × Writes s w x
 Solved (section (reads s w x)) = Gives s w x
 Solved (section (refused s a)) = reading s [] [] ≡ (a, [], [])
-Solved (edits s p vs s′ e) = editing pai1 s (0 ∷ 0 ∷ 0 ∷ 0 ∷ 0 ∷ []) 0 p vs ≡ (accepted (1 ∷ []), s′, e)
+Solved (edits s change s′ e) = editing pai1 s (0 ∷ 0 ∷ 0 ∷ 0 ∷ 0 ∷ []) 0 (placeOf change) (valuesOf change) ≡ (accepted (1 ∷ []), s′, e)
 
 -- those of the layers below
 abbrev pub texts : List TextExercise → List Exercise
@@ -59,12 +73,12 @@ sections [] = []
 sections (e ∷ es) = section e ∷ sections es
 
 abbrev pub exercises : List Exercise
-exercises = texts textExercises ++ sections sectionExercises ++ edits stepped (Key 0 0 0 0) (0 ∷ 0 ∷ []) (sets stepped 88 (0 ∷ [])) (84 ∷ 6 ∷ 0 ∷ 1 ∷ 0 ∷ []) ∷ []
+exercises = texts textExercises ++ sections sectionExercises ++ edits stepped valueZero (sets stepped 88 (0 ∷ [])) (84 ∷ 6 ∷ 0 ∷ 1 ∷ 0 ∷ []) ∷ []
 
 abbrev pub AllSolved : List Exercise → Type 0
 AllSolved [] = Unit {0}
 AllSolved (e ∷ es) = Solved e × AllSolved es
 
 pub all-solved : AllSolved exercises
-unfolding le val get readOf seekOf beforeZero firstFault fixedOf endedOf paddingOf utf8Rows within classOf laterOf matched more good pieceOf piecesAfter pieces shown decoded decode leading soundOf word chars text times row target datum info content ends judgeSection ofFault filled reading wordsOf textsOf size written parts table keySkip keyLay targetLay ended datumLay infoHead infoLay dataOut infosOut tableFrom infosFrom userLay contentBody contentLay namesEnd contentTable sectionSize sectionLay rowLay rows fleu kindOf lettersOf targetOf lettersFit targetFits widths total fitWidths allowed fit stride keyIn targetIn infoTableIn infoIn contentIn locate num seekTo skip fixedText endedText oneEnded numbers many visit curveOf countOf keys readTarget readDatum readInfo typeOf infoTable readContent texture contents flagOf body readSection keyWidths stored judged writing atSpot onReading editing capacity padded entryOf
-all-solved = (refl, (refl, (refl, ((refl, refl), ((refl, refl), ((refl, refl), ((refl, refl), (refl, (refl, (refl, (refl, (refl, (refl, tt)))))))))))))
+unfolding le val get readOf seekOf beforeZero firstFault fixedOf endedOf paddingOf utf8Rows within classOf laterOf matched more good pieceOf piecesAfter pieces shown decoded decode leading soundOf word chars text times row target datum info content ends judgeSection ofFault filled reading wordsOf textsOf size written parts table keySkip keyLay targetLay ended datumLay infoHead infoLay dataOut infosOut tableFrom infosFrom userLay contentBody contentLay namesEnd contentTable sectionSize sectionLay rowLay rows fleu kindOf lettersOf targetOf lettersFit targetFits widths total fitWidths allowed fit stride keyIn targetIn infoTableIn infoIn contentIn locate num seekTo skip fixedText endedText oneEnded numbers many visit curveOf countOf keys readTarget readDatum readInfo typeOf infoTable readContent texture contents flagOf body readSection keyWidths stored judged writing placeOf atSpot onReading editing capacity padded entryOf
+all-solved = (refl, (refl, (refl, ((refl, refl), ((refl, refl), ((refl, refl), ((refl, refl), (refl, (refl, (refl, (refl, (refl, (ap (λ (vs : List ℕ). editing pai1 stepped (0 ∷ 0 ∷ 0 ∷ 0 ∷ 0 ∷ []) 0 (Key 0 0 0 0) vs) value-zero, tt)))))))))))))

@@ -5,26 +5,32 @@ use mathlib.Core.Path.{_≡_, refl, ap, sym, _∙_}
 use mathlib.Core.Bool.{Bool, true, false}
 use mathlib.Core.List.{List, [], _∷_}
 use native.Mathlib.Omega.{arith}
+use borrow.Author.Tests.{le-leb}
 use lib.ListN.{length, getD}
 use Rattle.core.specs.Float.{floatOf, hermiteOf, patternsAt}
 use Rattle.core.specs.Number.{get}
 use Rattle.core.specs.declared.float.Binary32.{Binary32}
 use Rattle.core.specs.declared.float.Hermite.{Hermite as HermiteForm}
 use Rattle.core.proofs.Numbers.{get-zero, get-suc}
-use Rattle.bflan.specs.FieldValues.{numbersIn, asRead}
+use Rattle.bflan.specs.FieldValues.{foundOf, numbersIn, asRead}
 use Rattle.bflan.specs.Letters.{targetOf}
-use Rattle.bflan.specs.Locating.{locating}
-use Rattle.bflan.specs.Places.{widths, total}
-use Rattle.bflan.specs.Reading.{flagOf}
-use Rattle.bflan.specs.Record.{keyWidths}
+use Rattle.bflan.specs.Limits.{limit, Readable}
+use Rattle.bflan.specs.Locating.{ofSpot, locatingIn, locating}
+use Rattle.bflan.specs.Places.{Spot, nowhere, spot, widths, total, locate}
+use Rattle.bflan.specs.Reader.{ok, Item}
+use Rattle.bflan.specs.Reading.{flagOf, section}
+use Rattle.bflan.specs.Record.{PaneAnimInfo, keyWidths, words, texts}
+use Rattle.bflan.specs.Walk.{wordsOf, textsOf}
+use Rattle.bflan.proofs.LocatedFields.{located-field, located-values}
 use Rattle.bflan.specs.declared.place.Field.{Field}
 use Rattle.bflan.specs.declared.place.Field.the-variants.{FrameCount as frames, Looping as looping, Layer as layer, Target as number, Key as key, Value as value}
 use Rattle.bflan.specs.declared.place.Located.{Located}
 use Rattle.bflan.specs.declared.place.Place.{Place}
+use Rattle.edit.specs.declared.field.FieldAnswer.the-variants.{Is}
 use Rattle.edit.specs.declared.field.FieldValue.the-variants.{FrameCount, Looping, Layer, Target, Key, Value}
 use Rattle.edit.specs.declared.key.NewKey.{NewKey}
 use Rattle.edit.specs.declared.key.NewKey.the-variants.{Constant, Step, Hermite}
-use Rattle.edit.specs.FieldAt.{keyOf, fieldValue, readAt, atLocated, fieldAt}
+use Rattle.edit.specs.FieldAt.{keyOf, fieldValue, readAt, atLocated, fieldAt, atFound, fieldIn}
 
 -- ---- what is read
 
@@ -91,3 +97,19 @@ module _ (s : List ℕ) (at : ℕ) where
 pub field-by : (s : List ℕ) (p : Place) {l x : Located} → l ≡ locating s p → l ≡ x → atLocated s x ≡ fieldAt s p
 unfolding fieldAt
 field-by s p el e = ap (atLocated s) (sym e ∙ el)
+
+-- ---- the law: of every section that reads, and the record that it reads as, the answer is the record's own field with its values there
+
+module _ (s : List ℕ) (short : length s ≤ limit) (is : List Item) (end : ℕ) (reads : section s 0 ≡ ok is end)
+    (r : PaneAnimInfo) (readable : Readable r) (ew : words r ≡ wordsOf s is) (ex : texts r ≡ textsOf s is) (p : Place) where
+  by-spot : fieldAt s p ≡ atLocated s (ofSpot (locate s p))
+  unfolding fieldAt locating locatingIn
+  by-spot = rw (le-leb (length s) limit short, reads)
+
+  pub field-record : fieldAt s p ≡ fieldIn r p
+  unfolding ofSpot foundOf atLocated readAt atFound fieldIn
+  field-record = by-spot ∙ go (locate s p) refl ∙ ap (atFound r p) (located-field s is end reads r readable ew ex p)
+    where
+      go : (x : Spot) → locate s p ≡ x → atLocated s (ofSpot x) ≡ atFound r p (foundOf x)
+      go nowhere e = refl
+      go (spot at f) e = ap (λ (vs : List ℕ). Is (fieldValue f vs)) (sym (located-values s is end reads r readable ew ex p at f e))

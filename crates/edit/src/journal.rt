@@ -1,4 +1,4 @@
-// The journal: five words an entry. The old bytes of a field stand in three of them, and so do the new ones until they are written.
+// The journal: five words an entry. The old bytes of a field stand in three of them.
 ghost use mathlib.Core.Path.{_≡_};
 ghost use mathlib.Core.Bool.{true, _&&_};
 ghost use lib.ListN.{length, take, drop};

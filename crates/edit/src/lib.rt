@@ -4,4 +4,4 @@ pub mod field;
 mod journal;
 pub mod key;
 pub mod undo;
-pub mod values;
+mod values;

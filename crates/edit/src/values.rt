@@ -4,9 +4,8 @@ ghost use mathlib.Core.List.{[], _∷_};
 ghost use Rattle.bflan.specs.Places.{widths, total, fitWidths, fit};
 ghost use Rattle.bflan.specs.declared.place.Field.the-variants.{Target, Key};
 ghost use Rattle.edit.specs.Editing.{placeOf, keyWords, valuesOf};
-ghost use Rattle.edit.specs.Packing.{valuesIn, packedOf, oneMost};
+ghost use Rattle.edit.specs.Packing.{valuesIn, oneMost};
 use crate::edit::Change;
-use crate::journal::Packed;
 use crate::key::NewKey;
 use bflan::letters::target_fits;
 use bflan::place::Field;
@@ -56,17 +55,6 @@ pub(crate) fn values_of(change: Change) -> Values
         Change::Target(_c, _i, _t, v) => Values::One(v),
         Change::Key(_c, _i, _t, _k, new) => key_values(new),
         Change::Value(_c, _i, _d, _l, _n, v) => Values::One(v),
-    }
-}
-
-// The bytes that are written, a word each; of the last word the field's size says how many.
-pub(crate) fn packed_of(v: Values) -> Packed
-    ensures { λ r. ⌜ r ≡ packedOf v ⌝ }
-{
-    match v {
-        Values::One(a) => Packed { a, b: 0, c: 0 },
-        Values::Two(a, b) => Packed { a, b, c: 0 },
-        Values::Three(a, b, c) => Packed { a, b, c },
     }
 }
 

@@ -7,8 +7,8 @@ use mathlib.Core.Path.{sym}
 use Rattle.capi.specs.Changed.{changed}
 use Rattle.capi.proofs.Flats.{three-of}
 
-edit-values-requires : tie.Need-edit-values-requires
-edit-values-requires c κs = search needs
+edit-requires : tie.Need-edit-requires
+edit-requires c κs = search needs
 
 of-editing-requires : tie.Need-of-editing-requires
 of-editing-requires c κs = search needs
@@ -28,14 +28,14 @@ same-length-3 c = search needs
 returns : tie.Need-returns
 unfolding changed
 returns c =
-    let e = c .before .before .before .before .before .before .before .before .before .edit-values .ensures in
+    let e = c .before .before .before .before .before .before .before .before .before .edit .ensures in
     rw (sym e) (rw (c .before .before .put3 .ensures, sym (three-of _ _ _ _ _ (c .before .before .before .of-editing .ensures))))
 
 pub change-spec : {M : Type 1} → statement M
 change-spec =
     tie.close
     (tie.spec
-    edit-values-requires
+    edit-requires
     of-editing-requires
     put3-requires
     same-length
