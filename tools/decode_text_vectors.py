@@ -137,16 +137,34 @@ def wrong(line, what):
 
 
 remark()
+remark('# Lines that end with a carriage return and a newline: a remark, a blank line, bytes, no byte, and the longest line')
+for line in ('# a remark', ''):
+    stdin.append(line + '\r')
+    stdout.append(line)
+vector('C3 A9\r', b'\xC3\xA9')
+vector(' # no byte\r', b'')
+vector('FF' * 512 + '\r', b'\xFF' * 512)
+
+remark('# A remark with control bytes, which are escaped, and one with other characters, which are not')
+stdin.append('# \x1B[31m, \x01\t\r\x1F, \x7F')
+stdout.append(r'# \x1B[31m, \x01\x09\x0D\x1F, \x7F')
+remark(r'# \x1B, ~, é')
+
+remark()
 remark('# Lines that are refused')
 wrong('C3 A', 'no byte in hexadecimal at A')
 wrong('C3 G9', 'no byte in hexadecimal at G9')
 wrong('0 0', 'no byte in hexadecimal at 0 0')
 wrong('41' * 512 + ' ', 'more than 1024 characters')
+wrong('41' * 512 + ' \r', 'more than 1024 characters')
+wrong('41' * 512 + '\r\r', 'more than 1024 characters')
+wrong('41 \x1B[31m', r'no byte in hexadecimal at \x1B[31m')
+wrong('41\r42\r', r'no byte in hexadecimal at \x0D42')
 remark('# The last line has no end')
 vector('41', b'A')
 
 here = os.path.join(os.path.dirname(os.path.abspath(__file__)), '..', 'crates', 'decode_text')
-with open(os.path.join(here, 'stdin'), 'w') as f:
+with open(os.path.join(here, 'stdin'), 'w', encoding='utf-8') as f:
     f.write('\n'.join(stdin))
-with open(os.path.join(here, 'stdout'), 'w') as f:
+with open(os.path.join(here, 'stdout'), 'w', encoding='utf-8') as f:
     f.write('\n'.join(stdout) + '\n')

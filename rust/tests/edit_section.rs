@@ -1,6 +1,10 @@
 //! The program `edit_section` beside document 01's definitions of the calls that it makes.
 mod programs;
 
+use std::io::Write;
+use std::path::Path;
+use std::process::{Command, Stdio};
+
 use compare::calls::calls;
 use compare::change::{Call, Change, NewKey};
 use compare::editor::{ByLayout, Editor};
@@ -118,12 +122,21 @@ fn changes_are_made() {
     assert!(made > 100 && refused.len() > 5, "{made} made, {refused:?}");
 }
 
-/// What is no list of changes is answered by what is wrong, and how to say one.
+/// What a program says on standard error, when it writes nothing to standard output.
+fn complaint(program: &Path, args: &[String], input: &[u8]) -> String {
+    let mut run = Command::new(program);
+    let mut run = run.args(args).stdin(Stdio::piped()).stdout(Stdio::piped()).stderr(Stdio::piped()).spawn().unwrap();
+    run.stdin.take().unwrap().write_all(input).unwrap();
+    let output = run.wait_with_output().unwrap();
+    assert!(output.status.success() && output.stdout.is_empty(), "{args:?}");
+    String::from_utf8(output.stderr).unwrap()
+}
+
+/// What is no list of changes is answered by what is wrong, and how to say one, on standard error.
 #[test]
 fn what_is_no_change_is_said() {
     let program = program("edit_section");
     let cases = [
-        ("", ""),
         ("frame 1", "argument 1 is no name of a change\n"),
         ("frames 1 2", "argument 3 is no name of a change\n"),
         ("frames", "argument 1 is a change with too few numbers behind it\n"),
@@ -135,8 +148,12 @@ fn what_is_no_change_is_said() {
     ];
     for (args, wrong) in cases {
         let words: Vec<String> = args.split_whitespace().map(str::to_owned).collect();
-        let said = String::from_utf8(output(&program, &words, &content_p())).unwrap();
+        let said = complaint(&program, &words, &content_p());
         assert!(said.starts_with(&format!("{wrong}usage: edit_section")), "{args}: {said}");
+    }
+    for args in [vec![], vec!["--help".to_owned()]] {
+        let said = String::from_utf8(output(&program, &args, &[])).unwrap();
+        assert!(said.starts_with("usage: edit_section"), "{args:?}: {said}");
     }
 }
 

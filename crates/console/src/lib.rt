@@ -1,4 +1,7 @@
-// What the programs over a section share: the room for their input, and what they say of a refusal.
+// What the programs share: their arguments and usage, the room for their input, what they read and write, and what they say of a refusal.
+pub mod argument;
+pub mod hex;
+pub mod input;
 pub mod number;
 pub mod output;
 pub mod refusal;

@@ -1,5 +1,5 @@
 // What is said of a section that does not read: the refusal's number, its values, and a sentence.
-ghost use Prim.Native.Nat.{_<_};
+use crate::hex::say_escaped;
 use crate::number::number_of;
 use crate::output::say;
 use crate::output::say_number;
@@ -29,12 +29,6 @@ fn say_bytes(before: &[u8], n: usize) {
     }
 }
 
-fn glyph(n: u8) -> u8
-    requires { ⌜ n < 16 ⌝ }
-{
-    if n < 10 { b'0' + n } else { b'A' + (n - 10) }
-}
-
 // One of the four letters within quotes, which can be any byte: escaped as show_tracks does it in a text, and where it is no ASCII.
 fn say_letter(b: u8) {
     match b {
@@ -46,10 +40,7 @@ fn say_letter(b: u8) {
             let text = [b];
             say(&text);
         }
-        _ => {
-            let text = [b'\\', b'x', glyph(b / 16), glyph(b % 16)];
-            say(&text);
-        }
+        _ => say_escaped(b),
     }
 }
 

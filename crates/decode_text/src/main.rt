@@ -1,15 +1,35 @@
 // Decodes texts: each line of standard input that has bytes in hexadecimal, as `C0 AF 41`, is answered by the number of bytes
 // of its decoding and these bytes. A blank line and one that starts with `#` are passed on. In any other line `#` begins a
-// remark, so that ` # nothing` is the empty text.
+// remark, so that ` # nothing` is the empty text. A line ends with a newline, or with a carriage return and a newline. Of a line that is
+// passed on, or cited, control bytes are written as `\x1B`.
+//
+// What follows a read of standard input that fails is not answered, nor is the line that had begun; standard error has the reason, and
+// the number of that line. Where standard output cannot be written, standard error says so. `--help` is answered by the usage; any
+// other argument too, on standard error and with nothing on standard output.
+mod visible;
+
+use crate::visible::say_visible;
+use console::argument::Asked;
+use console::argument::arguments;
+use console::hex::hex_digit;
+use console::output::can_say;
+use console::output::finish;
+use console::output::say;
+use console::output::say_number;
+use console::output::say_number_to;
+use console::output::say_to;
 use core::part::part;
+use libc::STDERR_FILENO;
 use libc::STDIN_FILENO;
 use libc::STDOUT_FILENO;
 ghost use mathlib.Core.Path.{_≡_};
 ghost use Prim.Native.Nat.{_+_, _≤_, _<_};
 ghost use lib.ListN.{length};
 
-// The characters of a line.
+// The most characters of a line.
 const LINE: usize = 1024;
+// The room for them, and for a carriage return behind them.
+const ROOM: usize = 1025;
 // The bytes that they can stand for.
 const BYTES: usize = 512;
 // What these can decode to, where each becomes U+FFFD.
@@ -25,12 +45,13 @@ enum Hex {
     Bad(usize),
 }
 
-// Where the reading is: the characters of the present line so far, LINE + 1 if there are too many, its number, and whether more
-// input may come.
+// Where the reading is: the characters of the present line so far, ROOM + 1 if they have no room, its number, whether more input may
+// come, and whether a read failed.
 struct Place {
     len: usize,
-    number: u64,
+    number: usize,
     open: bool,
+    failed: bool,
 }
 
 // A number at u16.
@@ -125,20 +146,13 @@ fn read_hex(text: &[u8], bytes: &mut [u8]) -> Hex {
     Hex::Bytes(n)
 }
 
-// The digit of a number below 16.
-fn glyph(n: u8) -> u8
-    requires { ⌜ n < 16 ⌝ }
-{
-    if n < 10 { b'0' + n } else { b'A' + (n - 10) }
-}
-
 // A blank and a byte's two digits.
 fn put_byte(b: u8, out: &mut [u8], at: usize)
     requires { ⌜ at + 3 ≤ length (now out) ⌝ }
 {
     out[at] = b' ';
-    out[at + 1] = glyph(b / 16);
-    out[at + 2] = glyph(b % 16);
+    out[at + 1] = hex_digit(b / 16);
+    out[at + 2] = hex_digit(b);
 }
 
 // The bytes in hexadecimal, as many as have room, and how many characters that are.
@@ -156,20 +170,16 @@ fn put_hex(bytes: &[u8], out: &mut [u8]) -> usize {
     at
 }
 
-fn end_line() {
-    io::write_all(STDOUT_FILENO, b"\n");
-}
-
 // Writes the decoding of a text.
 fn answer(text: &[u8]) {
     let mut decoded = [0u8; DECODED];
     let n = core::utf8::decode_into(text, &mut decoded, 0);
     let mut shown = [0u8; SHOWN];
     let k = put_hex(part(&decoded, 0, n), &mut shown);
-    io::print_decimal(STDOUT_FILENO, n as u64);
-    io::write_all(STDOUT_FILENO, b":");
-    io::write_all(STDOUT_FILENO, part(&shown, 0, k));
-    end_line();
+    say_number(b"", n);
+    say(b":");
+    say(part(&shown, 0, k));
+    say(b"\n");
 }
 
 // The bytes from i on, or none.
@@ -178,17 +188,16 @@ fn rest(s: &[u8], i: usize) -> &[u8] {
 }
 
 // Says what is wrong with a line, and where.
-fn complain(number: u64, what: &[u8], at: &[u8]) {
-    io::write_all(STDOUT_FILENO, b"line ");
-    io::print_decimal(STDOUT_FILENO, number);
-    io::write_all(STDOUT_FILENO, b": ");
-    io::write_all(STDOUT_FILENO, what);
-    io::write_all(STDOUT_FILENO, at);
-    end_line();
+fn complain(number: usize, what: &[u8], at: &[u8]) {
+    say_number(b"line ", number);
+    say(b": ");
+    say(what);
+    say_visible(at);
+    say(b"\n");
 }
 
 // Answers a line that has bytes.
-fn vector(line: &[u8], number: u64) {
+fn vector(line: &[u8], number: usize) {
     let mut bytes = [0u8; BYTES];
     let read = read_hex(line, &mut bytes);
     match read {
@@ -210,39 +219,54 @@ fn is_remark(line: &[u8]) -> bool {
 }
 
 // Answers a line.
-fn answer_line(line: &[u8], number: u64) {
+fn answer_line(line: &[u8], number: usize) {
     if is_remark(line) {
-        io::write_all(STDOUT_FILENO, line);
-        end_line();
+        say_visible(line);
+        say(b"\n");
     } else {
         vector(line, number);
     }
 }
 
-// Answers the line that has been read.
-fn finish(line: &[u8], place: Place) {
-    let len = place.len;
+// Answers the line that has been read, of so many characters.
+fn answer_read(line: &[u8], len: usize, number: usize) {
     if len > LINE {
-        complain(place.number, b"more than 1024 characters", rest(line, len));
+        complain(number, b"more than 1024 characters", b"");
         return;
     }
-    answer_line(part(line, 0, len), place.number);
+    answer_line(part(line, 0, len), number);
+}
+
+// The characters of a line that a newline ended: a carriage return before that is none.
+fn without_return(line: &[u8], len: usize) -> usize {
+    if len == 0 {
+        return 0;
+    }
+    let last = len - 1;
+    if last < line.len() {
+        if line[last] == b'\r' {
+            return last;
+        }
+    }
+    len
 }
 
 // The place at the start of the next line.
 fn next_line(place: Place) -> Place {
     let number = place.number;
-    if number == u64::MAX {
+    if number == usize::MAX {
         return Place {
             len: 0,
             number,
             open: place.open,
+            failed: place.failed,
         };
     }
     Place {
         len: 0,
         number: number + 1,
         open: place.open,
+        failed: place.failed,
     }
 }
 
@@ -255,19 +279,21 @@ fn grown(line: &mut [u8], place: Place, b: u8) -> Place {
             len: len + 1,
             number: place.number,
             open: place.open,
+            failed: place.failed,
         };
     }
     Place {
-        len: LINE + 1,
+        len: ROOM + 1,
         number: place.number,
         open: place.open,
+        failed: place.failed,
     }
 }
 
 // Takes one character of the input.
 fn take_one(line: &mut [u8], place: Place, b: u8) -> Place {
     if b == b'\n' {
-        finish(line, place);
+        answer_read(line, without_return(line, place.len), place.number);
         return next_line(place);
     }
     grown(line, place, b)
@@ -284,16 +310,26 @@ fn take_all(line: &mut [u8], place: Place, input: &[u8]) -> Place {
     now
 }
 
-// Reads once.
+// The place where no more input is read.
+fn stopped(place: Place, failed: bool) -> Place {
+    Place {
+        len: place.len,
+        number: place.number,
+        open: false,
+        failed,
+    }
+}
+
+// Reads once. Where that fails, it says why.
 fn read_some(line: &mut [u8], place: Place) -> Place {
     let mut input = io::buffer();
     let got = libc::read(STDIN_FILENO, &mut input);
-    if got <= 0 {
-        return Place {
-            len: place.len,
-            number: place.number,
-            open: false,
-        };
+    if got < 0 {
+        os::fail(b"decode_text: standard input could not be read");
+        return stopped(place, true);
+    }
+    if got == 0 {
+        return stopped(place, false);
     }
     let n = io::count(got, &input);
     take_all(line, place, &input[..n])
@@ -306,6 +342,7 @@ fn read_all(line: &mut [u8]) -> Place {
         len: 0,
         number: 1,
         open: true,
+        failed: false,
     };
     let mut turns = u64::MAX;
     while turns > 0 && place.open {
@@ -315,11 +352,60 @@ fn read_all(line: &mut [u8]) -> Place {
     place
 }
 
-fn main() {
-    let mut line = [0u8; LINE];
-    let place = read_all(&mut line);
-    // the last line may have no end
+// Says from which line on nothing is answered.
+fn say_unread(number: usize) {
+    say_number_to(STDERR_FILENO, b"decode_text: line ", number);
+    say_to(STDERR_FILENO, b" and what follows it are not answered\n");
+}
+
+// What the end of the input leaves: the last line may have no end.
+fn answer_last(line: &[u8], place: Place) {
+    if place.failed {
+        say_unread(place.number);
+        return;
+    }
     if place.len > 0 {
-        finish(&line, place);
+        answer_read(line, place.len, place.number);
+    }
+}
+
+fn run_program() {
+    if !can_say(b"decode_text: nothing was answered, since standard output could not be written") {
+        return;
+    }
+    let mut line = [0u8; ROOM];
+    let place = read_all(&mut line);
+    answer_last(&line, place);
+    finish(b"decode_text");
+}
+
+fn say_usage(fd: i32) {
+    say_to(fd, b"usage: decode_text < lines\n");
+    say_to(
+        fd,
+        b"Reads texts from standard input, each a line of at most 1024 characters that has its bytes\n",
+    );
+    say_to(
+        fd,
+        b"in hexadecimal, and writes to standard output for each the number of bytes of its decoding\n",
+    );
+    say_to(
+        fd,
+        b"and these bytes. Blank lines and lines that start with # are passed on.\n",
+    );
+    say_to(fd, b"example: echo C0 AF 41 | decode_text\n");
+}
+
+fn main() {
+    match arguments() {
+        Asked::Nothing => run_program(),
+        Asked::Help => {
+            say_usage(STDOUT_FILENO);
+            finish(b"decode_text");
+        }
+        Asked::Other => {
+            say_to(STDERR_FILENO, b"decode_text takes no argument\n");
+            say_usage(STDERR_FILENO);
+        }
     }
 }

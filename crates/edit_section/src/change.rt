@@ -1,11 +1,14 @@
-// The changes that can be said, by their names.
+// The changes that can be said: a command by its name, and the change that it says with its numbers.
 ghost use Prim.Native.Nat.{_≤_};
-use bflan::place::Place;
+use core::float::HermiteBits;
+use core::float::from_bits;
+use core::float::hermite_from_bits;
+use edit::edit::Change;
 use edit::edit::EditAnswer;
-use edit::edit::edit_values;
-use edit::values::Values;
+use edit::edit::edit;
+use edit::key::NewKey;
 
-pub(crate) enum Change {
+pub(crate) enum Command {
     Frames,
     Looping,
     Layer,
@@ -33,50 +36,50 @@ fn same(a: &[u8], b: &[u8]) -> bool {
     true
 }
 
-pub(crate) fn named(name: &[u8]) -> Change {
+pub(crate) fn named(name: &[u8]) -> Command {
     if same(name, b"frames") {
-        return Change::Frames;
+        return Command::Frames;
     }
     if same(name, b"looping") {
-        return Change::Looping;
+        return Command::Looping;
     }
     if same(name, b"layer") {
-        return Change::Layer;
+        return Command::Layer;
     }
     if same(name, b"target") {
-        return Change::Target;
+        return Command::Target;
     }
     if same(name, b"constant") {
-        return Change::Constant;
+        return Command::Constant;
     }
     if same(name, b"step") {
-        return Change::Step;
+        return Command::Step;
     }
     if same(name, b"hermite") {
-        return Change::Hermite;
+        return Command::Hermite;
     }
     if same(name, b"value") {
-        return Change::Value;
+        return Command::Value;
     }
     if same(name, b"undo") {
-        return Change::Undo;
+        return Command::Undo;
     }
-    Change::Unknown
+    Command::Unknown
 }
 
 // How many numbers stand behind a name. (No argument is left for those of an unknown one.)
-pub(crate) fn numbers_of(c: Change) -> usize {
+pub(crate) fn numbers_of(c: Command) -> usize {
     match c {
-        Change::Frames => 1,
-        Change::Looping => 1,
-        Change::Layer => 4,
-        Change::Target => 4,
-        Change::Constant => 5,
-        Change::Step => 6,
-        Change::Hermite => 7,
-        Change::Value => 6,
-        Change::Undo => 0,
-        Change::Unknown => usize::MAX,
+        Command::Frames => 1,
+        Command::Looping => 1,
+        Command::Layer => 4,
+        Command::Target => 4,
+        Command::Constant => 5,
+        Command::Step => 6,
+        Command::Hermite => 7,
+        Command::Value => 6,
+        Command::Undo => 0,
+        Command::Unknown => usize::MAX,
     }
 }
 
@@ -87,33 +90,32 @@ fn at(numbers: &[u32], i: usize) -> u32 {
     0
 }
 
-fn place_of(c: Change, numbers: &[u32]) -> Place {
+// A key by the bits of its floats: the numbers behind the place.
+fn key_of(c: Command, numbers: &[u32]) -> NewKey {
+    let x = at(numbers, 4);
+    let y = at(numbers, 5);
+    match c {
+        Command::Step => NewKey::Step(from_bits(x), y),
+        Command::Hermite => {
+            NewKey::Hermite(hermite_from_bits(HermiteBits(x, y, at(numbers, 6))))
+        }
+        _ => NewKey::Constant(from_bits(x)),
+    }
+}
+
+// The change that a command says: the place, and behind it the new value.
+fn change_of(c: Command, numbers: &[u32]) -> Change {
     let a = at(numbers, 0) as usize;
     let b = at(numbers, 1) as usize;
     let d = at(numbers, 2) as usize;
     let e = at(numbers, 3) as usize;
     match c {
-        Change::Looping => Place::Looping,
-        Change::Layer => Place::Layer(a, b, d),
-        Change::Target => Place::Target(a, b, d),
-        Change::Constant => Place::Key(a, b, d, e),
-        Change::Step => Place::Key(a, b, d, e),
-        Change::Hermite => Place::Key(a, b, d, e),
-        Change::Value => Place::Value(a, b, d, e, at(numbers, 4) as usize),
-        _ => Place::FrameCount,
-    }
-}
-
-// The new value: the numbers behind the place.
-fn values_of(c: Change, numbers: &[u32]) -> Values {
-    match c {
-        Change::Layer => Values::One(at(numbers, 3)),
-        Change::Target => Values::One(at(numbers, 3)),
-        Change::Constant => Values::One(at(numbers, 4)),
-        Change::Step => Values::Two(at(numbers, 4), at(numbers, 5)),
-        Change::Hermite => Values::Three(at(numbers, 4), at(numbers, 5), at(numbers, 6)),
-        Change::Value => Values::One(at(numbers, 5)),
-        _ => Values::One(at(numbers, 0)),
+        Command::Frames => Change::FrameCount(at(numbers, 0)),
+        Command::Looping => Change::Looping(at(numbers, 0)),
+        Command::Layer => Change::Layer(a, b, d, at(numbers, 3)),
+        Command::Target => Change::Target(a, b, d, at(numbers, 3)),
+        Command::Value => Change::Value(a, b, d, e, at(numbers, 4) as usize, at(numbers, 5)),
+        _ => Change::Key(a, b, d, e, key_of(c, numbers)),
     }
 }
 
@@ -122,14 +124,8 @@ pub(crate) fn edited(
     section: &mut [u8],
     journal: &mut [u32],
     count: usize,
-    c: Change,
+    c: Command,
     numbers: &[u32],
 ) -> EditAnswer {
-    edit_values(
-        section,
-        journal,
-        count,
-        place_of(c, numbers),
-        values_of(c, numbers),
-    )
+    edit(section, journal, count, change_of(c, numbers))
 }

@@ -18,7 +18,11 @@
 // one is turned down, `refused 12 (1000)`.
 //
 // A change that is turned down ends the run: nothing but `refused N at argument A: ..` is written, with document 01's number and the
-// place of the change among the arguments. What is no change is answered by what is wrong with it, and how to say one.
+// place of the change among the arguments. What is no change is answered by what is wrong with it, and how to say one, on standard
+// error and with nothing on standard output. `--help`, or no argument, is answered by the usage.
+//
+// Where standard input cannot be read, no change is made and nothing is written, and standard error has the reason. Where standard
+// output cannot be written, standard error says so, and what is written is the beginning of the output.
 mod answer;
 mod change;
 mod number;
@@ -28,44 +32,87 @@ ghost use lib.ListN.{length};
 use crate::answer::Step;
 use crate::answer::of_edit;
 use crate::answer::of_undo;
-use crate::change::Change;
+use crate::change::Command;
 use crate::change::edited;
 use crate::change::named;
 use crate::change::numbers_of;
 use crate::number::read_numbers;
+use console::argument::Asked;
+use console::argument::arguments;
+use console::input::Input;
+use console::input::read_input;
+use console::output::can_say;
+use console::output::finish;
 use console::output::say;
-use console::output::say_number;
+use console::output::say_number_to;
+use console::output::say_to;
 use console::refusal::say_too_long;
 use console::room::MOST;
 use console::room::input_room;
 use core::part::part;
 use edit::undo::undo;
-use libc::STDIN_FILENO;
+use libc::STDERR_FILENO;
+use libc::STDOUT_FILENO;
 
 // The words of the journal: a thousand entries.
 const JOURNAL: usize = 5000;
 // The most numbers behind the name of a change.
 const NUMBERS: usize = 7;
 
-fn say_usage() {
-    say(b"usage: edit_section CHANGE.. < section, where a CHANGE is one of\n");
-    say(b"  frames V, looping V, layer C I T V, target C I T V, value C I D L N V,\n");
-    say(b"  constant C I T K V, step C I T K F V, hermite C I T K F V S, undo\n");
-    say(b"Content, Info, Target, Key, Datum, List and its Number count from 0. A number is\n");
-    say(b"decimal, or hexadecimal behind 0x. Frame, Slope and the Value of constant, hermite\n");
-    say(b"and value are floats, given by their bits. The Value of step is a whole number from 0\n");
-    say(b"to 65535. The section has at most 65536 bytes. At most 1000 changes are kept to be\n");
-    say(b"taken back: with so many, the next one is refused with 12 (1000).\n");
+fn say_usage(fd: i32) {
+    say_to(
+        fd,
+        b"usage: edit_section CHANGE.. < section, where a CHANGE is one of\n",
+    );
+    say_to(
+        fd,
+        b"  frames V, looping V, layer C I T V, target C I T V, value C I D L N V,\n",
+    );
+    say_to(
+        fd,
+        b"  constant C I T K V, step C I T K F V, hermite C I T K F V S, undo\n",
+    );
+    say_to(
+        fd,
+        b"Content, Info, Target, Key, Datum, List and its Number count from 0. A number is\n",
+    );
+    say_to(
+        fd,
+        b"decimal, or hexadecimal behind 0x. Frame, Slope and the Value of constant, hermite\n",
+    );
+    say_to(
+        fd,
+        b"and value are floats, given by their bits. The Value of step is a whole number from 0\n",
+    );
+    say_to(
+        fd,
+        b"to 65535. The section has at most 65536 bytes. At most 1000 changes are kept to be\n",
+    );
+    say_to(
+        fd,
+        b"taken back: with so many, the next one is refused with 12 (1000). The section that the\n",
+    );
+    say_to(
+        fd,
+        b"changes leave is written to standard output, or only 'refused N' and why.\n",
+    );
+    say_to(
+        fd,
+        b"example: edit_section frames 60 looping 1 < crates/round_trip/stdin > edited.pai1\n",
+    );
 }
 
 // Says what is wrong with the change at argument `i`, which is unknown or has too few arguments behind it, and how changes are said.
-fn say_none(i: usize, c: Change) {
-    say_number(b"argument ", i);
+fn say_none(i: usize, c: Command) {
+    say_number_to(STDERR_FILENO, b"argument ", i);
     match c {
-        Change::Unknown => say(b" is no name of a change\n"),
-        _ => say(b" is a change with too few numbers behind it\n"),
+        Command::Unknown => say_to(STDERR_FILENO, b" is no name of a change\n"),
+        _ => say_to(
+            STDERR_FILENO,
+            b" is a change with too few numbers behind it\n",
+        ),
     }
-    say_usage();
+    say_usage(STDERR_FILENO);
 }
 
 // Makes a change that stands at argument `i`.
@@ -73,12 +120,12 @@ fn make(
     section: &mut [u8],
     journal: &mut [u32],
     count: usize,
-    c: Change,
+    c: Command,
     numbers: &[u32],
     i: usize,
 ) -> Step {
     match c {
-        Change::Undo => of_undo(undo(section, journal, count), i),
+        Command::Undo => of_undo(undo(section, journal, count), i),
         _ => of_edit(edited(section, journal, count, c, numbers), i),
     }
 }
@@ -97,7 +144,7 @@ fn make_all(section: &mut [u8], journal: &mut [u32], numbers: &mut [u32], room: 
             return false;
         }
         if !read_numbers(i + 1, k, numbers, room) {
-            say_usage();
+            say_usage(STDERR_FILENO);
             return false;
         }
         match make(section, journal, count, c, numbers, i) {
@@ -127,19 +174,42 @@ fn numbers_room() -> [u32; NUMBERS]
     [0; NUMBERS]
 }
 
-fn main() {
-    if os::arg_count() < 2 {
-        say_usage();
-        return;
-    }
-    let mut input = input_room();
-    let n = io::read_full(STDIN_FILENO, &mut input);
-    if MOST < n {
-        say_too_long();
-        return;
-    }
+// Makes the changes in a section that was read.
+fn edit_read(section: &mut [u8]) {
     let mut journal = journal_room();
     let mut numbers = numbers_room();
-    let mut room = io::buffer();
-    run(&mut input[..n], &mut journal, &mut numbers, &mut room);
+    let mut word = io::buffer();
+    run(section, &mut journal, &mut numbers, &mut word);
+}
+
+fn run_program() {
+    if !can_say(
+        b"edit_section: no section was written, since standard output could not be written",
+    ) {
+        return;
+    }
+    let mut room = input_room();
+    let Input::Bytes(n) = read_input(&mut room) else {
+        os::fail(b"edit_section: no section was written, since standard input could not be read");
+        return;
+    };
+    if MOST < n {
+        say_too_long();
+    } else {
+        edit_read(&mut room[0..n]);
+    }
+    finish(b"edit_section");
+}
+
+fn help() {
+    say_usage(STDOUT_FILENO);
+    finish(b"edit_section");
+}
+
+fn main() {
+    match arguments() {
+        Asked::Nothing => help(),
+        Asked::Help => help(),
+        Asked::Other => run_program(),
+    }
 }

@@ -1,9 +1,10 @@
 // Numbers among the arguments.
 ghost use Prim.Native.Nat.{_+_, _≤_};
-use console::output::say;
-use console::output::say_number;
+use console::output::say_number_to;
+use console::output::say_to;
 use core::part::part;
 use core::run::put_word;
+use libc::STDERR_FILENO;
 
 // A number's digits: decimal, or hexadecimal.
 enum Base {
@@ -77,8 +78,8 @@ fn number(text: &[u8]) -> Parsed {
 }
 
 fn say_no_number(i: usize) {
-    say_number(b"argument ", i);
-    say(b" is no number from 0 to 4294967295\n");
+    say_number_to(STDERR_FILENO, b"argument ", i);
+    say_to(STDERR_FILENO, b" is no number from 0 to 4294967295\n");
 }
 
 // Stores the numbers of `k` arguments, and answers whether each is one; if not, it has said which is not.

@@ -2,6 +2,9 @@
 // and sample_records.rs have its format). Each section is read into tables that stand among marked places, and each text of a
 // section that is read is looked up; each record is written into an output that stands among them. Answers, tables, the output
 // and every place around them must be as the sample says.
+//
+// Where standard input cannot be read, nothing is replayed, and standard error has the reason. Where standard output cannot be
+// written, standard error says so. `--help` is answered by the usage; any other argument too, on standard error.
 mod compare;
 mod finding;
 mod input;
@@ -23,8 +26,16 @@ use crate::report::count_case;
 use crate::report::malformed;
 use crate::report::report;
 use crate::writing::write_record;
+use console::argument::Asked;
+use console::argument::arguments;
+use console::input::Input;
+use console::input::read_input;
+use console::output::can_say;
+use console::output::finish;
+use console::output::say_to;
 use core::part::part;
-use libc::STDIN_FILENO;
+use libc::STDERR_FILENO;
+use libc::STDOUT_FILENO;
 
 // The room for the sample.
 const ROOM: usize = 1048576;
@@ -97,8 +108,59 @@ fn room() -> [u8; ROOM]
     [0; ROOM]
 }
 
-fn main() {
+// Replays the first n bytes of the room.
+fn replay_read(bytes: &[u8], n: usize) {
+    replay_all(part(bytes, 0, n));
+    finish(b"replay_sections");
+}
+
+fn run_program() {
+    if !can_say(
+        b"replay_sections: nothing was replayed, since standard output could not be written",
+    ) {
+        return;
+    }
     let mut bytes = room();
-    let n = io::read_full(STDIN_FILENO, &mut bytes);
-    replay_all(part(&bytes, 0, n));
+    match read_input(&mut bytes) {
+        Input::Bytes(n) => replay_read(&bytes, n),
+        Input::Failed => {
+            os::fail(
+                b"replay_sections: nothing was replayed, since standard input could not be read",
+            )
+        }
+    }
+}
+
+fn say_usage(fd: i32) {
+    say_to(fd, b"usage: replay_sections < sample\n");
+    say_to(
+        fd,
+        b"Reads a sample of sections and records with the Rust's answers from standard input, of less\n",
+    );
+    say_to(
+        fd,
+        b"than 1048576 bytes, replays each case, and writes a report to standard output: how many\n",
+    );
+    say_to(
+        fd,
+        b"cases there are of each answer, and each difference.\n",
+    );
+    say_to(
+        fd,
+        b"example: replay_sections < crates/replay_sections/stdin\n",
+    );
+}
+
+fn main() {
+    match arguments() {
+        Asked::Nothing => run_program(),
+        Asked::Help => {
+            say_usage(STDOUT_FILENO);
+            finish(b"replay_sections");
+        }
+        Asked::Other => {
+            say_to(STDERR_FILENO, b"replay_sections takes no argument\n");
+            say_usage(STDERR_FILENO);
+        }
+    }
 }

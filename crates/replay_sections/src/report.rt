@@ -1,5 +1,6 @@
 // What is counted, and the report.
-use libc::STDOUT_FILENO;
+use console::output::say;
+use console::output::say_number;
 
 // The counts: first those of the answers with each number, then these.
 const ANSWERS: usize = 10;
@@ -33,15 +34,10 @@ fn count(counts: &[u64], place: usize) -> u64 {
     0
 }
 
-fn write(text: &[u8]) {
-    io::write_all(STDOUT_FILENO, text);
-}
-
 // Writes a number between two texts.
 fn line(before: &[u8], n: u64, after: &[u8]) {
-    write(before);
-    io::print_decimal(STDOUT_FILENO, n);
-    write(after);
+    say_number(before, n as usize);
+    say(after);
 }
 
 // Counts a case whose answer has this number. False where no answer has it.
@@ -61,8 +57,8 @@ pub(crate) fn note(counts: &mut [u64], right: bool, what: &[u8]) {
     }
     bump(counts, DIFFERENCES);
     line(b"case ", count(counts, CASES), b": difference in ");
-    write(what);
-    write(b"\n");
+    say(what);
+    say(b"\n");
 }
 
 fn answers(counts: &[u64]) {

@@ -10,6 +10,8 @@ use Rattle.core.specs.Outcome.{Outcome, accepted}
 use Rattle.core.specs.Part.{partOf}
 use Rattle.bflan.specs.Answer.{refused, reading}
 use Rattle.bflan.specs.Writing.{writing}
+use Rattle.console.specs.declared.input.Input.{Input}
+use Rattle.console.specs.declared.input.Input.the-variants.{Bytes, Failed}
 use Rattle.round_trip.specs.declared.Trip.{Trip}
 use Rattle.round_trip.specs.declared.Trip.the-variants.{Section, Refused}
 
@@ -55,6 +57,12 @@ repliedWith number (len ∷ vs) out = (len, out)
 
 unfoldable pub replied : Outcome × List ℕ → ℕ × List ℕ
 replied r = repliedWith (r .0 .number) (r .0 .values) (r .1)
+
+-- the answer to what was read of standard input: so many bytes at the room's start; or a read failed, which is answered as a read past the
+-- end is, by 3, whatever came before (the program has only document 01's two outcomes)
+unfoldable pub answered : Input → (room words texts out : List ℕ) → ℕ × List ℕ
+answered (Bytes n) room words texts out = replied (trip (partOf room 0 n) words texts out)
+answered Failed room words texts out = replied (refused 3 [], out)
 
 -- the bytes that the program writes to standard output
 unfoldable pub printed : (section words texts out : List ℕ) → List ℕ

@@ -1,17 +1,7 @@
 // Numbers in hexadecimal.
-ghost use Prim.Native.Nat.{_<_};
+use console::hex::hex_digit;
 use console::output::say;
 use core::part::part;
-
-fn glyph(n: u32) -> u8
-    requires { ⌜ n < 16 ⌝ }
-{
-    if n < 10 {
-        b'0' + n as u8
-    } else {
-        b'A' + (n - 10) as u8
-    }
-}
 
 // The last hexadecimal digits of a number, at most eight, in capitals.
 pub(crate) fn say_hex(n: u32, digits: usize) {
@@ -20,7 +10,7 @@ pub(crate) fn say_hex(n: u32, digits: usize) {
     let mut i = 8;
     while i > 0 {
         i -= 1;
-        text[i] = glyph(rest % 16);
+        text[i] = hex_digit((rest % 16) as u8);
         rest /= 16;
     }
     if digits <= 8 {

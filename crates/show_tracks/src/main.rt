@@ -18,6 +18,10 @@
 // bytes there, which are no UTF-8; what is ill-formed is shown as U+FFFD.
 //
 // A section that is turned down is answered by document 01's number and values, and what is wrong: `refused 3 (4, 4): ..`.
+//
+// Where standard input cannot be read, nothing is printed, and standard error has the reason. Where standard output cannot be written,
+// standard error says so, and what is written is the beginning of the output. `--help` is answered by the usage; any other argument
+// too, on standard error and with nothing on standard output.
 mod decimal;
 mod hex;
 mod names;
@@ -28,8 +32,15 @@ use crate::tracks::show;
 use bflan::fault::Fault;
 use bflan::read::ReadAnswer;
 use bflan::read::read;
+use console::argument::Asked;
+use console::argument::arguments;
+use console::input::Input;
+use console::input::read_input;
+use console::output::can_say;
+use console::output::finish;
 use console::output::say;
 use console::output::say_number;
+use console::output::say_to;
 use console::refusal::say_refused;
 use console::refusal::say_too_long;
 use console::refusal::say_why;
@@ -37,7 +48,8 @@ use console::room::MOST;
 use console::room::input_room;
 use console::room::words_room;
 use core::part::part;
-use libc::STDIN_FILENO;
+use libc::STDERR_FILENO;
+use libc::STDOUT_FILENO;
 
 fn say_fault(f: Fault) {
     say_refused(f);
@@ -66,10 +78,54 @@ fn answer(section: &[u8], words: &mut [u32], texts: &mut [u8]) {
     }
 }
 
-fn main() {
-    let mut input = input_room();
-    let n = io::read_full(STDIN_FILENO, &mut input);
+// The answer to the first n bytes of the room.
+fn show_section(room: &[u8], n: usize) {
     let mut words = words_room();
     let mut texts = io::large_buffer();
-    answer(part(&input, 0, n), &mut words, &mut texts);
+    answer(part(room, 0, n), &mut words, &mut texts);
+    finish(b"show_tracks");
+}
+
+fn run_program() {
+    if !can_say(b"show_tracks: nothing was printed, since standard output could not be written") {
+        return;
+    }
+    let mut room = input_room();
+    match read_input(&mut room) {
+        Input::Bytes(n) => show_section(&room, n),
+        Input::Failed => {
+            os::fail(b"show_tracks: nothing was printed, since standard input could not be read")
+        }
+    }
+}
+
+fn say_usage(fd: i32) {
+    say_to(fd, b"usage: show_tracks < section\n");
+    say_to(
+        fd,
+        b"Reads a pai1 section of at most 65536 bytes from standard input, and prints it to standard\n",
+    );
+    say_to(
+        fd,
+        b"output: a line for each texture, content, info, track and extended datum. A section that\n",
+    );
+    say_to(
+        fd,
+        b"is turned down is answered by 'refused N', its values, and what is wrong with it.\n",
+    );
+    say_to(fd, b"example: show_tracks < crates/show_tracks/stdin\n");
+}
+
+fn main() {
+    match arguments() {
+        Asked::Nothing => run_program(),
+        Asked::Help => {
+            say_usage(STDOUT_FILENO);
+            finish(b"show_tracks");
+        }
+        Asked::Other => {
+            say_to(STDERR_FILENO, b"show_tracks takes no argument\n");
+            say_usage(STDERR_FILENO);
+        }
+    }
 }

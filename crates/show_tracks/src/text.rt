@@ -1,8 +1,8 @@
 // The texts of a section, quoted. A text can hold any characters: those that could end a line or steer a terminal are escaped.
 ghost use Prim.Native.Nat.{_≤_, _<_};
 ghost use lib.ListN.{length};
-use crate::hex::say_hex;
 use bflan::find::FindAnswer;
+use console::hex::say_escaped;
 use console::output::say;
 use core::part::part;
 
@@ -94,8 +94,7 @@ fn say_bytes(text: &[u8], i: usize, n: usize)
 {
     let mut k = 0;
     while k < n {
-        say(b"\\x");
-        say_hex(byte(text, i + k) as u32, 2);
+        say_escaped(byte(text, i + k));
         k += 1;
     }
 }

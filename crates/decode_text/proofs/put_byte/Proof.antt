@@ -8,8 +8,8 @@ use Rattle.decode_text.proofs.put_byte.Tie as tie
 slice-write-out : tie.Need-slice-write-out
 slice-write-out c = search needs
 
-glyph-requires : tie.Need-glyph-requires
-glyph-requires c κs = search needs
+hex-digit-requires : tie.Need-hex-digit-requires
+hex-digit-requires c κs = search needs
 
 add-out : tie.Need-add-out
 add-out c = search needs
@@ -17,8 +17,8 @@ add-out c = search needs
 slice-write-out-2 : tie.Need-slice-write-out-2
 slice-write-out-2 c = simp length-set (omega arith)
 
-glyph-requires-2 : tie.Need-glyph-requires-2
-glyph-requires-2 c κs = search needs
+hex-digit-requires-2 : tie.Need-hex-digit-requires-2
+hex-digit-requires-2 c κs = search needs
 
 add-out-2 : tie.Need-add-out-2
 add-out-2 c = search needs
@@ -37,10 +37,10 @@ put-byte-spec =
     tie.close
     (tie.spec
     slice-write-out
-    glyph-requires
+    hex-digit-requires
     add-out
     slice-write-out-2
-    glyph-requires-2
+    hex-digit-requires-2
     add-out-2
     slice-write-out-3
     same-length

@@ -18,8 +18,11 @@ loop-holds c = search needs
 sub-i : tie.Need-sub-i Inv-loop μ-loop
 sub-i c = search needs
 
-glyph-requires : tie.Need-glyph-requires Inv-loop μ-loop
-glyph-requires c κs = search needs
+cast-hex-digit : tie.Need-cast-hex-digit Inv-loop μ-loop
+cast-hex-digit c = search needs
+
+hex-digit-requires : tie.Need-hex-digit-requires Inv-loop μ-loop
+hex-digit-requires c κs = search needs
 
 array-write-text : tie.Need-array-write-text Inv-loop μ-loop
 array-write-text c = search needs
@@ -53,7 +56,8 @@ say-hex-spec =
     μ-loop
     loop-holds
     sub-i
-    glyph-requires
+    cast-hex-digit
+    hex-digit-requires
     array-write-text
     loop-less
     loop-again
