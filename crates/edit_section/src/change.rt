@@ -22,7 +22,7 @@ pub(crate) enum Command {
     Unknown,
 }
 
-fn same(a: &[u8], b: &[u8]) -> bool {
+pub(crate) fn same(a: &[u8], b: &[u8]) -> bool {
     if a.len() != b.len() {
         return false;
     }
@@ -83,7 +83,7 @@ pub(crate) fn numbers_of(c: Command) -> usize {
     }
 }
 
-fn at(numbers: &[u32], i: usize) -> u32 {
+pub(crate) fn at(numbers: &[u32], i: usize) -> u32 {
     if i < numbers.len() {
         return numbers[i];
     }

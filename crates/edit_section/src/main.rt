@@ -11,6 +11,11 @@
 //     value C I D L N V        a value of extended data: content, info, datum, list, place in the list
 //     undo                     takes back the last change that was not taken back
 //
+// Where the first argument is `show`, no change is made and no section is written: the others are places, and what stands there now is
+// said, a line for each, as the change that would put it there.
+//
+//     frames, looping, layer C I T, target C I T, key C I T K, value C I D L N
+//
 // Places count from 0, as show_tracks prints them: content, info, target, key. A number is decimal, or hexadecimal behind `0x`. A
 // float is given by its bits, as in 0x3F800000 for 1; the value of a Step key is a whole number and no float.
 //
@@ -26,6 +31,7 @@
 mod answer;
 mod change;
 mod number;
+mod show;
 
 ghost use mathlib.Core.Path.{_≡_};
 ghost use lib.ListN.{length};
@@ -36,7 +42,12 @@ use crate::change::Command;
 use crate::change::edited;
 use crate::change::named;
 use crate::change::numbers_of;
+use crate::change::same;
 use crate::number::read_numbers;
+use crate::show::Named;
+use crate::show::place_named;
+use crate::show::place_numbers;
+use crate::show::show;
 use console::argument::Asked;
 use console::argument::arguments;
 use console::input::Input;
@@ -98,6 +109,14 @@ fn say_usage(fd: i32) {
     );
     say_to(
         fd,
+        b"edit_section show PLACE.. < section says what stands at places now, each as the change that\n",
+    );
+    say_to(
+        fd,
+        b"would put it there: frames, looping, layer C I T, target C I T, key C I T K, value C I D L N\n",
+    );
+    say_to(
+        fd,
         b"example: edit_section frames 60 looping 1 < crates/round_trip/stdin > edited.pai1\n",
     );
 }
@@ -156,7 +175,53 @@ fn make_all(section: &mut [u8], journal: &mut [u32], numbers: &mut [u32], room: 
     true
 }
 
+// Says what is wrong with the place at argument `i`, as `say_none` does for a change.
+fn say_no_place(i: usize, p: Named) {
+    say_number_to(STDERR_FILENO, b"argument ", i);
+    match p {
+        Named::Unknown => say_to(STDERR_FILENO, b" is no name of a place\n"),
+        _ => say_to(
+            STDERR_FILENO,
+            b" is a place with too few numbers behind it\n",
+        ),
+    }
+    say_usage(STDERR_FILENO);
+}
+
+// Says what stands at the places that the arguments behind `show` say.
+fn show_all(section: &[u8], numbers: &mut [u32], room: &mut [u8]) {
+    let most = os::arg_count();
+    let mut i = 2;
+    while i < most {
+        let n = os::arg(i, room);
+        let p = place_named(part(room, 0, n));
+        let k = place_numbers(p);
+        if most - i <= k {
+            say_no_place(i, p);
+            return;
+        }
+        if !read_numbers(i + 1, k, numbers, room) {
+            say_usage(STDERR_FILENO);
+            return;
+        }
+        if !show(section, p, numbers, i) {
+            return;
+        }
+        i += k + 1;
+    }
+}
+
+// Whether the first argument is `show`.
+fn shows(room: &mut [u8]) -> bool {
+    let n = os::arg(1, room);
+    same(part(room, 0, n), b"show")
+}
+
 fn run(section: &mut [u8], journal: &mut [u32], numbers: &mut [u32], room: &mut [u8]) {
+    if shows(room) {
+        show_all(section, numbers, room);
+        return;
+    }
     if make_all(section, journal, numbers, room) {
         say(section);
     }
