@@ -1,5 +1,5 @@
 //! Calls to try on a section: changes at places that are there and that are not, with values that fit and that do not,
-//! undos, and journals of sound and other entries.
+//! undos, what stands at such places, and journals of sound and other entries.
 use crate::change::{Call, Change, NewKey};
 use crate::journal::{ENTRY_WORDS, Entry, FIELD_SIZES};
 use crate::layout::{DatumAt, InfoAt, PartsAt, TargetAt, targets_of};
@@ -23,6 +23,20 @@ pub fn calls(maker: &mut Maker, contents: &[Vec<InfoAt>], len: usize) -> Vec<Cal
     }
     calls.truncate(len);
     calls
+}
+
+/// The list with one more call behind each, which asks what stands at a place now: at that of the last edit, or at another.
+pub fn with_fields(maker: &mut Maker, contents: &[Vec<InfoAt>], calls: &[Call]) -> Vec<Call> {
+    let mut last = change(maker, contents).place();
+    let mut asked = Vec::new();
+    for call in calls {
+        if let Call::Edit(change) = call {
+            last = change.place();
+        }
+        let place = if maker.random.below(2) == 0 { last } else { change(maker, contents).place() };
+        asked.extend([*call, Call::FieldAt(place)]);
+    }
+    asked
 }
 
 /// A change. Mostly its place is there and its value fits.

@@ -1,7 +1,7 @@
 //! Holds a reader against the reference: every answer, every word and byte that a call stores, and the places around and
 //! behind them, which no call may change.
 use crate::guarded::Guarded;
-use crate::layout::{Place, Rules, Walked, walk};
+use crate::layout::{Rules, TextAt, Walked, walk};
 use crate::random::Random;
 use crate::reader::{MOST_ASKED, Reader};
 use crate::record::{Flat, reference};
@@ -227,7 +227,7 @@ impl<'a> Comparison<'a> {
         }
         for i in 0..count.min(most) {
             let text = if count > most { self.random.below(count) } else { i };
-            let Place { start, len } = walked.places[text];
+            let TextAt { start, len } = walked.places[text];
             let raw = &section[start..start + len];
             if std::str::from_utf8(raw).is_ok() {
                 let room = *self.random.one(&[0, len.saturating_sub(1), len, len + 5]);

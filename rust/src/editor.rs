@@ -1,13 +1,14 @@
-//! The calls that change a section, under one name for the proved code and for what is held against it; and what
-//! document 01 says of them for any bytes, written from its pages over the walk of `layout`.
-use crate::change::{Change, NewKey};
+//! The calls that change a section or say what stands in a field of it, under one name for the proved code and for what is
+//! held against it; and what document 01 says of them for any bytes, written from its pages over the walk of `layout`.
+use crate::change::{Change, FIELD_NUMBERS, Place, field_answer};
 use crate::journal::{ENTRY_WORDS, Entry};
 use crate::layout::{InfoAt, PartsAt, Rules, TargetAt, Walked, targets_of, walk};
 use crate::reader::store;
 use crate::record::LIMIT;
 
-/// Edits sections and takes edits back, as document 01 says. The answer is its number and two values. A number that an
-/// answer has no place for is dropped, and no other place of an answer changes.
+/// Edits sections, takes edits back and says what stands in a field, as document 01 says. The answer of an edit or an undo
+/// is its number and two values. A number that an answer has no place for is dropped, and no other place of an answer
+/// changes.
 pub trait Editor {
     /// Changes one field of the section, and keeps its old bytes in the journal as entry `count`.
     fn edit(&self, section: &mut [u8], journal: &mut [u32], count: usize, change: &Change, answer: &mut [usize]);
@@ -15,6 +16,53 @@ pub trait Editor {
     /// Takes the last of `count` edits back. The journal stays; an editor could change it here, so that one that does is
     /// seen.
     fn undo(&self, section: &mut [u8], journal: &mut [u32], count: usize, answer: &mut [usize]);
+
+    /// Says what stands at a place now: 0, how many values there are and the values, or document 01's number and values,
+    /// and zeros behind them. The section stays; an editor could change it here, so that one that does is seen.
+    fn field_at(&self, section: &mut [u8], place: &Place, answer: &mut [usize]);
+}
+
+/// Where the field at a place stands.
+#[derive(Clone, Debug)]
+struct Located {
+    /// Where its first byte stands.
+    at: usize,
+    /// How many bytes each of its numbers has.
+    widths: &'static [usize],
+    /// The letters of its info, if it is in one.
+    letters: u32,
+}
+
+/// How far the keys of a curve stand apart, and the widths of their numbers: a Step key's two skipped bytes are not its
+/// own.
+const KEYS: [(usize, &[usize]); 3] = [(4, &[4]), (8, &[4, 2]), (12, &[4, 4, 4])];
+
+/// Where the field at a place stands in a section that was walked over, if the place is there.
+fn located(walked: &Walked, place: &Place) -> Option<Located> {
+    let in_target = |place: [usize; 3], ahead: usize| {
+        let (info, target) = target_at(walked, place)?;
+        Some(Located { at: target.start + ahead, widths: &[1], letters: info.letters })
+    };
+    match *place {
+        Place::FrameCount => Some(Located { at: 8, widths: &[2], letters: 0 }),
+        Place::Looping => Some(Located { at: 10, widths: &[1], letters: 0 }),
+        Place::Layer(place) => in_target(place, 0),
+        Place::Target(place) => in_target(place, 1),
+        Place::Key([content, info, target, key]) => {
+            let (info, target) = target_at(walked, [content, info, target])?;
+            let (stride, widths) = KEYS[target.curve];
+            let there = key < target.key_count;
+            there.then(|| Located { at: target.keys + stride * key, widths, letters: info.letters })
+        }
+        Place::Value([content, info, datum, list, value]) => {
+            let info = info_at(walked, content, info)?;
+            let PartsAt::Data(data) = &info.of else { return None };
+            let datum = data.get(datum)?;
+            let there = list < 3 && value < datum.base_count;
+            let at = || datum.values + 4 * (list * datum.base_count + value);
+            there.then(|| Located { at: at(), widths: &[4], letters: info.letters })
+        }
+    }
 }
 
 /// The field that a change is about.
@@ -30,33 +78,48 @@ pub struct Field {
 
 /// The field of a change in a section that was walked over, if the place is there.
 pub fn field(walked: &Walked, change: &Change) -> Option<Field> {
-    match *change {
-        Change::FrameCount(value) => Some(number(8, 2, value, value <= 0xFFFF)),
-        Change::Looping(value) => Some(number(10, 1, value, value <= 1)),
-        Change::Layer(place, value) => {
-            let (_, target) = target_at(walked, place)?;
-            Some(number(target.start, 1, value, value <= 0xFF))
-        }
-        Change::Target(place, value) => {
-            let (info, target) = target_at(walked, place)?;
-            Some(number(target.start + 1, 1, value, targets_of(info.letters).contains(&value)))
-        }
-        Change::Key([content, info, target, key], new) => {
-            let (_, target) = target_at(walked, [content, info, target])?;
-            key_field(target, key, new)
-        }
-        Change::Value([content, info, datum, list, value], bits) => {
-            let PartsAt::Data(data) = &info_at(walked, content, info)?.of else { return None };
-            let datum = data.get(datum)?;
-            let there = list < 3 && value < datum.base_count;
-            there.then(|| number(datum.values + 4 * (list * datum.base_count + value), 4, bits, true))
-        }
-    }
+    let Located { at, widths, letters } = located(walked, &change.place())?;
+    let values = change.values();
+    // a key of another kind has another number of values
+    let of_its_kind = values.len() == widths.len();
+    let in_width = values.iter().zip(widths).all(|(&value, width)| u64::from(value) < 1 << (8 * width));
+    let allowed = match *change {
+        Change::Looping(value) => value <= 1,
+        Change::Target(_, number) => targets_of(letters).contains(&number),
+        _ => true,
+    };
+    let bytes = || values.iter().zip(widths).flat_map(|(value, &width)| value.to_le_bytes().into_iter().take(width));
+    let new = (of_its_kind && in_width && allowed).then(|| bytes().collect());
+    Some(Field { at, size: widths.iter().sum(), new })
 }
 
-/// A field of one number.
-fn number(at: usize, size: usize, value: u32, fit: bool) -> Field {
-    Field { at, size, new: fit.then(|| value.to_le_bytes()[..size].to_vec()) }
+/// What stands at a place of a section that was walked over, if the place is there: the numbers of its bytes, as they are
+/// read.
+fn standing(walked: &Walked, section: &[u8], place: &Place) -> Option<Vec<u32>> {
+    let Located { mut at, widths, letters } = located(walked, place)?;
+    let mut values = Vec::new();
+    for width in widths {
+        let number = section[at..at + width].iter().rev().fold(0, |number, &byte| number << 8 | u32::from(byte));
+        values.push(match place {
+            Place::Looping => (number != 0).into(),
+            // 255 under letters that are not listed, and otherwise 0 at or above their number
+            Place::Target(_) if !targets_of(letters).contains(&number) => targets_of(letters).start,
+            _ => number,
+        });
+        at += width;
+    }
+    Some(values)
+}
+
+/// What is answered of a place of a section that was walked over.
+pub fn field_at(walked: &Walked, section: &[u8], place: &Place) -> [usize; FIELD_NUMBERS] {
+    match &walked.outcome {
+        Ok(_) => field_answer(standing(walked, section, place)),
+        Err(refusal) => {
+            let [number, a, b] = refusal.numbers();
+            [number, a, b, 0, 0]
+        }
+    }
 }
 
 /// The info at a place.
@@ -71,22 +134,6 @@ fn target_at(walked: &Walked, [content, info, target]: [usize; 3]) -> Option<(&I
         PartsAt::Targets(targets) => Some((info, targets.get(target)?)),
         PartsAt::Data(_) => None,
     }
-}
-
-/// The bytes of a key in the section: a Step key's two skipped ones are not its own.
-fn key_field(target: &TargetAt, key: usize, new: NewKey) -> Option<Field> {
-    if key >= target.key_count {
-        return None;
-    }
-    let (stride, size) = [(4, 4), (8, 6), (12, 12)][target.curve];
-    let words: Option<Vec<u32>> = match (target.curve, new) {
-        (0, NewKey::Constant(value)) => Some(vec![value]),
-        (1, NewKey::Step { frame, value }) if value <= 0xFFFF => Some(vec![frame, value]),
-        (2, NewKey::Hermite { frame, value, slope }) => Some(vec![frame, value, slope]),
-        _ => None,
-    };
-    let new = words.map(|words| words.iter().flat_map(|word| word.to_le_bytes()).take(size).collect());
-    Some(Field { at: target.keys + stride * key, size, new })
 }
 
 /// What an edit does to a section that was walked over, and answers.
@@ -135,5 +182,10 @@ impl Editor for ByLayout {
 
     fn undo(&self, section: &mut [u8], journal: &mut [u32], count: usize, answer: &mut [usize]) {
         store(&undone(section, journal, count), answer);
+    }
+
+    fn field_at(&self, section: &mut [u8], place: &Place, answer: &mut [usize]) {
+        let walked = walk(section, &Rules::DOCUMENT, usize::MAX).unwrap();
+        store(&field_at(&walked, section, place), answer);
     }
 }

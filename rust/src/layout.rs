@@ -60,7 +60,7 @@ impl Rules {
 
 /// Where a text lies in the section, before it is decoded.
 #[derive(Clone, Copy, Debug)]
-pub struct Place {
+pub struct TextAt {
     pub start: usize,
     pub len: usize,
 }
@@ -101,7 +101,7 @@ pub struct Walked {
     /// The record, or why there is none.
     pub outcome: Outcome,
     /// Where the texts lie, as many as were met.
-    pub places: Vec<Place>,
+    pub places: Vec<TextAt>,
     /// The infos of each content, as many as were met.
     pub contents: Vec<Vec<InfoAt>>,
     /// The most bytes that the reference asks for at once for a list that does not fit the section.
@@ -143,7 +143,7 @@ struct Walk<'a> {
     rules: &'a Rules,
     left: usize,
     flat: Flat,
-    places: Vec<Place>,
+    places: Vec<TextAt>,
     contents: Vec<Vec<InfoAt>>,
     asked: usize,
 }
@@ -191,7 +191,7 @@ impl Walk<'_> {
         let text = decoded(&self.section[start..start + len], self.rules);
         self.word(text.len())?;
         self.flat.texts.extend_from_slice(&text);
-        self.places.push(Place { start, len });
+        self.places.push(TextAt { start, len });
         Ok(())
     }
 

@@ -2,9 +2,10 @@
 use crate::bflan::anim_info::{AnimInfo, AnimInfoType, ExtendedUserDataAnim, PaneAnimInfo};
 use crate::bflan::curves::{Curve, HermiteKey, StepKey};
 use crate::bflan::targets::{AnimTarget, TargetIndex};
-use crate::change::{Call, Change, NewKey};
+use crate::change::{Call, Change, NewKey, field_answer};
 use crate::journal::ENTRY_WORDS;
 use crate::layout::targets_of;
+use crate::record::values_at;
 
 /// The refusals of a machine.
 const NO_PLACE: usize = 10;
@@ -28,12 +29,14 @@ impl Machine {
         Machine { record, stack: Vec::new(), capacity: journal_words / ENTRY_WORDS }
     }
 
-    /// Takes one call. The answer is its number and the value that is returned with it.
-    pub fn turn(&mut self, call: &Call) -> [usize; 2] {
-        match call {
+    /// Takes one call. The answer is its number and the value that is returned with it, or what its record has in a field.
+    pub fn turn(&mut self, call: &Call) -> Vec<usize> {
+        let [number, value] = match call {
             Call::Edit(change) => self.edit(change),
             Call::Undo => self.undo(),
-        }
+            Call::FieldAt(place) => return field_answer(values_at(&self.record, place)).to_vec(),
+        };
+        vec![number, value, 0]
     }
 
     fn edit(&mut self, change: &Change) -> [usize; 2] {

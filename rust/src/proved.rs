@@ -1,6 +1,6 @@
 //! The proved calls under the names that the drivers use. `pai1::raw` has each as a safe function, so nothing is unsafe
 //! here.
-use crate::change::{Change, NewKey};
+use crate::change::{Change, NewKey, Place};
 use crate::editor::Editor;
 use crate::reader::Reader;
 use crate::writer::Writer;
@@ -52,5 +52,23 @@ impl Editor for Proved {
         raw::undo(section, journal, count, answer);
         // the journal is handed over to be read: whether it is changed is to be seen, and not taken for granted
         black_box(journal);
+    }
+
+    fn field_at(&self, section: &mut [u8], place: &Place, answer: &mut [usize]) {
+        field_at(section, place, answer);
+        // so is the section here
+        black_box(section);
+    }
+}
+
+/// What stands at a place of a section, which is only read.
+pub fn field_at(section: &[u8], place: &Place, answer: &mut [usize]) {
+    match *place {
+        Place::FrameCount => raw::field_frame_count(section, answer),
+        Place::Looping => raw::field_looping(section, answer),
+        Place::Layer([a, b, c]) => raw::field_layer(section, a, b, c, answer),
+        Place::Target([a, b, c]) => raw::field_target(section, a, b, c, answer),
+        Place::Key([a, b, c, d]) => raw::field_key(section, a, b, c, d, answer),
+        Place::Value([a, b, c, d, e]) => raw::field_value(section, a, b, c, d, e, answer),
     }
 }

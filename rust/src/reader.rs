@@ -1,5 +1,5 @@
 //! The calls that read a section, under one name for the proved code and for what is held against it.
-use crate::layout::{Place, Rules, Walked, decoded, walk};
+use crate::layout::{Rules, TextAt, Walked, decoded, walk};
 use crate::record::{Outcome, reference};
 
 /// The reference is not asked to read a section for which it would ask for more bytes at once than this: where the
@@ -42,7 +42,7 @@ fn answer_text(section: &[u8], walked: &Walked, rules: &Rules, text: usize, scra
             [number, a, b, 0]
         }
         (Ok(_), None) => [10, 0, 0, 0],
-        (Ok(_), Some(&Place { start, len })) => {
+        (Ok(_), Some(&TextAt { start, len })) => {
             let raw = &section[start..start + len];
             let text = decoded(raw, rules);
             if text == raw {

@@ -2,6 +2,7 @@
 use crate::bflan::anim_info::{AnimInfo, AnimType, PaneAnimInfo};
 use crate::bflan::curves::Curve;
 use crate::bflan::file::BflanSections;
+use crate::change::Place;
 use crate::core::FormatError;
 use crate::parse;
 
@@ -137,6 +138,37 @@ fn curve_words(curve: &Curve, out: &mut Flat) {
                 out.bits(key.slope);
             }
         }
+    }
+}
+
+/// What a record has at a place, if the place is there.
+pub fn values_at(record: &PaneAnimInfo, place: &Place) -> Option<Vec<u32>> {
+    let info_at = |content: usize, info: usize| record.contents.get(content)?.infos.get(info);
+    let target_at = |[content, info, target]: [usize; 3]| match info_at(content, info)? {
+        AnimInfo::Standard { targets, .. } => targets.get(target),
+        AnimInfo::ExtendedUserData { .. } => None,
+    };
+    match *place {
+        Place::FrameCount => Some(vec![record.frame_count.into()]),
+        Place::Looping => Some(vec![record.is_looping.into()]),
+        Place::Layer(place) => Some(vec![target_at(place)?.layer.into()]),
+        Place::Target(place) => Some(vec![target_at(place)?.target.to_raw().into()]),
+        Place::Key([content, info, target, key]) => key_at(&target_at([content, info, target])?.curve, key),
+        Place::Value([content, info, datum, list, value]) => match info_at(content, info)? {
+            AnimInfo::Standard { .. } => None,
+            AnimInfo::ExtendedUserData { data, .. } => {
+                Some(vec![data.get(datum)?.values.get(list)?.get(value)?.to_bits()])
+            }
+        },
+    }
+}
+
+/// The numbers of a key, if it is there.
+fn key_at(curve: &Curve, key: usize) -> Option<Vec<u32>> {
+    match curve {
+        Curve::Constant(keys) => keys.get(key).map(|key| vec![key.to_bits()]),
+        Curve::Step(keys) => keys.get(key).map(|key| vec![key.frame.to_bits(), key.value.into()]),
+        Curve::Hermite(keys) => keys.get(key).map(|key| [key.frame, key.value, key.slope].map(f32::to_bits).to_vec()),
     }
 }
 

@@ -1,18 +1,19 @@
 //! Holds an editor against document 01 over lists of calls, each call handed what the one before left. On any bytes it is
 //! held against the definitions of `editor`; on a section that the reference wrote, against the plain machine as well, with
-//! the reference's writing and reading of the machine's record.
+//! the reference's writing and reading of the machine's record. What it says to stand in a field is held against these
+//! definitions and against the record: the machine's, or what the reference reads.
 use crate::bflan::anim_info::PaneAnimInfo;
 use crate::bflan::file::BflanSections;
-use crate::calls::{calls, count, garbage, journal};
-use crate::change::{Call, Change};
-use crate::editor::{Editor, edited, field, undone};
+use crate::calls::{calls, count, garbage, journal, with_fields};
+use crate::change::{Call, Change, Place, field_answer};
+use crate::editor::{Editor, edited, field, field_at, undone};
 use crate::guarded::Guarded;
 use crate::journal::ENTRY_WORDS;
 use crate::layout::{Rules, TARGET_NUMBERS, Walked, walk};
 use crate::machine::Machine;
 use crate::proved::Proved;
 use crate::reader::Reader;
-use crate::record::{flat, reference};
+use crate::record::{flat, reference, values_at};
 use crate::sections::{
     Maker, Placing, READABLE, Style, Target, fixed_sections, large_sections, one_target, placed, random_sections, speed,
 };
@@ -21,10 +22,8 @@ use crate::{parse, serialize};
 /// The words and bytes of a record above which a section is left out, and the same for the large ones.
 const MOST: usize = 300_000;
 const MOST_LARGE: usize = 80_000_000;
-/// The calls on a section that was made in any way.
+/// The edits and undos on a section that was made in any way.
 const CALLS_ON_ANY: usize = 4;
-/// The numbers that an answer has.
-const ANSWER: usize = 3;
 
 /// The sections that are written.
 const WRITTEN: [(&str, Style); 3] = [
@@ -88,14 +87,15 @@ impl Beside {
         after: &[u8],
         answer: &[usize],
     ) -> Result<(), String> {
-        let [number, value] = self.machine.turn(call);
-        let wanted = [number, value, 0];
-        let told = answer.len().min(ANSWER);
+        let wanted = self.machine.turn(call);
+        let number = wanted[0];
+        let told = answer.len().min(wanted.len());
         if answer[..told] != wanted[..told] {
             return Err(format!("the machine answers {wanted:?}, the editor {answer:?}"));
         }
         let part = match call {
             _ if number != 0 => (0, 0),
+            Call::FieldAt(_) => (0, 0),
             Call::Edit(change) => {
                 let field = field(walked, change).ok_or("the machine has a place that the section has not")?;
                 self.parts.push((field.at, field.size));
@@ -106,6 +106,9 @@ impl Beside {
         let outside = |i: &usize| !(part.0..part.0 + part.1).contains(i);
         if let Some(i) = (0..before.len()).filter(outside).find(|&i| after[i] != before[i]) {
             return Err(format!("byte {i} was {}, is {}, and lies outside of {part:?}", before[i], after[i]));
+        }
+        if matches!(call, Call::FieldAt(_)) {
+            return Ok(());
         }
         let record = &self.machine.record;
         if serialize(record) != after {
@@ -124,6 +127,22 @@ impl Beside {
             }
         }
         Ok(())
+    }
+}
+
+/// What a section is known to be before a call.
+struct Known {
+    walked: Walked,
+    /// What the reference reads from it, if that is asked for and it reads.
+    read: Option<PaneAnimInfo>,
+}
+
+impl Known {
+    /// Looks at a section, unless its record is too long. The reference is asked where no machine has the record.
+    fn of(section: &[u8], most: usize, by_reference: bool) -> Option<Known> {
+        let walked = walk(section, &Rules::DOCUMENT, most)?;
+        let read = (by_reference && walked.outcome.is_ok()).then(|| record_of(section));
+        Some(Known { walked, read })
     }
 }
 
@@ -160,7 +179,8 @@ impl<'a> Trials<'a> {
         }
     }
 
-    /// Tries all that a run tries: at least `count` calls beside the machine, and as many on any bytes.
+    /// Tries all that a run tries: at least `count` edits and undos beside the machine, and as many on any bytes; behind
+    /// each it is asked what stands at a place.
     pub fn run(&mut self, seed: u64, count: u64) {
         self.on_written(count);
         let mut maker = Maker::new(seed);
@@ -178,7 +198,8 @@ impl<'a> Trials<'a> {
         for letters in TARGET_NUMBERS.map(|(letters, _)| *letters).into_iter().chain([[0; 4]]) {
             let record = record_of(&one_target(letters, Target::default()));
             let numbers = (0..300).chain([511, 512, 65_536, 1 << 24, u32::MAX]);
-            let calls: Vec<Call> = numbers.map(|n| Call::Edit(Change::Target([0; 3], n))).collect();
+            let call = |n: u32| [Call::Edit(Change::Target([0; 3], n)), Call::FieldAt(Place::Target([0; 3]))];
+            let calls: Vec<Call> = numbers.flat_map(call).collect();
             let journal = vec![7; ENTRY_WORDS * 300];
             self.try_list("every number of a target", &Trial::on_written(record, journal, calls), MOST);
         }
@@ -198,13 +219,14 @@ impl<'a> Trials<'a> {
         }
     }
 
-    /// A list of `len` calls on the section that the reference writes for a record.
+    /// A list of `len` edits and undos on the section that the reference writes for a record.
     fn on_record(&mut self, kind: &str, record: PaneAnimInfo, len: usize, most: usize) {
         let room = ENTRY_WORDS * self.maker.few(len.min(30)) + self.maker.random.below(ENTRY_WORDS);
         let journal = garbage(&mut self.maker, room);
         let mut trial = Trial::on_written(record, journal, Vec::new());
         let walked = walk(&trial.section, &Rules::DOCUMENT, most).unwrap();
-        trial.calls = calls(&mut self.maker, &walked.contents, len);
+        let changes = calls(&mut self.maker, &walked.contents, len);
+        trial.calls = with_fields(&mut self.maker, &walked.contents, &changes);
         self.try_list(kind, &trial, most);
     }
 
@@ -218,7 +240,8 @@ impl<'a> Trials<'a> {
         let room = ENTRY_WORDS * maker.few(6) + maker.random.below(ENTRY_WORDS);
         let journal = journal(maker, room, section.len());
         let count = count(maker, room);
-        let calls = calls(maker, &walked.contents, CALLS_ON_ANY);
+        let changes = calls(maker, &walked.contents, CALLS_ON_ANY);
+        let calls = with_fields(maker, &walked.contents, &changes);
         self.try_list(kind, &Trial { section: section.to_vec(), journal, count, calls, record: None }, most);
     }
 
@@ -239,18 +262,18 @@ impl<'a> Trials<'a> {
             .record
             .clone()
             .map(|record| Beside { machine: Machine::new(record, trial.journal.len()), parts: Vec::new() });
-        let mut walked = walk(&now.section, &Rules::DOCUMENT, most);
+        let mut known = Known::of(&now.section, most, beside.is_none());
         for (i, call) in trial.calls.iter().enumerate() {
-            let Some(places) = &walked else {
+            let Some(before) = &known else {
                 self.kind(kind).left_out += 1;
                 return;
             };
-            match self.try_call(&mut now, places, call, &mut beside) {
-                Ok(answer) => {
-                    self.calls[call.kind()].answered(answer[0]);
-                    self.kind(kind).answered(answer[0]);
-                    if answer[0] == 0 {
-                        walked = walk(&now.section, &Rules::DOCUMENT, most);
+            match self.try_call(&mut now, before, call, &mut beside) {
+                Ok(number) => {
+                    self.calls[call.kind()].answered(number);
+                    self.kind(kind).answered(number);
+                    if number == 0 && !matches!(call, Call::FieldAt(_)) {
+                        known = Known::of(&now.section, most, beside.is_none());
                     }
                 }
                 Err(what) => {
@@ -262,21 +285,24 @@ impl<'a> Trials<'a> {
         }
     }
 
-    /// Makes one call on what `now` has, and puts there what it hands on. Says the answer, or in what the call differs.
+    /// Makes one call on what `now` has, and puts there what it hands on. Says the answer's number, or in what the call
+    /// differs.
     fn try_call(
         &mut self,
         now: &mut Trial,
-        walked: &Walked,
+        known: &Known,
         call: &Call,
         beside: &mut Option<Beside>,
-    ) -> Result<[usize; ANSWER], String> {
+    ) -> Result<usize, String> {
+        let walked = &known.walked;
         let random = &mut self.maker.random;
         let salt = random.next();
         // mostly as many places as an answer has numbers
+        let numbers = call.numbers();
         let room = match random.below(16) {
-            0 => random.below(ANSWER),
-            1 => ANSWER + 1 + random.below(4),
-            _ => ANSWER,
+            0 => random.below(numbers),
+            1 => numbers + 1 + random.below(4),
+            _ => numbers,
         };
         let section = self.section.list(salt, now.section.len());
         section.copy_from_slice(&now.section);
@@ -286,23 +312,31 @@ impl<'a> Trials<'a> {
         match call {
             Call::Edit(change) => self.editor.edit(section, journal, now.count, change, answer),
             Call::Undo => self.editor.undo(section, journal, now.count, answer),
+            Call::FieldAt(place) => self.editor.field_at(section, place, answer),
         }
         if let Some(beside) = beside {
             beside.turn(call, walked, &now.section, self.section.now(), self.answer.now())?;
         }
         let wanted = match call {
-            Call::Edit(change) => edited(walked, &mut now.section, &mut now.journal, now.count, change),
-            Call::Undo => undone(&mut now.section, &now.journal, now.count),
+            Call::Edit(change) => edited(walked, &mut now.section, &mut now.journal, now.count, change).to_vec(),
+            Call::Undo => undone(&mut now.section, &now.journal, now.count).to_vec(),
+            Call::FieldAt(place) => field_at(walked, &now.section, place).to_vec(),
         };
+        if let (Call::FieldAt(place), Some(record)) = (call, &known.read) {
+            let read = field_answer(values_at(record, place));
+            if wanted != read {
+                return Err(format!("the reference reads {read:?}, the layout has {wanted:?}"));
+            }
+        }
         let found = self
             .answer
-            .differs("answer", &wanted[..room.min(ANSWER)])
+            .differs("answer", &wanted[..room.min(numbers)])
             .or_else(|| self.section.differs("section", &now.section))
             .or_else(|| self.journal.differs("journal", &now.journal));
         if let Some(what) = found {
             return Err(format!("{what}, where the answer is {wanted:?}"));
         }
-        if wanted[0] == 0 {
+        if wanted[0] == 0 && !matches!(call, Call::FieldAt(_)) {
             now.count = wanted[1];
         }
         if let Some(Beside { machine, .. }) = beside
@@ -310,7 +344,7 @@ impl<'a> Trials<'a> {
         {
             return Err(format!("the machine's stack is {} high, the count is {}", machine.stack.len(), now.count));
         }
-        Ok(wanted)
+        Ok(wanted[0])
     }
 
     /// Counts a difference, and keeps the shortest list that has one.
@@ -349,6 +383,10 @@ impl<'a> Trials<'a> {
         let left_out: u64 = self.kinds.iter().map(|kind| kind.left_out).sum();
         println!("{lists} lists of calls; {left_out} were left, since the section's record is too long\n");
         table("kind of call", &self.calls);
+        let calls = |kinds: &[Kind]| kinds.iter().map(|kind| kind.calls).sum::<u64>();
+        let (edits, others) = self.calls.split_at(Call::EDITS);
+        let (undo, fields) = others.split_at(1);
+        println!("{} edits, {} undos, {} times field_at", calls(edits), calls(undo), calls(fields));
         if let Some((trial, what)) = &self.smallest {
             let hex: Vec<String> = trial.section.iter().take(4_096).map(|byte| format!("{byte:02X}")).collect();
             let more = if trial.section.len() > 4_096 { " .." } else { "" };

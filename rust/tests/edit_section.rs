@@ -42,6 +42,7 @@ fn wanted(section: &[u8], calls: &[Call], starts: &[usize]) -> Result<Vec<u8>, S
         match call {
             Call::Edit(change) => ByLayout.edit(&mut section, &mut journal, count, change, &mut answer),
             Call::Undo => ByLayout.undo(&mut section, &mut journal, count, &mut answer),
+            Call::FieldAt(_) => unreachable!("no change"),
         }
         if answer[0] != 0 {
             let values = match answer {

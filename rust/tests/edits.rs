@@ -1,9 +1,9 @@
-//! The trials of editors find what they are there to find: document 01's definitions agree with its plain machine, and each
-//! of these mistaken editors is caught.
+//! The trials of editors find what they are there to find: document 01's definitions agree with its plain machine and with
+//! what the reference reads, and each of these mistaken editors is caught.
 mod slips;
 
-use compare::change::{Call, Change, NewKey};
-use compare::editor::{ByLayout, Editor, edited, field, undone};
+use compare::change::{Call, Change, NewKey, Place};
+use compare::editor::{ByLayout, Editor, edited, field, field_at, undone};
 use compare::journal::ENTRY_WORDS;
 use compare::layout::{Rules, walk};
 use compare::proved::Proved;
@@ -43,11 +43,16 @@ fn the_definitions_agree_with_the_machine() {
             "undo" => &[0, 13, 14],
             "frame count" | "looping" => &[0, 1, 3, 4, 11, 12],
             "extended value" => &[0, 1, 3, 4, 10, 12],
+            "field_at: frame count" | "field_at: looping" => &[0, 1, 3, 4],
+            _ if name.starts_with("field_at") => &[0, 1, 3, 4, 10],
             _ => &[0, 1, 3, 4, 10, 11, 12],
         };
         let seen: Vec<usize> = (0..15).filter(|&number| of[number] > 0).collect();
         assert_eq!(seen, expected, "{name}: {of:?}");
     }
+    let calls = |kinds: &[Kind]| kinds.iter().map(|kind| kind.calls).sum::<u64>();
+    let (changes, fields) = trials.calls.split_at(Call::EDITS + 1);
+    assert!(calls(fields) >= calls(changes));
 }
 
 slips! {
@@ -87,6 +92,26 @@ slips! {
         ChangesTheJournalWhereRefused,
         WritesBehindTheSection,
         AnswersAThirdNumber;
+    /// What can go wrong in saying what stands in a field, seen beside the machine.
+    SHOWN:
+        ShowsTheNeighbourKey,
+        ShowsTheFirstValue,
+        ShowsTheLayerForTheTarget,
+        ShowsUnlistedTargetsAsZero,
+        ShowsTheSlopeFirst,
+        ShowsAKeyAsConstant,
+        ShowsAKeyThatIsNotThere,
+        ShowsNoKey,
+        ShowsQuietNaNs,
+        ShowsASixthNumber,
+        ShowsNoZerosBehind;
+    /// The same, seen on sections that the reference does not write, or that do not read.
+    SHOWN_OF_ANY:
+        ShowsLoopingRaw,
+        ShowsTargetsRaw,
+        ShowsSkippedBytes,
+        ShowsAHeadThatDoesNotRead,
+        WritesLoopingAsRead;
 }
 
 struct Slipping(Slip);
@@ -234,6 +259,66 @@ impl Editor for Slipping {
         }
         store(&numbers, answer);
     }
+
+    fn field_at(&self, section: &mut [u8], place: &Place, answer: &mut [usize]) {
+        let slip = self.0;
+        let mut walked = walk(section, &Rules::DOCUMENT, usize::MAX).unwrap();
+        let mut numbers = field_at(&walked, section, place);
+        let accepted = numbers[0] == 0;
+        // where the field stands: any change of it says that
+        let at = |value: Change| field(&walked, &value).unwrap().at;
+        match (slip, *place) {
+            (Slip::ShowsTheNeighbourKey, Place::Key([c, i, t, key])) if accepted => {
+                let other = field_at(&walked, section, &Place::Key([c, i, t, key + 1]));
+                if other[0] == 0 {
+                    numbers = other;
+                }
+            }
+            (Slip::ShowsTheFirstValue, Place::Value([c, i, d, list, _])) if accepted => {
+                numbers = field_at(&walked, section, &Place::Value([c, i, d, list, 0]));
+            }
+            (Slip::ShowsTheLayerForTheTarget, Place::Target(target)) => {
+                numbers = field_at(&walked, section, &Place::Layer(target));
+            }
+            (Slip::ShowsTheSlopeFirst, Place::Key(_)) if numbers[..2] == [0, 3] => numbers[2..].reverse(),
+            (Slip::ShowsAKeyAsConstant, Place::Key(_)) if numbers[..2] == [0, 2] => {
+                numbers[1] = 1;
+                numbers[3] = 0;
+            }
+            (Slip::ShowsAKeyThatIsNotThere, Place::Key([c, i, t, key])) if numbers[0] == 10 && key > 0 => {
+                numbers = field_at(&walked, section, &Place::Key([c, i, t, key - 1]));
+            }
+            (Slip::ShowsNoKey, Place::Key(_)) if accepted => numbers = [10, 0, 0, 0, 0],
+            (Slip::ShowsQuietNaNs, Place::Value(_)) if accepted && f32::from_bits(numbers[2] as u32).is_nan() => {
+                numbers[2] |= 0x0040_0000;
+            }
+            (Slip::ShowsNoZerosBehind, _) if accepted && answer.len() == numbers.len() => {
+                let behind = 2 + numbers[1];
+                numbers[behind..].copy_from_slice(&answer[behind..]);
+            }
+            (Slip::ShowsLoopingRaw, Place::Looping) if accepted => numbers[2] = section[10].into(),
+            (Slip::ShowsTargetsRaw, Place::Target(target)) if accepted && numbers[2] != 255 => {
+                numbers[2] = section[at(Change::Target(target, 0))].into();
+            }
+            (Slip::ShowsUnlistedTargetsAsZero, Place::Target(_)) if accepted && numbers[2] == 255 => numbers[2] = 0,
+            (Slip::ShowsSkippedBytes, Place::Key(key)) if numbers[..2] == [0, 2] => {
+                let at = at(Change::Key(key, NewKey::Constant(0)));
+                if let Some(bytes) = section.get(at + 4..at + 8) {
+                    numbers[3] = u32::from_le_bytes(bytes.try_into().unwrap()) as usize;
+                }
+            }
+            (Slip::ShowsAHeadThatDoesNotRead, Place::FrameCount | Place::Looping) if section.len() > 20 => {
+                walked.outcome = Ok(Default::default());
+                numbers = field_at(&walked, section, place);
+            }
+            (Slip::WritesLoopingAsRead, Place::Looping) if accepted => section[10] = numbers[2] as u8,
+            _ => {}
+        }
+        store(&numbers, answer);
+        if let (Slip::ShowsASixthNumber, Some(sixth)) = (slip, answer.get_mut(numbers.len())) {
+            *sixth = 0;
+        }
+    }
 }
 
 /// The editors that document 01 throws out, and two that touch bytes that are not the field's, are caught beside the
@@ -252,10 +337,25 @@ fn what_document_01_throws_out_is_caught() {
     }
 }
 
+/// So are those that show something else than what stands in a field.
+#[test]
+fn what_is_shown_wrongly_is_caught() {
+    for &slip in SHOWN {
+        let editor = Slipping(slip);
+        let mut trials = Trials::new(&editor, SEED);
+        trials.on_written(20_000);
+        assert!(trials.differences > 0, "{slip:?}");
+        trials.shrink();
+        let (trial, what) = trials.smallest.unwrap();
+        println!("{slip:?} after {:?}: {what}", trial.calls);
+        assert!(trial.calls.len() <= 2, "{slip:?}: {:?}", trial.calls);
+    }
+}
+
 /// So is everything else that can go wrong, beside the machine or on any bytes.
 #[test]
 fn slips_are_caught() {
-    for &slip in OTHERS {
+    for &slip in OTHERS.iter().chain(SHOWN_OF_ANY) {
         let editor = Slipping(slip);
         let mut trials = tried(&editor);
         assert!(trials.differences > 0, "{slip:?}");
@@ -280,9 +380,14 @@ fn the_value_of_content_p_made_0() {
         assert_eq!(wanted[88], 1);
         wanted[88] = 0;
         assert_eq!(section, wanted);
+        let mut shown = [9; 6];
+        editor.field_at(&mut section, &change.place(), &mut shown);
+        assert_eq!(shown, [0, 2, 0, 0, 0, 9]);
         editor.undo(&mut section, &mut journal, 1, &mut answer);
         assert_eq!(answer, [0, 0, 0]);
         assert_eq!(section, content_p());
         assert_eq!(journal, [84, 6, 0, 1, 0, 9, 9]);
+        editor.field_at(&mut section, &change.place(), &mut shown);
+        assert_eq!((shown, section), ([0, 2, 0, 1, 0, 9], content_p()));
     }
 }

@@ -3,7 +3,11 @@ use compare::bflan::anim_info::{AnimInfo, AnimInfoType, PaneAnimInfo};
 use compare::bflan::curves::Curve;
 use compare::bflan::file::BflanSections;
 use compare::bflan::targets::TargetIndex;
+use compare::calls::change;
+use compare::change::Place;
+use compare::layout::{Rules, walk};
 use compare::parse;
+use compare::record::values_at;
 use compare::sections::{Maker, READABLE};
 
 /// The name inside of, say, `PaneSrt(TranslateX)`.
@@ -120,4 +124,62 @@ fn records() {
         }
         assert!(read > 200 && seen > 500, "{kind}: {read} sections with {seen} keys and values are too few");
     }
+}
+
+/// A place in the crate's words.
+fn place_of(place: &Place) -> pai1::Place {
+    let target = |[content, info, target]: [usize; 3]| pai1::TargetPlace { content, info, target };
+    match *place {
+        Place::FrameCount => pai1::Place::FrameCount,
+        Place::Looping => pai1::Place::Looping,
+        Place::Layer(place) => pai1::Place::Layer(target(place)),
+        Place::Target(place) => pai1::Place::Target(target(place)),
+        Place::Key([content, info, at, key]) => pai1::Place::Key(target([content, info, at]), key),
+        Place::Value([content, info, datum, list, index]) => {
+            pai1::Place::Value(pai1::ValuePlace { content, info, datum, list, index })
+        }
+    }
+}
+
+/// The numbers of a field as the crate says it.
+fn values_of(change: &pai1::Change) -> Vec<u32> {
+    match *change {
+        pai1::Change::FrameCount(value) => vec![value.into()],
+        pai1::Change::Looping(value) => vec![value.into()],
+        pai1::Change::Layer(_, value) | pai1::Change::Target(_, value) => vec![value.into()],
+        pai1::Change::Key(_, _, pai1::Key::Constant(value)) | pai1::Change::Value(_, value) => vec![value.to_bits()],
+        pai1::Change::Key(_, _, pai1::Key::Step(key)) => vec![key.frame.to_bits(), key.value.into()],
+        pai1::Change::Key(_, _, pai1::Key::Hermite(key)) => {
+            [key.frame, key.value, key.slope].map(f32::to_bits).to_vec()
+        }
+    }
+}
+
+/// What stands at places that are there and that are not, beside the reference's record.
+#[test]
+fn fields() {
+    let mut maker = Maker::new(20_261_117);
+    let (mut there, mut none) = (0, 0);
+    for (_, style, placing) in READABLE {
+        for _ in 0..300 {
+            let section = maker.section(style, placing).bytes;
+            let Ok(BflanSections::PaneAnimInfo(record)) = parse(&section) else { continue };
+            let contents = walk(&section, &Rules::DOCUMENT, usize::MAX).unwrap().contents;
+            for _ in 0..10 {
+                let asked = change(&mut maker, &contents).place();
+                let (place, wanted) = (place_of(&asked), values_at(&record, &asked));
+                match pai1::field_at(&section, place) {
+                    Ok(found) => {
+                        assert_eq!((found.place(), Some(values_of(&found))), (place, wanted));
+                        there += 1;
+                    }
+                    Err(refusal) => {
+                        assert_eq!((refusal, wanted), (pai1::Refusal::NoSuchPlace, None));
+                        none += 1;
+                    }
+                }
+            }
+        }
+    }
+    assert!(there > 1000 && none > 1000, "{there} there, {none} not");
 }

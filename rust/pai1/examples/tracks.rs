@@ -15,16 +15,18 @@ fn main() -> Result<(), Box<dyn Error>> {
         Some(file) => bytes = std::fs::read(file)?,
         None => drop(std::io::stdin().read_to_end(&mut bytes)?),
     }
-    let record = match pai1::read_within(&bytes, MOST, MOST) {
-        Ok(record) => record,
-        Err(refusal) => {
-            println!("refused {}: {refusal}", refusal.number());
-            return Ok(());
-        }
-    };
-    print(&record);
-    change_a_key(bytes, &record)?;
+    if let Err(refusal) = show(bytes) {
+        println!("refused {}: {refusal}", refusal.number());
+    }
     Ok(())
+}
+
+/// Prints a section, edits a key of it, and takes the edit back.
+fn show(bytes: Vec<u8>) -> Result<(), Refusal> {
+    let mut section = Section::new(bytes)?;
+    let record = section.read_within(MOST, MOST)?;
+    print(&record);
+    change_a_key(&mut section, &record)
 }
 
 /// Prints what a record holds. Names are quoted, since they may hold anything.
@@ -70,7 +72,7 @@ fn first_key(record: &Record) -> Option<(TargetPlace, Key)> {
 }
 
 /// Adds 1 to the value of the first key, and takes that back.
-fn change_a_key(bytes: Vec<u8>, record: &Record) -> Result<(), Refusal> {
+fn change_a_key(section: &mut Section, record: &Record) -> Result<(), Refusal> {
     let Some((place, key)) = first_key(record) else {
         println!("no key to edit");
         return Ok(());
@@ -80,16 +82,16 @@ fn change_a_key(bytes: Vec<u8>, record: &Record) -> Result<(), Refusal> {
         Key::Step(key) => Key::Step(StepKey { value: key.value.wrapping_add(1), ..key }),
         Key::Hermite(key) => Key::Hermite(HermiteKey { value: key.value + 1.0, ..key }),
     };
-    let mut section = Section::new(bytes)?;
-    section.edit(&Change::Key(place, 0, new))?;
-    println!("edited key 0 of {place:?}: {key:?} is now {new:?}");
+    let change = Change::Key(place, 0, new);
+    section.edit(&change)?;
+    println!("edited: there stood {key:?}, and now {:?}", section.field_at(change.place())?);
     let entry = section.journal().entries().flatten().last().expect("the entry of the edit");
     let now = &section.bytes()[entry.offset()..][..entry.old().len()];
     println!("bytes from {} on were {:02X?} and are {now:02X?}", entry.offset(), entry.old());
     let left = section.undo()?;
     println!(
         "undone, {left} edits left; the record is {}",
-        if section.read()? == *record { "as it was" } else { "another" }
+        if section.read_within(MOST, MOST)? == *record { "as it was" } else { "another" }
     );
     Ok(())
 }

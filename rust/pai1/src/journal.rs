@@ -22,12 +22,14 @@ impl Journal {
     /// An empty journal with room for so many entries and no more: the next edit is refused with
     /// [`Refusal::JournalFull`].
     pub fn bounded(entries: usize) -> Journal {
-        Journal::of_words(vec![0; ENTRY_WORDS * entries], 0)
+        Journal { words: vec![0; ENTRY_WORDS * entries], count: 0, grows: false }
     }
 
-    /// A journal as it was kept: any words and any count. It has room for a fifth as many entries as there are words.
+    /// A journal as it was kept: any words and any count. It grows as that of [`new`](Journal::new) does, unless the count
+    /// is above what the words have room for, a fifth as many entries: then entries are missing, and an edit is refused
+    /// with [`Refusal::JournalFull`].
     pub fn of_words(words: Vec<u32>, count: usize) -> Journal {
-        Journal { words, count, grows: false }
+        Journal { words, count, grows: true }
     }
 
     /// The words, also those behind the entries that count.
@@ -48,7 +50,8 @@ impl Journal {
     /// Edits a section, and keeps what stood there.
     pub(crate) fn edit(&mut self, section: &mut [u8], change: &Change) -> Result<usize, Refusal> {
         let mut answer = accepted(change.call(section, &mut self.words, self.count));
-        if self.grows && matches!(answer, Err(Refusal::JournalFull { .. })) {
+        // no entry is made up where the count is above the room
+        if self.grows && answer == Err(Refusal::JournalFull { capacity: self.count }) {
             let room = 2 * self.words.len() + ENTRY_WORDS;
             self.words.resize(room, 0);
             answer = accepted(change.call(section, &mut self.words, self.count));

@@ -8,6 +8,7 @@
 //! - [`write()`] gives a record's section. A record that is written is read back bit for bit.
 //! - [`edit`] changes a field of a finished section in place, and [`undo`] takes the last edit back by its [`Journal`].
 //!   A [`Section`] has the bytes and the journal together.
+//! - [`field_at`] says what stands in a field now, as the [`Change`] that puts it there.
 //!
 //! ```
 //! use pai1::{Record, read};
@@ -38,7 +39,7 @@ mod record;
 mod refusal;
 mod section;
 
-pub use change::{Change, TargetPlace, ValuePlace};
+pub use change::{Change, Place, TargetPlace, ValuePlace};
 pub use journal::{Entry, Journal};
 pub use names::{AnimInfoType, AnimType, TargetIndex};
 pub use record::{
@@ -148,6 +149,42 @@ pub fn write(record: &Record) -> Result<Vec<u8>, Refusal> {
     Ok(section)
 }
 
+/// What stands in a field of a section now, as the change that puts it there: of the same field and place, with the value
+/// that reading gives. Nothing is read into tables for it.
+///
+/// Looping and a target's number are as the record has them: a looping byte of 5 is true, a target at or above its letters'
+/// number is 0, and every target of an invalid info is 255. So the change always fits its place. An edit by it changes the
+/// byte where it was another.
+///
+/// Refused as [`needs`] is, then with [`Refusal::NoSuchPlace`].
+///
+/// ```
+/// use pai1::{Change, Journal, Key, Place, Record, Refusal, StepKey, TargetPlace, edit, field_at};
+///
+/// // content `P`, a Pane, with a Step key (0.0, 1) for its visibility
+/// let flvi = u32::from_le_bytes(*b"FLVI");
+/// let words = vec![60, 0, 0, 1, 1, 0, 1, flvi, 1, 0, 0, 1, 1, 0, 1];
+/// let mut section = Record::new(words, b"P".to_vec())?.write()?;
+///
+/// let place = TargetPlace { content: 0, info: 0, target: 0 };
+/// let before = field_at(&section, Place::Key(place, 0))?;
+/// assert_eq!(before, Change::Key(place, 0, Key::Step(StepKey { frame: 0.0, value: 1 })));
+/// assert_eq!(field_at(&section, Place::Key(place, 1)), Err(Refusal::NoSuchPlace));
+///
+/// // another key, and the one before it put back
+/// let (written, mut journal) = (section.clone(), Journal::new());
+/// let new = Change::Key(place, 0, Key::Step(StepKey { frame: 0.0, value: 0 }));
+/// edit(&mut section, &mut journal, &new)?;
+/// assert_eq!(field_at(&section, new.place())?, new);
+/// edit(&mut section, &mut journal, &before)?;
+/// assert_eq!(section, written);
+/// # Ok::<(), pai1::Refusal>(())
+/// ```
+pub fn field_at(section: &[u8], place: Place) -> Result<Change, Refusal> {
+    let [_, count, values @ ..] = accepted(place.call(section))?;
+    Ok(place.with(&values.map(|value| value as u32)[..count]))
+}
+
 /// Changes one field of a section in place, and keeps what stood there as a new entry of the journal. Only the field's
 /// bytes change. Returns how many edits can now be taken back.
 ///
@@ -157,6 +194,9 @@ pub fn edit(section: &mut [u8], journal: &mut Journal, change: &Change) -> Resul
 }
 
 /// Takes the last edit of the journal back: the bytes that it changed are as they were. Returns how many are left.
+///
+/// An entry of another section's journal is not noticed: its bytes are restored where they lie within this section, and
+/// what stood there is lost. So keep a journal with its section, as [`Section`] does.
 ///
 /// Refused with [`Refusal::TooLong`], [`Refusal::NothingToUndo`] or [`Refusal::BadJournal`].
 pub fn undo(section: &mut [u8], journal: &mut Journal) -> Result<usize, Refusal> {

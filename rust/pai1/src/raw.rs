@@ -5,7 +5,7 @@
 //! into the address and the length that C passes.
 //!
 //! A call that can be refused stores document 01's number and values in `answer`, with zeros behind them: three numbers,
-//! or four for [`find_text`]. What `answer` has no place for is dropped, and no other place of it changes.
+//! four for [`find_text`], or five for what stands in a field. What `answer` has no place for is dropped, and no other place of it changes.
 #![allow(unsafe_code)]
 #![allow(clippy::too_many_arguments)]
 
@@ -256,4 +256,44 @@ edits! {
     edit_value = nnbfl_edit_value(
         content: usize, info: usize, datum: usize, list: usize, index: usize, value: u32
     );
+}
+
+/// What stands in each field as it is exported and as a safe function: they differ only in the place.
+macro_rules! fields {
+    ($($(#[$doc:meta])* $name:ident = $exported:ident($($number:ident),*);)*) => {
+        unsafe extern "C" {
+            $(fn $exported(
+                section: *const u8,
+                section_len: usize,
+                $($number: usize,)*
+                answer: *mut usize,
+                answer_len: usize,
+            );)*
+        }
+        $(
+            $(#[$doc])*
+            ///
+            /// The answer is 0 with how many values there are and the values, as the record has them, or a refusal.
+            pub fn $name(section: &[u8], $($number: usize,)* answer: &mut [usize]) {
+                unsafe {
+                    $exported(section.as_ptr(), section.len(), $($number,)* answer.as_mut_ptr(), answer.len())
+                }
+            }
+        )*
+    };
+}
+
+fields! {
+    /// The frame count.
+    field_frame_count = nnbfl_field_frame_count();
+    /// Whether the animation loops: 1 or 0.
+    field_looping = nnbfl_field_looping();
+    /// A target's layer.
+    field_layer = nnbfl_field_layer(content, info, target);
+    /// A target's number.
+    field_target = nnbfl_field_target(content, info, target);
+    /// A key: of a Constant curve one value, of a Step curve two, of a Hermite curve three; floats by their bits.
+    field_key = nnbfl_field_key(content, info, target, key);
+    /// A value of extended data, by its bits.
+    field_value = nnbfl_field_value(content, info, datum, list, index);
 }

@@ -68,7 +68,8 @@ pub enum Refusal {
     },
     /// 13: there is no edit to take back.
     NothingToUndo,
-    /// 14: the journal's last entry is not there, or is none of an edit of this section.
+    /// 14: the count is above what the journal has room for; or the last entry's byte count is none of 1, 2, 4, 6 and 12,
+    /// its fill is not zero, or its bytes lie past the section. Nothing else is tested.
     BadJournal {
         /// How many entries the journal is said to have.
         count: usize,
@@ -177,7 +178,11 @@ impl fmt::Display for Refusal {
             }
             Refusal::NothingToUndo => write!(f, "there is no edit to undo"),
             Refusal::BadJournal { count } => {
-                write!(f, "the last entry of the journal ({count} in all) is none of an edit of this section")
+                write!(
+                    f,
+                    "the journal's last entry ({count} in all) is not there, or its byte count is none of 1, 2, 4, 6 and \
+                     12, or its fill is not zero, or its bytes lie past the section"
+                )
             }
         }
     }

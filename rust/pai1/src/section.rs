@@ -1,8 +1,8 @@
-use crate::change::Change;
+use crate::change::{Change, Place};
 use crate::journal::Journal;
 use crate::record::Record;
 use crate::refusal::Refusal;
-use crate::{edit, read, undo};
+use crate::{edit, field_at, read, read_within, undo};
 
 /// A section that is edited: its bytes, and the journal of its edits.
 ///
@@ -60,6 +60,17 @@ impl Section {
         read(&self.bytes)
     }
 
+    /// Reads the section if its record needs at most so many words and text bytes:
+    /// [`read_within`](crate::read_within). A section of a stranger can ask for tables far longer than itself.
+    pub fn read_within(&self, most_words: usize, most_texts: usize) -> Result<Record, Refusal> {
+        read_within(&self.bytes, most_words, most_texts)
+    }
+
+    /// What stands in a field now, as the change that puts it there: [`field_at`](crate::field_at).
+    pub fn field_at(&self, place: Place) -> Result<Change, Refusal> {
+        field_at(&self.bytes, place)
+    }
+
     /// Changes a field, and returns how many edits can now be taken back: [`edit`](crate::edit).
     pub fn edit(&mut self, change: &Change) -> Result<usize, Refusal> {
         edit(&mut self.bytes, &mut self.journal, change)
@@ -70,8 +81,9 @@ impl Section {
         undo(&mut self.bytes, &mut self.journal)
     }
 
-    /// Takes all edits back, and returns how many there were. Where an entry is none of an edit of this section, those
-    /// before it stay: [`Refusal::BadJournal`].
+    /// Takes all edits back, and returns how many there were. Where an entry is refused with [`Refusal::BadJournal`], it
+    /// stays with those before it, and those behind it are taken back. An entry of another section's journal is restored
+    /// as [`undo`](crate::undo) says.
     pub fn undo_all(&mut self) -> Result<usize, Refusal> {
         let edits = self.journal.count();
         while self.journal.count() > 0 {

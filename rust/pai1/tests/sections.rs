@@ -1,7 +1,8 @@
 //! Document 01's worked sections, through this crate.
 use pai1::{
-    AnimInfo, AnimInfoType, AnimType, Change, Curve, HermiteKey, Journal, Key, LIMIT, Record, Refusal, Section,
-    StepKey, TargetIndex, TargetPlace, ValuePlace, edit, needs, read, read_within, text, undo, write,
+    AnimContent, AnimInfo, AnimInfoType, AnimTarget, AnimType, Change, Curve, HermiteKey, Journal, Key, LIMIT, Place,
+    Record, Refusal, Section, StepKey, TargetIndex, TargetPlace, ValuePlace, edit, field_at, needs, read, read_within,
+    text, undo, write,
 };
 
 fn letters(letters: &[u8; 4]) -> u32 {
@@ -216,7 +217,8 @@ fn the_parts_of_a_mixture() {
     assert!(data[1].values.iter().all(|list| list.is_empty()));
 }
 
-/// Each field is changed and then taken back; what is read in between is the record with that word changed.
+/// Each field is changed and then taken back; what is read in between is the record with that word changed, and what stands
+/// in the field is what was put there.
 #[test]
 fn every_field() {
     let (words, texts) = mixture();
@@ -243,11 +245,113 @@ fn every_field() {
         assert_eq!(section.edit(change), Ok(i + 1), "{change:?}");
         expected[*at..at + new.len()].copy_from_slice(new);
         assert_eq!(section.read().unwrap().words(), expected, "{change:?}");
+        assert_eq!(section.field_at(change.place()), Ok(*change));
     }
     assert_eq!(section.journal().entries().flatten().count(), changes.len());
     assert_eq!(section.undo_all(), Ok(changes.len()));
     assert_eq!(section.undo_all(), Ok(0));
     assert_eq!(section.bytes(), before);
+}
+
+/// The fields of a record with what stands in them, and the places one past the last of each list.
+fn fields(record: &Record) -> (Vec<Change>, Vec<Place>) {
+    let mut there = vec![Change::FrameCount(record.frame_count()), Change::Looping(record.is_looping())];
+    let mut past = vec![Place::Layer(TargetPlace { content: record.contents().len(), ..TARGET })];
+    for (content, AnimContent { infos, .. }) in record.contents().enumerate() {
+        past.push(Place::Target(TargetPlace { content, info: infos.len(), target: 0 }));
+        for (info, parts) in infos.enumerate() {
+            match parts {
+                AnimInfo::Standard { targets, .. } => {
+                    past.push(Place::Layer(TargetPlace { content, info, target: targets.len() }));
+                    past.push(Place::Value(ValuePlace { content, info, datum: 0, list: 0, index: 0 }));
+                    for (target, AnimTarget { layer, target: number, curve }) in targets.enumerate() {
+                        let place = TargetPlace { content, info, target };
+                        there.push(Change::Layer(place, layer));
+                        there.push(Change::Target(place, number.number));
+                        there.extend(curve.keys().enumerate().map(|(i, key)| Change::Key(place, i, key)));
+                        past.extend([curve.len(), usize::MAX].map(|key| Place::Key(place, key)));
+                    }
+                }
+                AnimInfo::ExtendedUserData { data } => {
+                    past.push(Place::Value(ValuePlace { content, info, datum: data.len(), list: 0, index: 0 }));
+                    past.push(Place::Target(TargetPlace { content, info, target: 0 }));
+                    for (datum, parts) in data.enumerate() {
+                        past.push(Place::Value(ValuePlace { content, info, datum, list: 3, index: 0 }));
+                        for (list, values) in parts.values.iter().enumerate() {
+                            let place = |index| ValuePlace { content, info, datum, list, index };
+                            there.extend(values.iter().enumerate().map(|(i, value)| Change::Value(place(i), value)));
+                            past.push(Place::Value(place(values.len())));
+                        }
+                    }
+                }
+            }
+        }
+    }
+    (there, past)
+}
+
+/// The sections of the repository's samples, and those above.
+fn samples() -> Vec<Vec<u8>> {
+    let folder = concat!(env!("CARGO_MANIFEST_DIR"), "/../../crates/round_trip/samples");
+    let files = std::fs::read_dir(folder).unwrap().map(|file| file.unwrap().path());
+    let inputs = files.filter(|file| file.extension().is_some_and(|kind| kind == "in"));
+    let mut sections: Vec<Vec<u8>> = inputs.map(|file| std::fs::read(file).unwrap()).collect();
+    let (words, texts) = mixture();
+    sections.extend([content_p(), datum_k(), written(&words, texts)]);
+    sections
+}
+
+/// What stands in each field is what reading gives, and put in again it leaves the record as it was. Behind the last of
+/// each list is nothing. A section that does not read is refused as reading refuses it.
+#[test]
+fn what_stands_in_every_field() {
+    let (mut seen, mut refused) = (0, 0);
+    for mut bytes in samples() {
+        let record = match read(&bytes) {
+            Ok(record) => record,
+            Err(refusal) => {
+                assert_eq!(field_at(&bytes, Place::FrameCount), Err(refusal));
+                assert_eq!(field_at(&bytes, Place::Key(TARGET, 0)), Err(refusal));
+                refused += 1;
+                continue;
+            }
+        };
+        let (there, past) = fields(&record);
+        for field in &there {
+            assert_eq!(field_at(&bytes, field.place()), Ok(*field));
+        }
+        for place in past {
+            assert_eq!(field_at(&bytes, place), Err(Refusal::NoSuchPlace), "{place:?}");
+        }
+        let mut journal = Journal::new();
+        for field in &there {
+            edit(&mut bytes, &mut journal, field).unwrap();
+        }
+        assert_eq!(read(&bytes), Ok(record));
+        seen += there.len();
+    }
+    assert!(seen > 100 && refused > 2, "{seen} fields, {refused} refused");
+}
+
+/// The byte of looping and a target's own number are not what the record has: that is what is said, and what an edit takes.
+#[test]
+fn what_stands_in_a_field_is_the_records() {
+    let mut bytes = content_p();
+    bytes[10] = 5;
+    bytes[73] = 1;
+    assert_eq!(field_at(&bytes, Place::Looping), Ok(Change::Looping(true)));
+    assert_eq!(field_at(&bytes, Place::Target(TARGET)), Ok(Change::Target(TARGET, 0)));
+    bytes[60] = b'f';
+    assert_eq!(field_at(&bytes, Place::Target(TARGET)), Ok(Change::Target(TARGET, 255)));
+    // the bytes behind a Step key's value are not its own
+    bytes[90..].fill(0xFF);
+    let key = Change::Key(TARGET, 0, Key::Step(StepKey { frame: 0.0, value: 1 }));
+    assert_eq!(field_at(&bytes, key.place()), Ok(key));
+    let mut section = Section::with_journal(bytes, Journal::new());
+    for place in [Place::Looping, Place::Target(TARGET), key.place()] {
+        section.edit(&section.field_at(place).unwrap()).unwrap();
+    }
+    assert_eq!([10, 73, 88, 90].map(|at| section.bytes()[at]), [1, 255, 1, 0xFF]);
 }
 
 /// A refusal is the one that is wanted, and says so; its number is noted.
@@ -289,6 +393,14 @@ fn every_refusal() {
     let refusal = Refusal::NoZero { start: 24 };
     is(&mut met, read(&endless).unwrap_err(), refusal, "the text at offset 24 has no zero byte at its end");
 
+    // what stands in a field is refused as a reading is
+    for section in [&other, &long, &led, &endless, &p[..6].to_vec()] {
+        let refusal = read(section).unwrap_err();
+        for place in [Place::FrameCount, Place::Looping, Place::Layer(TARGET), Place::Key(TARGET, 7)] {
+            assert_eq!(field_at(section, place), Err(refusal));
+        }
+    }
+
     let refusal = Refusal::TablesTooShort { words: 15, texts: 1 };
     is(&mut met, read_within(&p, 14, 1).unwrap_err(), refusal, "the section's record needs 15 words and 1 text byte");
     assert_eq!(read_within(&p, 15, 0), Err(refusal));
@@ -324,6 +436,7 @@ fn every_refusal() {
     let change = Change::Layer(TargetPlace { target: 1, ..TARGET }, 0);
     let sentence = "the section has no such text or field";
     is(&mut met, edit(&mut bytes, &mut journal, &change).unwrap_err(), Refusal::NoSuchPlace, sentence);
+    assert_eq!(field_at(&bytes, change.place()), Err(Refusal::NoSuchPlace));
     assert_eq!(text(&p, 1), Err(Refusal::NoSuchPlace));
 
     let sentence = "the field does not take this value";
@@ -343,7 +456,8 @@ fn every_refusal() {
     assert_eq!(bytes, edited);
 
     let refusal = Refusal::BadJournal { count: 2 };
-    let sentence = "the last entry of the journal (2 in all) is none of an edit of this section";
+    let sentence = "the journal's last entry (2 in all) is not there, or its byte count is none of 1, 2, 4, 6 and 12, or \
+                    its fill is not zero, or its bytes lie past the section";
     let mut short = Journal::of_words(journal.words().to_vec(), 2);
     is(&mut met, undo(&mut bytes, &mut short).unwrap_err(), refusal, sentence);
     // 3 bytes; fill that is not zero; bytes past the section's end
@@ -397,6 +511,67 @@ fn the_default_journal_grows() {
         assert_eq!(undo(&mut bytes, &mut journal), Ok(left));
     }
     assert_eq!(bytes, content_p());
+}
+
+/// A journal that was kept goes on as it was: it grows, also where words are over, and takes back what it had.
+#[test]
+fn a_kept_journal_grows() {
+    let before = content_p();
+    for over in 0..5 {
+        let mut bytes = before.clone();
+        let mut journal = Journal::bounded(2);
+        assert_eq!(edit(&mut bytes, &mut journal, &Change::FrameCount(1)), Ok(1));
+        assert_eq!(edit(&mut bytes, &mut journal, &Change::FrameCount(2)), Ok(2));
+        assert_eq!(edit(&mut bytes, &mut journal, &Change::FrameCount(3)), Err(Refusal::JournalFull { capacity: 2 }));
+        let kept = [journal.words(), &vec![7; over]].concat();
+        let mut journal = Journal::of_words(kept, journal.count());
+        for i in 2..20 {
+            assert_eq!(edit(&mut bytes, &mut journal, &Change::FrameCount(i as u16 + 1)), Ok(i + 1));
+        }
+        for left in (0..20).rev() {
+            assert_eq!(undo(&mut bytes, &mut journal), Ok(left));
+            assert_eq!(read(&bytes).unwrap().frame_count(), left as u16);
+        }
+        assert_eq!(bytes, before);
+    }
+}
+
+/// A count above the room: no entry is made up for those that are missing, and nothing is asked for.
+#[test]
+fn a_kept_journal_without_its_entries() {
+    for (words, count) in [(0, 1), (4, 1), (5, 2), (9, 2), (10, 1 << 60), (10, usize::MAX)] {
+        let mut bytes = content_p();
+        let mut journal = Journal::of_words(vec![0; words], count);
+        let refusal = Refusal::JournalFull { capacity: words / 5 };
+        assert_eq!(edit(&mut bytes, &mut journal, &Change::FrameCount(1)), Err(refusal));
+        assert_eq!(undo(&mut bytes, &mut journal), Err(Refusal::BadJournal { count }));
+        assert_eq!((bytes, journal.words(), journal.count()), (content_p(), &vec![0; words][..], count));
+    }
+}
+
+/// An entry of another section's journal is restored where its bytes lie within the section: nothing tells it apart.
+#[test]
+fn a_journal_of_another_section() {
+    let mut other = Section::new(content_p()).unwrap();
+    other.edit(&Change::Key(TARGET, 0, Key::Step(StepKey { frame: 0.0, value: 0 }))).unwrap();
+    let (_, journal) = other.into_parts();
+    let entry = journal.entries().next().unwrap().unwrap();
+    let mut section = Section::with_journal(datum_k(), journal);
+    assert_eq!(section.undo(), Ok(0));
+    let mut restored = datum_k();
+    restored[entry.offset()..][..entry.old().len()].copy_from_slice(entry.old());
+    assert_ne!(restored, datum_k());
+    assert_eq!(section.bytes(), restored);
+}
+
+/// A section is read if its record fits what the caller is ready to hold.
+#[test]
+fn a_section_read_within_a_bound() {
+    let section = Section::new(content_p()).unwrap();
+    assert_eq!(section.read_within(15, 1), section.read());
+    for (words, texts) in [(14, 1), (15, 0), (0, 0)] {
+        assert_eq!(section.read_within(words, texts), Err(Refusal::TablesTooShort { words: 15, texts: 1 }));
+    }
 }
 
 /// A key that lies on its own target, so that the edit changes the curve: it goes where the reader goes, and the undo back.

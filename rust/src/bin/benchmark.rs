@@ -3,13 +3,13 @@
 //!
 //! texts: the decoding beside Rust's own. sections: reading beside the reference's `BflanSections::parse`. records: writing
 //! beside the reference's `BflanSectionsRef::serialize`, in bytes of the section. edits: an edit beside a reading of the same
-//! section, and an undo.
+//! section, what stands in the field of an edit, and an undo.
 use std::hint::black_box;
 use std::time::{Duration, Instant};
 
 use compare::args::Args;
 use compare::bflan::file::BflanSections;
-use compare::change::{Change, NewKey};
+use compare::change::{Change, FIELD_NUMBERS, NewKey, field_answer};
 use compare::chars::{WORDS, char_of_len, damage, push, push_char};
 use compare::editor::Editor;
 use compare::journal::ENTRY_WORDS;
@@ -276,11 +276,15 @@ fn edits(budget: Duration) {
     println!(
         "Times in microseconds, of an undo in nanoseconds. \"measured\" is a read into empty tables, which is refused"
     );
-    println!("with what it needs. A ratio is the edit's time divided by the read's and by the measured one's.\n");
     println!(
-        "| one section | MB | read | measured | last key | ratios | key in the middle | ratios | frame count | ratios | undo |"
+        "with what it needs. A ratio is the edit's time divided by the read's and by the measured one's. \"field_at\""
     );
-    println!("|---|---|---|---|---|---|---|---|---|---|---|");
+    println!("asks what stands in the last key, and its ratio is to the edit of that key.\n");
+    println!(
+        "| one section | MB | read | measured | last key | ratios | key in the middle | ratios | frame count | ratios | \
+         field_at | ratio | undo |"
+    );
+    println!("|---|---|---|---|---|---|---|---|---|---|---|---|---|");
     let mut sections = speed::sections();
     sections.insert(0, ("content `P`", content_p()));
     sections.push(("one info of 255 extended data", speed::one_extended_info()));
@@ -301,8 +305,9 @@ fn edits(budget: Duration) {
         let mut journal = [0; ENTRY_WORDS];
         let mut cells = vec![format!("{:.1}", section.len() as f64 / 1e6)];
         cells.extend([read, measured].map(|time| format!("{:.3}", time * 1e6)));
-        let frame_count = Some(Change::FrameCount(7));
-        for change in [change_at(&contents, true), change_at(&contents, false), frame_count] {
+        let (last, frame_count) = (change_at(&contents, true), Some(Change::FrameCount(7)));
+        let mut times = Vec::new();
+        for change in [last, change_at(&contents, false), frame_count] {
             let Some(change) = change else {
                 cells.extend(["-".to_owned(), "-".to_owned()]);
                 continue;
@@ -312,6 +317,18 @@ fn edits(budget: Duration) {
             assert_eq!(answer, [0, 1, 0], "{name}: {change:?}");
             cells.push(format!("{:.3}", time * 1e6));
             cells.push(format!("{:.2}, {:.2}", time / read, time / measured));
+            times.push(time);
+        }
+        match last {
+            None => cells.extend(["-".to_owned(), "-".to_owned()]),
+            Some(change) => {
+                let mut shown = [0; FIELD_NUMBERS];
+                let time =
+                    best_call(budget, || proved::field_at(black_box(&section), &change.place(), black_box(&mut shown)));
+                assert_eq!(shown, field_answer(Some(change.values())), "{name}: {change:?}");
+                cells.push(format!("{:.3}", time * 1e6));
+                cells.push(format!("{:.2}", time / times[0]));
+            }
         }
         let undo = best_call(budget, || Proved.undo(black_box(&mut section), &mut journal, 1, &mut answer));
         assert_eq!(answer, [0, 0, 0]);

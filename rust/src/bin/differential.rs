@@ -5,7 +5,8 @@
 //! millions of longer ones. sections: reading with the reference's `BflanSections::parse`, on some millions of sections.
 //! records: writing with the reference's `BflanSectionsRef::serialize`, on some millions of records. edits: edits and undos
 //! with document 01's plain machine and the reference's writing and reading of its record, and as many calls on sections,
-//! journals and counts of any kind.
+//! journals and counts of any kind; behind each call, what stands at a place with the machine's record or with the
+//! reference's.
 use std::process::ExitCode;
 
 use compare::args::Args;
@@ -278,9 +279,9 @@ fn records(seed: u64, millions: u64) -> u64 {
     writing.differences
 }
 
-/// Edits and undos beside document 01.
+/// Edits, undos and what stands in a field beside document 01.
 fn changes(seed: u64, calls: u64) -> u64 {
-    println!("seed {seed}, {calls} calls beside the machine, and as many on any bytes");
+    println!("seed {seed}, {calls} calls beside the machine, and as many on any bytes; field_at behind each");
     let mut trials = Trials::new(&Proved, seed);
     trials.run(seed, calls);
     trials.shrink();

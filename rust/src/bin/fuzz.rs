@@ -13,13 +13,13 @@ use std::time::Instant;
 
 use compare::args::Args;
 use compare::calls;
-use compare::change::Call;
+use compare::change::{Call, FIELD_NUMBERS, Place};
 use compare::chars::damage;
 use compare::editor::Editor;
 use compare::journal::ENTRY_WORDS;
 use compare::layout::{Rules, TARGET_NUMBERS, walk};
 use compare::pages::{Access, Pages};
-use compare::proved::Proved;
+use compare::proved::{self, Proved};
 use compare::random::Random;
 use compare::record::LIMIT;
 use compare::sections::{Maker, READABLE, fixed_sections, large_sections, random_sections};
@@ -40,7 +40,7 @@ static SECTION: AtomicU64 = AtomicU64::new(0);
 static CALL: AtomicU64 = AtomicU64::new(0);
 
 /// The calls, as they are counted.
-const CALLS: [&str; 20] = [
+const CALLS: [&str; 26] = [
     "decoded_len",
     "decode_into",
     "decode_plain",
@@ -61,6 +61,12 @@ const CALLS: [&str; 20] = [
     "edit_hermite_key",
     "edit_value",
     "undo",
+    "field_frame_count",
+    "field_looping",
+    "field_layer",
+    "field_target",
+    "field_key",
+    "field_value",
 ];
 const READING: usize = 7;
 const FINDING: usize = 8;
@@ -68,6 +74,9 @@ const PARTING: usize = 9;
 const WRITING: usize = 10;
 const FIRST_EDIT: usize = 11;
 const UNDOING: usize = 19;
+const FIELD_FRAME_COUNT: usize = 20;
+const FIELD_LOOPING: usize = 21;
+const FIELD_LAYER: usize = 22;
 
 /// The answers that document 01 lists for a call.
 fn listed(call: usize) -> &'static [usize] {
@@ -76,6 +85,8 @@ fn listed(call: usize) -> &'static [usize] {
         FINDING => &[0, 1, 2, 3, 4, 5, 10],
         WRITING => &[0, 6, 7, 8, 9],
         UNDOING => &[0, 2, 13, 14],
+        FIELD_FRAME_COUNT | FIELD_LOOPING => &[0, 1, 2, 3, 4],
+        FIELD_LAYER.. => &[0, 1, 2, 3, 4, 10],
         _ => &[0, 1, 2, 3, 4, 10, 11, 12],
     }
 }
@@ -372,6 +383,7 @@ impl Run {
                         Proved.edit(bytes.given_mut(), words.given_mut(), count, change, answer.given_mut())
                     }
                     Call::Undo => raw::undo(bytes.given_mut(), words_in.given(), count, answer.given_mut()),
+                    Call::FieldAt(_) => unreachable!("no change"),
                 }
             });
             self.around(number);
@@ -389,6 +401,27 @@ impl Run {
             }
             self.must(number, now == wanted && journal_now == journal_wanted, "more was changed than a field");
             self.same(number, &mut first, said, (now, journal_now));
+        }
+    }
+
+    /// Asks what stands at a place.
+    fn field(&mut self, random: &mut Random, section: &[u8], place: &Place) {
+        let number = FIRST_EDIT + Call::FieldAt(*place).kind();
+        let mut first: First<()> = None;
+        for (ends, answer) in placings(random, FIELD_NUMBERS) {
+            self.bytes_in.place(section, ends & 1 != 0);
+            self.answer.place(&answer, ends & 2 != 0);
+            self.make(number, |run| {
+                let Run { bytes_in, answer, .. } = run;
+                proved::field_at(bytes_in.given(), place, answer.given_mut());
+            });
+            self.around(number);
+            let said = self.answered(number, &answer, FIELD_NUMBERS, first.as_ref());
+            let most = if matches!(place, Place::Key(_)) { 3 } else { 1 };
+            let formed =
+                said[0] != 0 || (1..=most).contains(&said[1]) && said[2 + said[1]..].iter().all(|&behind| behind == 0);
+            self.must(number, formed, "an answer of another form");
+            self.same(number, &mut first, said, ());
         }
     }
 
@@ -448,6 +481,10 @@ impl Run {
             let call =
                 if maker.random.below(4) == 0 { Call::Undo } else { Call::Edit(calls::change(maker, &contents)) };
             self.change(&mut maker.random, section, &journal, count, &call);
+        }
+        for _ in 0..3 {
+            let place = calls::change(maker, &contents).place();
+            self.field(&mut maker.random, section, &place);
         }
     }
 }
