@@ -6,7 +6,7 @@ use std::path::Path;
 use std::process::{Command, Stdio};
 
 use compare::calls::calls;
-use compare::change::{Call, Change, NewKey};
+use compare::change::{Call, FIELD_NUMBERS, Place};
 use compare::editor::{ByLayout, Editor};
 use compare::layout::{Rules, walk};
 use compare::sections::{Maker, content_p, random_sections};
@@ -16,20 +16,34 @@ use programs::{output, program};
 /// The words of the program's journal.
 const JOURNAL: usize = 5000;
 
+/// A place as the program is told it: the field's name and the place.
+fn shown(place: &Place) -> (&'static str, Vec<usize>) {
+    match *place {
+        Place::FrameCount => ("frames", vec![]),
+        Place::Looping => ("looping", vec![]),
+        Place::Layer(place) => ("layer", place.to_vec()),
+        Place::Target(place) => ("target", place.to_vec()),
+        Place::Key(place) => ("key", place.to_vec()),
+        Place::Value(place) => ("value", place.to_vec()),
+    }
+}
+
+/// The names of a key by how many numbers it has.
+const KEYS: [&str; 3] = ["constant", "step", "hermite"];
+
 /// A call as the program is told it: a name, the place and the new value.
 fn told(call: &Call) -> (&'static str, Vec<usize>, Vec<u32>) {
-    let Call::Edit(change) = *call else { return ("undo", vec![], vec![]) };
-    match change {
-        Change::FrameCount(value) => ("frames", vec![], vec![value]),
-        Change::Looping(value) => ("looping", vec![], vec![value]),
-        Change::Layer(place, value) => ("layer", place.to_vec(), vec![value]),
-        Change::Target(place, value) => ("target", place.to_vec(), vec![value]),
-        Change::Key(place, NewKey::Constant(value)) => ("constant", place.to_vec(), vec![value]),
-        Change::Key(place, NewKey::Step { frame, value }) => ("step", place.to_vec(), vec![frame, value]),
-        Change::Key(place, NewKey::Hermite { frame, value, slope }) => {
-            ("hermite", place.to_vec(), vec![frame, value, slope])
-        }
-        Change::Value(place, value) => ("value", place.to_vec(), vec![value]),
+    let Call::Edit(change) = call else { return ("undo", vec![], vec![]) };
+    let ((name, place), values) = (shown(&change.place()), change.values());
+    (if name == "key" { KEYS[values.len() - 1] } else { name }, place, values)
+}
+
+/// A refusal's number and values, as the program writes them.
+fn refused(answer: [usize; 3]) -> String {
+    match answer {
+        [number @ (10 | 11 | 13), ..] => format!("refused {number}"),
+        [3, offset, requested] => format!("refused 3 ({offset}, {requested})"),
+        [number, value, _] => format!("refused {number} ({value})"),
     }
 }
 
@@ -45,18 +59,13 @@ fn wanted(section: &[u8], calls: &[Call], starts: &[usize]) -> Result<Vec<u8>, S
             Call::FieldAt(_) => unreachable!("no change"),
         }
         if answer[0] != 0 {
-            let values = match answer {
-                [10 | 11 | 13, ..] => String::new(),
-                [3, offset, requested] => format!(" ({offset}, {requested})"),
-                [_, value, _] => format!(" ({value})"),
-            };
             let why = match answer {
                 [1, letters, _] => format!("{}\n", Refusal::NotPai1 { letters: (letters as u32).to_le_bytes() }),
                 [3, offset, requested] => format!("{}\n", Refusal::PastEnd { offset, requested }),
                 [4, start, _] => format!("{}\n", Refusal::NoZero { start }),
                 _ => String::new(),
             };
-            return Err(format!("refused {}{values} at argument {start}: {why}", answer[0]));
+            return Err(format!("{} at argument {start}: {why}", refused(answer)));
         }
         count = answer[1];
     }
@@ -192,4 +201,91 @@ fn the_journal_has_an_end() {
     let more: Vec<String> = thousand.iter().cloned().chain(["frames".to_owned(), "7".to_owned()]).collect();
     let said = String::from_utf8(output(&program, &more, &content_p())).unwrap();
     assert!(said.starts_with("refused 12 (1000) at argument 2001: "), "{said}");
+}
+
+/// The line that the program shows a field by: the arguments that put it there, with floats by their bits.
+fn line(place: &Place, values: &[usize]) -> String {
+    let (name, numbers) = shown(place);
+    let name = if name == "key" { KEYS[values.len() - 1] } else { name };
+    let floats = match name {
+        "step" => 1,
+        "constant" | "hermite" | "value" => values.len(),
+        _ => 0,
+    };
+    let place = numbers.iter().map(|number| format!(" {number}"));
+    let bits = values[..floats].iter().map(|bits| format!(" 0x{bits:08X}"));
+    let rest = values[floats..].iter().map(|value| format!(" {value}"));
+    format!("{name}{}\n", place.chain(bits).chain(rest).collect::<String>())
+}
+
+/// What the program must write of these places: a line for each; where one is refused, the lines before it, and how the
+/// refusal begins.
+fn wanted_of(section: &[u8], places: &[Place], starts: &[usize]) -> (String, Option<String>) {
+    let mut lines = String::new();
+    for (place, start) in places.iter().zip(starts) {
+        let mut answer = [0; FIELD_NUMBERS];
+        ByLayout.field_at(&mut section.to_vec(), place, &mut answer);
+        let [number, a, b, ..] = answer;
+        if number != 0 {
+            return (lines, Some(format!("{} at argument {start}: ", refused([number, a, b]))));
+        }
+        lines += &line(place, &answer[2..2 + answer[1]]);
+    }
+    (lines, None)
+}
+
+/// Places of sections of every kind are shown. What was shown, told to the program as changes, leaves a section that the
+/// writer wrote as it was.
+#[test]
+fn places_are_shown() {
+    let program = program("edit_section");
+    let mut maker = Maker::new(10);
+    let (mut number, mut lines, mut put_back, mut refused) = (0, 0, 0, std::collections::BTreeMap::new());
+    let mut look = |kind: &str, section: &[u8]| {
+        number += 1;
+        if number % 40 != 0 || section.len() > 65_536 {
+            return;
+        }
+        let Some(walked) = walk(section, &Rules::DOCUMENT, 1 << 20) else { return };
+        let mut places: Vec<Place> =
+            (0..1 + maker.few(8)).map(|_| compare::calls::change(&mut maker, &walked.contents).place()).collect();
+        // a number of more than 32 bits cannot be told
+        places.retain(|place| shown(place).1.iter().all(|&number| number <= u32::MAX as usize));
+        // what is turned down ends a run, so a share of them is made without
+        if number % 80 == 0 {
+            places.retain(|place| wanted_of(section, &[*place], &[2]).1.is_none());
+        }
+        if places.is_empty() {
+            return;
+        }
+        let (mut args, mut starts) = (vec!["show".to_owned()], Vec::new());
+        for place in &places {
+            let (name, numbers) = shown(place);
+            starts.push(1 + args.len());
+            args.push(name.to_owned());
+            args.extend(numbers.iter().map(|number| number.to_string()));
+        }
+        let written = String::from_utf8(output(&program, &args, section)).unwrap();
+        match wanted_of(section, &places, &starts) {
+            (wanted, None) => {
+                lines += places.len();
+                assert_eq!(written, wanted, "{args:?}");
+                // elsewhere looping and a target's number may stand there otherwise than they are read
+                if kind == "as the writer writes" {
+                    let changes: Vec<String> = written.split_whitespace().map(str::to_owned).collect();
+                    assert!(output(&program, &changes, section) == section, "{changes:?}");
+                    put_back += 1;
+                }
+            }
+            (wanted, Some(begins)) => {
+                *refused.entry(begins[..10].to_owned()).or_insert(0) += 1;
+                let refusal = written.strip_prefix(&wanted).unwrap_or_default();
+                let one_line = refusal.ends_with('\n') && refusal.lines().count() == 1;
+                assert!(refusal.starts_with(&begins) && one_line, "{args:?}: {begins}");
+            }
+        }
+    };
+    random_sections(&mut Maker::new(11), 40_000, &mut look);
+    println!("{lines} lines, {put_back} times put back, {refused:?}");
+    assert!(lines > 100 && put_back > 10 && refused.len() > 3, "{lines} lines, {put_back} put back, {refused:?}");
 }
