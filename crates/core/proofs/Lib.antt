@@ -3,6 +3,7 @@ pub mod Cursors
 pub mod Exercises
 pub mod Filling
 pub mod Floats
+pub mod HermiteRuns
 pub mod Numbers
 pub mod Outcomes
 pub mod Padding

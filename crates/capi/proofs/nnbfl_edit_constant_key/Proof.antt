@@ -1,3 +1,5 @@
+-- `nnbfl_edit_constant_key` meets its contract.
+-- Assumes nothing.
 use borrow.Author.Needs.{needs}
 use Rattle.capi.proofs.nnbfl_edit_constant_key.Statement.{statement}
 use Rattle.capi.proofs.nnbfl_edit_constant_key.Tie as tie

@@ -1,3 +1,5 @@
+-- `nnbfl_edit_frame_count` meets its contract.
+-- Assumes nothing.
 use borrow.Author.Needs.{needs}
 use Rattle.capi.proofs.nnbfl_edit_frame_count.Statement.{statement}
 use Rattle.capi.proofs.nnbfl_edit_frame_count.Tie as tie

@@ -1,3 +1,5 @@
+-- `nnbfl_edit_layer` meets its contract.
+-- Assumes nothing.
 use borrow.Author.Needs.{needs}
 use Rattle.capi.proofs.nnbfl_edit_layer.Statement.{statement}
 use Rattle.capi.proofs.nnbfl_edit_layer.Tie as tie

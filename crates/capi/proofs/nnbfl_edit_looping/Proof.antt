@@ -1,3 +1,5 @@
+-- `nnbfl_edit_looping` meets its contract.
+-- Assumes nothing.
 use borrow.Author.Needs.{needs}
 use Rattle.capi.proofs.nnbfl_edit_looping.Statement.{statement}
 use Rattle.capi.proofs.nnbfl_edit_looping.Tie as tie

@@ -1,3 +1,5 @@
+-- `nnbfl_edit_target` meets its contract.
+-- Assumes nothing.
 use borrow.Author.Needs.{needs}
 use Rattle.capi.proofs.nnbfl_edit_target.Statement.{statement}
 use Rattle.capi.proofs.nnbfl_edit_target.Tie as tie

@@ -1,3 +1,5 @@
+-- `nnbfl_edit_value` meets its contract.
+-- Assumes nothing.
 use borrow.Author.Needs.{needs}
 use Rattle.capi.proofs.nnbfl_edit_value.Statement.{statement}
 use Rattle.capi.proofs.nnbfl_edit_value.Tie as tie

@@ -1,3 +1,5 @@
+-- `answer::of_field` meets its contract.
+-- Assumes nothing.
 use borrow.Author.Needs.{needs}
 use Rattle.capi.proofs.answer.of_field.Statement.{statement}
 use Rattle.capi.proofs.answer.of_field.Tie as tie

@@ -1,3 +1,5 @@
+-- `answer::of_key` meets its contract.
+-- Assumes nothing.
 use borrow.Author.Needs.{needs}
 use Rattle.capi.proofs.answer.of_key.Statement.{statement}
 use Rattle.capi.proofs.answer.of_key.Tie as tie

@@ -1,3 +1,5 @@
+-- `answer::of_value` meets its contract.
+-- Assumes nothing.
 use borrow.Author.Needs.{needs}
 use Rattle.capi.proofs.answer.of_value.Statement.{statement}
 use Rattle.capi.proofs.answer.of_value.Tie as tie

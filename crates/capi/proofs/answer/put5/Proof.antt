@@ -1,3 +1,5 @@
+-- `answer::put5` meets its contract.
+-- Assumes nothing.
 use borrow.Author.Needs.{needs}
 use Rattle.capi.proofs.answer.put5.Statement.{statement}
 use Rattle.capi.proofs.answer.put5.Tie as tie

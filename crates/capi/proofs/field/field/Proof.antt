@@ -1,3 +1,5 @@
+-- `field::field` meets its contract.
+-- Assumes nothing.
 use borrow.Author.Needs.{needs}
 use Rattle.capi.proofs.field.field.Statement.{statement}
 use Rattle.capi.proofs.field.field.Tie as tie

@@ -1,3 +1,5 @@
+-- `edit::change_at` meets its contract.
+-- Assumes nothing.
 use borrow.Author.Needs.{needs}
 use Rattle.edit.proofs.edit.change_at.Statement.{statement}
 use Rattle.edit.proofs.edit.change_at.Tie as tie

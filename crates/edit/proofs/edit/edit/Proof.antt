@@ -1,3 +1,5 @@
+-- `edit::edit` meets its contract.
+-- Assumes nothing.
 use borrow.Author.Needs.{needs}
 use Rattle.edit.proofs.edit.edit.Statement.{statement}
 use Rattle.edit.proofs.edit.edit.Tie as tie

@@ -1,3 +1,5 @@
+-- `edit::put_key` meets its contract.
+-- Assumes nothing.
 use borrow.Author.Needs.{needs}
 use Rattle.edit.proofs.edit.put_key.Statement.{statement}
 use Rattle.edit.proofs.edit.put_key.Tie as tie

@@ -1,3 +1,5 @@
+-- `edit::write_field` meets its contract.
+-- Assumes nothing.
 use borrow.Author.Needs.{needs}
 use Rattle.edit.proofs.edit.write_field.Statement.{statement}
 use Rattle.edit.proofs.edit.write_field.Tie as tie

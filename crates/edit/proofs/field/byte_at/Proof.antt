@@ -1,3 +1,5 @@
+-- `field::byte_at` meets its contract.
+-- Assumes nothing.
 use borrow.Author.Needs.{needs}
 use Rattle.edit.proofs.field.byte_at.Statement.{statement}
 use Rattle.edit.proofs.field.byte_at.Tie as tie

@@ -1,3 +1,5 @@
+-- `field::field_at` meets its contract.
+-- Assumes nothing.
 use borrow.Author.Needs.{needs}
 use Rattle.edit.proofs.field.field_at.Statement.{statement}
 use Rattle.edit.proofs.field.field_at.Tie as tie

@@ -1,3 +1,5 @@
+-- `field::float_at` meets its contract.
+-- Assumes nothing.
 use borrow.Author.Needs.{needs}
 use Rattle.edit.proofs.field.float_at.Statement.{statement}
 use Rattle.edit.proofs.field.float_at.Tie as tie

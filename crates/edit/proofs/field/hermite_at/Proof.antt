@@ -1,3 +1,5 @@
+-- `field::hermite_at` meets its contract.
+-- Assumes nothing.
 use borrow.Author.Needs.{needs}
 use Rattle.edit.proofs.field.hermite_at.Statement.{statement}
 use Rattle.edit.proofs.field.hermite_at.Tie as tie

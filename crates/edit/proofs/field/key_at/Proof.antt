@@ -1,3 +1,5 @@
+-- `field::key_at` meets its contract.
+-- Assumes nothing.
 use borrow.Author.Needs.{needs}
 use Rattle.edit.proofs.field.key_at.Statement.{statement}
 use Rattle.edit.proofs.field.key_at.Tie as tie

@@ -1,3 +1,5 @@
+-- `field::value_at` meets its contract.
+-- Assumes nothing.
 use borrow.Author.Needs.{needs}
 use Rattle.edit.proofs.field.value_at.Statement.{statement}
 use Rattle.edit.proofs.field.value_at.Tie as tie
