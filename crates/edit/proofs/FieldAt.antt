@@ -1,19 +1,23 @@
 -- What stands at a place: the values that are read there as the field's case, and the answer by where the field is.
 -- Assumes nothing.
-use Prim.Native.Nat.{ℕ, zero, suc, _+_, _≤_}
+use Prim.Native.Nat.{ℕ, zero, suc, _+_, _<_, _≤_}
 use mathlib.Core.Path.{_≡_, refl, ap, sym, _∙_}
 use mathlib.Core.Bool.{Bool, true, false}
 use mathlib.Core.List.{List, [], _∷_}
 use native.Mathlib.Omega.{arith}
-use borrow.Author.Tests.{le-leb}
+use borrow.Author.Tests.{le-leb, lt-ltb, le-ltb}
+use lib.Dec.{ltb}
 use lib.ListN.{length, getD}
+use Rattle.core.specs.Choice.{pick}
 use Rattle.core.specs.Float.{floatOf, hermiteOf, patternsAt}
 use Rattle.core.specs.Number.{get}
 use Rattle.core.specs.declared.float.Binary32.{Binary32}
 use Rattle.core.specs.declared.float.Hermite.{Hermite as HermiteForm}
 use Rattle.core.proofs.Numbers.{get-zero, get-suc}
 use Rattle.bflan.specs.FieldValues.{foundOf, numbersIn, asRead}
-use Rattle.bflan.specs.Letters.{targetOf}
+use Rattle.bflan.specs.Letters.{kindOf, targetUnder, targetOf}
+use Rattle.bflan.specs.declared.letters.AnimInfoType.{AnimInfoType}
+use Rattle.bflan.specs.declared.letters.AnimInfoType.the-variants.{Standard}
 use Rattle.bflan.specs.Limits.{limit, Readable}
 use Rattle.bflan.specs.Locating.{ofSpot, locatingIn, locating}
 use Rattle.bflan.specs.Places.{Spot, nowhere, spot, widths, total, locate}
@@ -91,6 +95,18 @@ module _ (s : List ℕ) (at : ℕ) where
   pub key-at : {f : Field} {curve : ℕ} {k : NewKey} → f ≡ key curve → k ≡ keyOf curve (numbersIn (keyWidths curve) s at) → Key k ≡ readAt s at f
   unfolding readAt fieldValue asRead widths
   key-at e ek = rw (e, ek)
+
+-- ---- a target's number, by what its letters say
+
+pub number-by : (l raw : ℕ) {k : AnimInfoType} → kindOf l ≡ k → targetUnder k raw ≡ targetOf l raw
+unfolding targetOf
+number-by l raw e = ap (λ (k : AnimInfoType). targetUnder k raw) (sym e)
+
+pub number-below : (l raw : ℕ) {n : ℕ} → kindOf l ≡ Standard n → raw < n → raw ≡ targetOf l raw
+number-below l raw {n} e h = let p : pick (ltb raw n) raw 0 ≡ raw = rw (lt-ltb raw n h) in sym p ∙ number-by l raw e
+
+pub number-above : (l raw : ℕ) {n : ℕ} → kindOf l ≡ Standard n → n ≤ raw → 0 ≡ targetOf l raw
+number-above l raw {n} e h = let p : pick (ltb raw n) raw 0 ≡ 0 = rw (le-ltb raw n h) in sym p ∙ number-by l raw e
 
 -- ---- the answer, by where the field is
 

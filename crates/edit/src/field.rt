@@ -5,6 +5,7 @@ ghost use lib.ListN.{length};
 ghost use Rattle.core.specs.Float.{floatOf, hermiteOf, patternsAt};
 ghost use Rattle.core.specs.Number.{get};
 ghost use Rattle.bflan.specs.FieldValues.{numbersIn};
+ghost use Rattle.bflan.specs.Letters.{targetOf};
 ghost use Rattle.bflan.specs.Places.{widths, total};
 ghost use Rattle.bflan.specs.Reading.{flagOf};
 ghost use Rattle.bflan.specs.Record.{keyWidths};
@@ -12,7 +13,8 @@ ghost use Rattle.edit.specs.FieldAt.{keyOf, readAt, fieldAt};
 use crate::journal::read_value;
 use crate::key::NewKey;
 use bflan::fault::Fault;
-use bflan::letters::resolve;
+use bflan::letters::AnimInfoType;
+use bflan::letters::kind_of;
 use bflan::place::Field;
 use bflan::place::Located;
 use bflan::place::Place;
@@ -101,6 +103,23 @@ fn flag_of(b: u8) -> u32
     }
 }
 
+// A target's number as the record has it. (bflan's `resolve` answers the same. Called here too, it would no longer be compiled into the reading of
+// targets, which takes 3 % longer then.)
+fn number_of(letters: u32, raw: u8) -> u8
+    ensures { λ r. ⌜ r ≡ targetOf letters raw ⌝ }
+{
+    match kind_of(letters) {
+        AnimInfoType::Standard(count) => {
+            if raw < count {
+                return raw;
+            }
+            0
+        }
+        AnimInfoType::ExtendedUserData => 255,
+        AnimInfoType::Invalid => 255,
+    }
+}
+
 fn value_at(s: &[u8], at: usize, f: Field) -> FieldValue
     requires { ⌜ at + total (widths f) ≤ length (now s) ⌝ }
     ensures { λ r. ⌜ r ≡ readAt (now (s .entry)) at f ⌝ }
@@ -109,7 +128,7 @@ fn value_at(s: &[u8], at: usize, f: Field) -> FieldValue
         Field::FrameCount => FieldValue::FrameCount(read_value(read_u16(s, at))),
         Field::Looping => FieldValue::Looping(flag_of(byte_at(s, at))),
         Field::Layer => FieldValue::Layer(byte_at(s, at) as u32),
-        Field::Target(letters) => FieldValue::Target(resolve(letters, byte_at(s, at)) as u32),
+        Field::Target(letters) => FieldValue::Target(number_of(letters, byte_at(s, at)) as u32),
         Field::Key(curve) => FieldValue::Key(key_at(s, at, curve)),
         Field::Value => FieldValue::Value(read_value(read_u32(s, at))),
     }

@@ -44,8 +44,8 @@ enum-known-f c = search needs
 byte-at-requires-3 : tie.Need-byte-at-requires-3
 byte-at-requires-3 c κs = field-room _ (c .before .f .given .1) (unfold widths total in refl) (c .before .before .before .before .pre)
 
-resolve-requires : tie.Need-resolve-requires
-resolve-requires c κs = search needs
+number-of-requires : tie.Need-number-of-requires
+number-of-requires c κs = search needs
 
 cast-t15 : tie.Need-cast-t15
 cast-t15 c = search needs
@@ -75,7 +75,7 @@ returns-3 : tie.Need-returns-3
 returns-3 c = layer-at _ _ (c .before .enum-told3 .given .1) (c .byte-at2 .ensures)
 
 returns-4 : tie.Need-returns-4
-returns-4 c = number-at _ _ (c .before .before .before .f .given .1) (c .resolve .ensures ∙ ap (targetOf _) (c .before .byte-at3 .ensures))
+returns-4 c = number-at _ _ (c .before .before .before .f .given .1) (c .number-of .ensures ∙ ap (targetOf _) (c .before .byte-at3 .ensures))
 
 returns-5 : tie.Need-returns-5
 returns-5 c = key-at _ _ (c .before .before .f2 .given .1) (c .key-at .ensures)
@@ -98,7 +98,7 @@ value-at-spec =
     cast-t12
     enum-known-f
     byte-at-requires-3
-    resolve-requires
+    number-of-requires
     cast-t15
     enum-known-f-2
     key-at-requires
