@@ -11,16 +11,19 @@ use lib.ListN.{length, getD}
 use Rattle.core.specs.Choice.{pick}
 use Rattle.core.specs.Float.{floatOf, hermiteOf, patternsAt}
 use Rattle.core.specs.Number.{get}
+use Rattle.core.specs.Outcome.{Outcome, accepted}
 use Rattle.core.specs.declared.float.Binary32.{Binary32}
 use Rattle.core.specs.declared.float.Hermite.{Hermite as HermiteForm}
-use Rattle.core.proofs.Numbers.{get-zero, get-suc}
-use Rattle.bflan.specs.FieldValues.{foundOf, numbersIn, asRead}
+use Rattle.core.proofs.Floats.{pattern-back, patterns-back}
+use Rattle.core.proofs.Numbers.{Bytes, get-lt, get-zero, get-suc}
+use Rattle.bflan.specs.Answer.{noPlace}
+use Rattle.bflan.specs.FieldValues.{foundOf, numbersIn, asRead, valuesAt}
 use Rattle.bflan.specs.Letters.{kindOf, targetUnder, targetOf}
 use Rattle.bflan.specs.declared.letters.AnimInfoType.{AnimInfoType}
 use Rattle.bflan.specs.declared.letters.AnimInfoType.the-variants.{Standard}
 use Rattle.bflan.specs.Limits.{limit, Readable}
 use Rattle.bflan.specs.Locating.{ofSpot, locatingIn, locating}
-use Rattle.bflan.specs.Places.{Spot, nowhere, spot, widths, total, locate}
+use Rattle.bflan.specs.Places.{Spot, nowhere, spot, Found, missing, found, fieldOf, widths, total, locate}
 use Rattle.bflan.specs.Reader.{ok, Item}
 use Rattle.bflan.specs.Reading.{flagOf, section}
 use Rattle.bflan.specs.Record.{PaneAnimInfo, keyWidths, words, texts}
@@ -34,7 +37,8 @@ use Rattle.edit.specs.declared.field.FieldAnswer.the-variants.{Is}
 use Rattle.edit.specs.declared.field.FieldValue.the-variants.{FrameCount, Looping, Layer, Target, Key, Value}
 use Rattle.edit.specs.declared.key.NewKey.{NewKey}
 use Rattle.edit.specs.declared.key.NewKey.the-variants.{Constant, Step, Hermite}
-use Rattle.edit.specs.FieldAt.{keyOf, fieldValue, readAt, atLocated, fieldAt, atFound, fieldIn}
+use Rattle.edit.specs.Editing.{keyWords}
+use Rattle.edit.specs.FieldAt.{keyOf, fieldValue, readAt, atLocated, fieldAt, atFound, fieldIn, ofValue, ofField}
 
 -- ---- what is read
 
@@ -129,3 +133,40 @@ module _ (s : List ℕ) (short : length s ≤ limit) (is : List Item) (end : ℕ
       go : (x : Spot) → locate s p ≡ x → atLocated s (ofSpot x) ≡ atFound r p (foundOf x)
       go nowhere e = refl
       go (spot at f) e = ap (λ (vs : List ℕ). Is (fieldValue f vs)) (sym (located-values s is end reads r readable ew ex p at f e))
+
+-- ---- and its numbers: the record's values there, bit for bit
+
+module _ (s : List ℕ) (bytes : Bytes s) (at : ℕ) where
+  key-bits : (c : ℕ) → keyWords (keyOf c (numbersIn (keyWidths c) s at)) ≡ numbersIn (keyWidths c) s at
+  unfolding keyWords keyOf numbersIn keyWidths
+  key-bits zero = rw (pattern-back (get 4 s at) (get-lt 4 s at bytes))
+  key-bits (suc zero) = rw (pattern-back (get 4 s at) (get-lt 4 s at bytes))
+  key-bits (suc (suc c)) =
+      rw (patterns-back (get 4 s at, get 4 s (at + 4), get 4 s (at + 4 + 4))
+      (record { frame = get-lt 4 s at bytes; value = get-lt 4 s (at + 4) bytes; slope = get-lt 4 s (at + 4 + 4) bytes }))
+
+  value-bits : (f : Field) → ofValue (readAt s at f) ≡ asRead f (numbersIn (widths f) s at)
+  unfolding readAt fieldValue ofValue asRead numbersIn widths
+  value-bits frames = refl
+  value-bits looping = refl
+  value-bits layer = refl
+  value-bits (number letters) = refl
+  value-bits (key c) = key-bits c
+  value-bits value = refl
+
+abbrev pub numbersFor : PaneAnimInfo → Place → Found → Outcome
+numbersFor r p missing = noPlace
+numbersFor r p (found f) = accepted (valuesAt r p)
+
+module _ (s : List ℕ) (bytes : Bytes s) (short : length s ≤ limit) (is : List Item) (end : ℕ) (reads : section s 0 ≡ ok is end)
+    (r : PaneAnimInfo) (readable : Readable r) (ew : words r ≡ wordsOf s is) (ex : texts r ≡ textsOf s is) (p : Place) where
+  pub field-numbers : ofField (fieldAt s p) ≡ numbersFor r p (fieldOf r p)
+  unfolding ofSpot foundOf atLocated ofField
+  field-numbers =
+      ap ofField (by-spot s short is end reads r readable ew ex p)
+      ∙ go (locate s p) refl
+      ∙ ap (numbersFor r p) (located-field s is end reads r readable ew ex p)
+    where
+      go : (x : Spot) → locate s p ≡ x → ofField (atLocated s (ofSpot x)) ≡ numbersFor r p (foundOf x)
+      go nowhere e = refl
+      go (spot at f) e = ap accepted (value-bits s bytes at f ∙ sym (located-values s is end reads r readable ew ex p at f e))
