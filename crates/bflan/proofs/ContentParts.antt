@@ -24,7 +24,7 @@ use Rattle.bflan.specs.declared.tally.Tally.{Tally}
 use Rattle.bflan.specs.Reader.{Res, ok, stop, andThen, _>>=_, ret, Item, word, text, fixedText, numbers, visit}
 use Rattle.bflan.specs.Reading.{info, typeOf, infoTable, content}
 use Rattle.bflan.specs.Walk.{shownAt, moved, named, run}
-use Rattle.bflan.proofs.Emits.{sought-on, sought-past, sought-there, sought-over, run-put2, run-named}
+use Rattle.bflan.proofs.Emits.{sought-on, sought-past, sought-there, run-put2, run-named}
 use Rattle.bflan.proofs.KeyRuns.{num-there, num-to, num-short, numbers-run}
 use Rattle.bflan.proofs.Rows.{rowThen, Row}
 use Rattle.bflan.proofs.Walks.{before, before-before, put-before}

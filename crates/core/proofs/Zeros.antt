@@ -215,35 +215,6 @@ fixed-text n s at len next e = go (leb (at + min n 1) (length s)) refl e
         record { starts = i; text = sym a; within = omega arith; field = omega arith; fits = omega arith }
     go false q e = let z : _≡_ {A = ℕ} 0 1 = cc in absurd (omega arith)
 
--- a field that holds the text t and then nothing, or a zero
-pub fixed-there : (n : ℕ) (s : List ℕ) (at : ℕ) (t z : List ℕ) → at + min n 1 ≤ length s → take n (drop at s) ≡ t ++ z → beforeZero t ≡ length t → beforeZero z ≡ 0
-    → fixedOf n s at ≡ Text (length t) (at + min n (length s - at))
-unfolding fixedOf
-fixed-there n s at t z h e f g =
-    let b : beforeZero (take n (drop at s)) ≡ length t = ap beforeZero e ∙ before-free t z f ∙ rw (g, add-zero) in
-    let l : length (take n (drop at s)) ≡ min n (length s - at) = simp (length-take, length-drop) in
-    rw (le-leb (at + min n 1) (length s) h, b, l)
-
--- a field that is refused: nothing of the slice is left for it
-pub fixed-past : (n : ℕ) (s : List ℕ) (at o m : ℕ) → fixedOf n s at ≡ Past o m → (length s < at + min n 1) × (o ≡ at) × (m ≡ n)
-unfolding fixedOf
-fixed-past n s at o m e = go (leb (at + min n 1) (length s)) refl e
-  where
-    go : (t : Bool) → leb (at + min n 1) (length s) ≡ t
-        → pick t (Text (beforeZero (take n (drop at s))) (at + length (take n (drop at s)))) (Past at n) ≡ Past o m
-        → (length s < at + min n 1) × (o ≡ at) × (m ≡ n)
-    go true q e = let z : _≡_ {A = ℕ} 0 1 = cc in absurd (omega arith)
-    go false q e = (leb-false _ _ q, cc, cc)
-
--- and it is never refused for want of a zero
-pub fixed-ends : (n : ℕ) (s : List ℕ) (at a : ℕ) → fixedOf n s at ≡ Unended a → ⊥
-unfolding fixedOf
-fixed-ends n s at a e = go (leb (at + min n 1) (length s)) e
-  where
-    go : (t : Bool) → pick t (Text (beforeZero (take n (drop at s))) (at + length (take n (drop at s)))) (Past at n) ≡ Unended a → ⊥
-    go true e = let z : _≡_ {A = ℕ} 0 1 = cc in omega arith
-    go false e = let z : _≡_ {A = ℕ} 0 1 = cc in omega arith
-
 -- a text that ends at a zero: the zero lies within the slice, and the next position after it
 pub record Ended (s : List ℕ) (at len next : ℕ) : Type 0 where
   pub text : len ≡ beforeZero (drop at s)

@@ -50,7 +50,7 @@ fn clear_blocks(text: &[u8], from: usize, size: usize) -> usize
 }
 
 // Which half of the `2 * n` bytes from `at` on has the first zero: where it starts. Nothing branches on the answer: where a name ends is nothing
-// that a processor could foresee.
+// that a processor could foresee. (Where the zero is in that half is left open: `zero_in` halves until one byte is left.)
 fn half(text: &[u8], at: usize, n: usize) -> usize
     requires { ⌜ (at + 2 * n ≤ length (now text)) × (at ≤ beforeZero (now text)) × (beforeZero (now text) < at + 2 * n) ⌝ }
     ensures { λ r. ⌜ (r ≤ beforeZero (now (text .entry))) × (beforeZero (now (text .entry)) < r + n) × (r + n ≤ length (now (text .entry))) ⌝ }
@@ -75,7 +75,7 @@ fn eight_if(test: bool) -> usize
 }
 
 // Where the 8 of the 32 bytes from `at` on start that have the first zero. The blocks are tested side by side and those before it added up,
-// again with no branch.
+// again with no branch. (Where the zero is in them is left open: `zero_in` finds it.)
 fn zero_block(text: &[u8], at: usize) -> usize
     requires { ⌜ (at + 32 ≤ length (now text)) × (at ≤ beforeZero (now text)) × (beforeZero (now text) < at + 32) ⌝ }
     ensures { λ r. ⌜ (r ≤ beforeZero (now (text .entry))) × (beforeZero (now (text .entry)) < r + 8) × (r + 8 ≤ length (now (text .entry))) ⌝ }

@@ -174,7 +174,8 @@ fn at_least_one(n: usize) -> usize
     if n == 0 { 1 } else { n }
 }
 
-// Byte by byte, until `stop` is reached or an ill-formed subpart is met. `i` is where the character starts that `j` stands in.
+// Byte by byte, until `stop` is reached or an ill-formed subpart is met. `i` is where the character starts that `j` stands in. How
+// near to `stop` it comes is left open: a character that `stop` cuts is left to the next run.
 fn walk(s: &[u8], from: usize, stop: usize, classes: &[u8; 256], rows: &[u64; 16]) -> Run
     requires { ⌜ (from ≤ stop) × (stop ≤ length (now s)) × Classes (now classes) × Rows (now rows) ⌝ }
     ensures { λ r. ⌜ (from ≤ r .end) × (r .end ≤ length (now (s .entry)))
