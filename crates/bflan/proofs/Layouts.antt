@@ -13,11 +13,12 @@ use Rattle.core.specs.Choice.{pick}
 use Rattle.core.specs.Fill.{paddingOf}
 use Rattle.core.specs.Number.{get}
 use Rattle.core.proofs.Numbers.{length-le, val-le}
-use Rattle.bflan.specs.Layout.{Layout, nothing, number, bytes, _⨾_, size, written, zeros, row, parts, table, ended, tableFrom, userLay, contentLay, namesEnd, contentTable, sectionSize, sectionLay}
-use Rattle.bflan.specs.Places.{total}
+use Rattle.bflan.specs.Layout.{Layout, nothing, number, bytes, _⨾_, size, written, zeros, row, parts, table, ended}
+use Rattle.bflan.specs.pai1.Layout.{tableFrom, userLay, contentLay, namesEnd, contentTable, sectionSize, sectionLay}
+use Rattle.bflan.specs.pai1.Places.{total}
 use Rattle.bflan.specs.Reader.{ok, num, numbers}
-use Rattle.bflan.specs.Record.{PaneAnimInfo}
-use Rattle.bflan.proofs.KeyRuns.{num-there}
+use Rattle.bflan.specs.pai1.Record.{PaneAnimInfo}
+use Rattle.bflan.proofs.reader.KeyRuns.{num-there}
 
 pub size-written : (l : Layout) → length (written l) ≡ size l
 unfolding size written

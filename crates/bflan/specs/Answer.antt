@@ -18,9 +18,9 @@ use Rattle.bflan.specs.declared.read.ReadAnswer.the-variants.{Accepted, 
 use Rattle.bflan.specs.declared.find.FindAnswer.{FindAnswer}
 use Rattle.bflan.specs.declared.find.FindAnswer.the-variants.{Found, Refused as FindRefused, TooLong as FindTooLong, NoSuchText, ScratchTooShort}
 use Rattle.bflan.specs.Limits.{limit}
-use Rattle.bflan.specs.Reader.{Res, ok, stop, Item, word, text}
-use Rattle.bflan.specs.Reading.{section}
-use Rattle.bflan.specs.Walk.{wordsOf, textsOf}
+use Rattle.bflan.specs.Reader.{Res, ok, stop, Item}
+use Rattle.bflan.specs.pai1.Reading.{section}
+use Rattle.bflan.specs.Items.{wordsOf, textsOf, textsIn}
 
 -- ---- numbers and values
 
@@ -70,12 +70,6 @@ unfoldable pub reading : List ℕ → List ℕ → List ℕ → Outcome × List 
 reading s w x = pick (leb (length s) limit) (filled s w x (section s 0)) (tooLong (length s), w, x)
 
 -- ---- finding a text: the answer, and the scratch
-
--- the texts' starts and lengths, in the record's order
-unfoldable pub textsIn : List Item → List (ℕ × ℕ)
-textsIn [] = []
-textsIn (word v ∷ is) = textsIn is
-textsIn (text a n ∷ is) = (a, n) ∷ textsIn is
 
 -- a text of these bytes that starts at a: where it is well-formed it is shown where it stands
 unfoldable pub shown : ℕ → List ℕ → List ℕ → Outcome × List ℕ

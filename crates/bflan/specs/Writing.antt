@@ -10,10 +10,12 @@ use Rattle.core.specs.Outcome.{Outcome, accepted}
 use Rattle.bflan.specs.declared.write.WriteAnswer.{WriteAnswer}
 use Rattle.bflan.specs.declared.write.WriteAnswer.the-variants.{Written, BadWord, BadText, OverLimit, OutputTooShort}
 use Rattle.bflan.specs.Answer.{refused}
-use Rattle.bflan.specs.Judge.{Judged, fine, badWord, badText, section}
-use Rattle.bflan.specs.Layout.{size, written, sectionLay}
+use Rattle.bflan.specs.Judge.{Judged, fine, badWord, badText}
+use Rattle.bflan.specs.pai1.Judge.{section}
+use Rattle.bflan.specs.Layout.{size, written}
+use Rattle.bflan.specs.pai1.Layout.{sectionLay}
 use Rattle.bflan.specs.Limits.{limit}
-use Rattle.bflan.specs.Record.{PaneAnimInfo}
+use Rattle.bflan.specs.pai1.Record.{PaneAnimInfo}
 
 -- ---- numbers and values
 
@@ -38,15 +40,15 @@ ofWriting (OutputTooShort len) = outputShort len
 
 -- ---- the answer, and the output
 
-unfoldable pub stored : List ℕ → ℕ → List ℕ → Outcome × List ℕ
-stored out len bytes =
+unfoldable pub intoOutput : List ℕ → ℕ → List ℕ → Outcome × List ℕ
+intoOutput out len bytes =
     pick (leb len limit) (pick (leb len (length out)) (accepted (len ∷ []), sets out 0 bytes) (outputShort len, out))
     (overLimit, out)
 
 unfoldable pub judged : List ℕ → Judged PaneAnimInfo → Outcome × List ℕ
 judged out (badWord index) = (badWordAt index, out)
 judged out (badText index) = (badTextAt index, out)
-judged out (fine r words texts) = stored out (size (sectionLay r)) (written (sectionLay r))
+judged out (fine r words texts) = intoOutput out (size (sectionLay r)) (written (sectionLay r))
 
 unfoldable pub writing : List ℕ → List ℕ → List ℕ → Outcome × List ℕ
 writing words texts out = judged out (section words texts 0 0)

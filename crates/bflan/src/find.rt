@@ -7,7 +7,7 @@ ghost use Rattle.bflan.specs.Answer.{ofFinding, finding, shown, textPart
 use crate::fault::Fault;
 use crate::read::LIMIT;
 use crate::read::measure;
-use crate::tally::Walk;
+use crate::reader::tally::Walk;
 use core::part::part;
 use core::utf8::decode_into;
 use core::utf8::decoded_len;
@@ -50,8 +50,8 @@ pub fn find_text(section: &[u8], text: usize, scratch: &mut [u8]) -> FindAnswer
         return FindAnswer::TooLong(size);
     }
     match measure(section, text) {
-        Walk::No(f) => FindAnswer::Refused(f),
-        Walk::On(t, _p) => {
+        Walk::Stopped(f) => FindAnswer::Refused(f),
+        Walk::Went(t, _p) => {
             let texts = t.texts;
             if texts <= text {
                 return FindAnswer::NoSuchText;

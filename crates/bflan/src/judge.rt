@@ -2,19 +2,22 @@
 ghost use mathlib.Core.Path.{_≡_};
 ghost use Prim.Native.Nat.{ℕ, _+_, _*_, _<_};
 ghost use lib.ListN.{length};
-ghost use Rattle.bflan.specs.Judge.{ends, section};
-ghost use Rattle.bflan.specs.Layout.{size, parts, contentLay, sectionLay};
-ghost use Rattle.bflan.specs.Measure.{measured};
-ghost use Rattle.bflan.specs.MeasureParts.{filledUp, ending, headed};
-ghost use Rattle.bflan.specs.Record.{PaneAnimInfo};
-ghost use Rattle.bflan.specs.Walk.{sat};
+ghost use Rattle.bflan.specs.Judge.{ends};
+ghost use Rattle.bflan.specs.pai1.Judge.{section};
+ghost use Rattle.bflan.specs.Layout.{size, parts};
+ghost use Rattle.bflan.specs.pai1.Layout.{contentLay, sectionLay};
+ghost use Rattle.bflan.specs.inner.Measure.{verdictOf};
+ghost use Rattle.bflan.specs.inner.Measure.{filledUp};
+ghost use Rattle.bflan.specs.inner.JudgeParts.{contentsAndEnd, afterHead};
+ghost use Rattle.bflan.specs.pai1.Record.{PaneAnimInfo};
+ghost use Rattle.bflan.specs.inner.Walk.{sat};
 use crate::judge::content::contents;
 use crate::judge::size::filled_up;
 use crate::judge::size::grown;
 use crate::judge::text::textures;
 use crate::judge::word::below;
 use crate::judge::word::word_of;
-use crate::tally::add;
+use crate::reader::tally::add;
 
 mod content;
 mod datum;
@@ -43,7 +46,7 @@ pub enum Verdict {
 
 // That no word and then no text byte is over.
 fn ends(words: &[u32], texts: &[u8], i: usize, j: usize) -> Verdict
-    ensures { λ r. ⌜ r ≡ measured (λ z. 0) (ends (now (words .entry)) (now (texts .entry)) i j) ⌝ }
+    ensures { λ r. ⌜ r ≡ verdictOf (λ z. 0) (ends (now (words .entry)) (now (texts .entry)) i j) ⌝ }
 {
     if i < words.len() {
         return Verdict::BadWord(i);
@@ -61,7 +64,7 @@ fn ends(words: &[u32], texts: &[u8], i: usize, j: usize) -> Verdict
 // `n` contents with their table, and nothing behind them.
 fn ending(words: &[u32], texts: &[u8], i: usize, j: usize, n: usize) -> Verdict
     requires { ⌜ n < 65536 ⌝ }
-    ensures { λ r. ⌜ r ≡ measured (λ cs. 4 * length cs + size (parts contentLay cs)) (ending n (now (words .entry)) (now (texts .entry)) i j) ⌝ }
+    ensures { λ r. ⌜ r ≡ verdictOf (λ cs. 4 * length cs + size (parts contentLay cs)) (contentsAndEnd n (now (words .entry)) (now (texts .entry)) i j) ⌝ }
 {
     match contents(words, texts, i, j, n) {
         Verdict::BadWord(k) => Verdict::BadWord(k),
@@ -81,7 +84,7 @@ fn table_behind(n: usize, size: usize) -> usize
 // What is behind a section's first four words: `nt` texture names and `nc` contents.
 fn headed(words: &[u32], texts: &[u8], i: usize, j: usize, nt: usize, nc: usize) -> Verdict
     requires { ⌜ (nt < 65536) × (nc < 65536) ⌝ }
-    ensures { λ r. ⌜ ((frames looping : ℕ) → r ≡ measured (λ (a : PaneAnimInfo). size (sectionLay a)) (headed frames looping nt nc (now (words .entry)) (now (texts .entry)) i j)) ⌝ }
+    ensures { λ r. ⌜ ((frames looping : ℕ) → r ≡ verdictOf (λ (a : PaneAnimInfo). size (sectionLay a)) (afterHead frames looping nt nc (now (words .entry)) (now (texts .entry)) i j)) ⌝ }
 {
     match textures(words, texts, i, j, nt) {
         Verdict::BadWord(k) => Verdict::BadWord(k),
@@ -95,7 +98,7 @@ fn headed(words: &[u32], texts: &[u8], i: usize, j: usize, nt: usize, nc: usize)
 
 // The section that the words and texts make.
 pub(crate) fn judge_section(words: &[u32], texts: &[u8]) -> Verdict
-    ensures { λ r. ⌜ r ≡ measured (λ (a : PaneAnimInfo). size (sectionLay a)) (section (now (words .entry)) (now (texts .entry)) 0 0) ⌝ }
+    ensures { λ r. ⌜ r ≡ verdictOf (λ (a : PaneAnimInfo). size (sectionLay a)) (section (now (words .entry)) (now (texts .entry)) 0 0) ⌝ }
 {
     if !below(words, 0, 65536) {
         return Verdict::BadWord(0);

@@ -1,6 +1,6 @@
 // The letters of an info, and what they say of the target numbers below it (document 01, 'The section', Info).
 ghost use mathlib.Core.Path.{_≡_};
-ghost use Rattle.bflan.specs.Letters.{kindOf, lettersOf, targetOf, targetFits};
+ghost use Rattle.bflan.specs.pai1.Letters.{kindOf, lettersOf, targetOf, targetFits};
 
 // The codes, each the number that its four letters are in a section, the first of them its lowest byte; with the Rust's names.
 

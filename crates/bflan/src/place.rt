@@ -2,22 +2,23 @@
 ghost use mathlib.Core.Path.{_≡_};
 ghost use Prim.Native.Nat.{_≤_};
 ghost use lib.ListN.{length};
-ghost use Rattle.bflan.specs.Locating.{ofSpot, locating, contentBase, infoBase, infoUnder, targetBase, afterBase, datumBase, layerUnder, numberUnder, keyUnder, valueUnder, SectionAt, ContentAt, InfoAt, TargetAt, DatumAt};
-ghost use Rattle.bflan.specs.Places.{stride, infoTableIn, keyIn, valueIn, locate};
+ghost use Rattle.bflan.specs.pai1.Locating.{ofSpot, locating};
+ghost use Rattle.bflan.specs.inner.Path.{contentBase, infoBase, infoUnder, targetBase, afterBase, datumBase, layerUnder, numberUnder, keyUnder, valueUnder, SectionAt, ContentAt, InfoAt, TargetAt, DatumAt};
+ghost use Rattle.bflan.specs.pai1.Places.{stride, infoTableIn, keyIn, valueIn, locate};
 ghost use Rattle.bflan.specs.Reader.{many};
-ghost use Rattle.bflan.specs.Reading.{datum};
-use crate::datum::data;
+ghost use Rattle.bflan.specs.pai1.Reading.{datum};
 use crate::fault::Fault;
 use crate::letters::FLEU;
 use crate::letters::letters_of;
-use crate::offset::byte_at;
-use crate::offset::half_at;
-use crate::offset::offset_at;
-use crate::offset::word_at;
 use crate::read::LIMIT;
 use crate::read::measure;
-use crate::tally::Walk;
-use crate::tally::fresh;
+use crate::reader::datum::data;
+use crate::reader::offset::byte_at;
+use crate::reader::offset::half_at;
+use crate::reader::offset::offset_at;
+use crate::reader::offset::word_at;
+use crate::reader::tally::Walk;
+use crate::reader::tally::fresh;
 
 // A field by its place in the record. Places count from 0: content, info, target, key; or content, info, datum, list, value.
 pub enum Place {
@@ -127,8 +128,8 @@ fn after_data(s: &[u8], p: usize, d: usize) -> Base
     let mut words = [0u32; 0];
     let mut texts = [0u8; 0];
     match data(s, p, d, &mut words, &mut texts, fresh(0)) {
-        Walk::On(_t, q) => Base::From(q),
-        Walk::No(_f) => Base::Missing,
+        Walk::Went(_t, q) => Base::From(q),
+        Walk::Stopped(_f) => Base::Missing,
     }
 }
 
@@ -271,7 +272,7 @@ pub fn locate(section: &[u8], place: Place) -> Located
         return Located::TooLong(size);
     }
     match measure(section, 0) {
-        Walk::No(f) => Located::Refused(f),
-        Walk::On(_t, _p) => path(section, place),
+        Walk::Stopped(f) => Located::Refused(f),
+        Walk::Went(_t, _p) => path(section, place),
     }
 }

@@ -4,12 +4,12 @@ ghost use mathlib.Core.List.{[]};
 ghost use Prim.Native.Nat.{_≤_};
 ghost use lib.ListN.{length};
 ghost use Rattle.bflan.specs.Answer.{ofReading, reading};
-ghost use Rattle.bflan.specs.Reading.{section};
-ghost use Rattle.bflan.specs.Walk.{noneYet, run};
+ghost use Rattle.bflan.specs.pai1.Reading.{section};
+ghost use Rattle.bflan.specs.inner.Walk.{emptyTally, walkOf};
 use crate::fault::Fault;
-use crate::section::section_at;
-use crate::tally::Walk;
-use crate::tally::fresh;
+use crate::reader::section::section_at;
+use crate::reader::tally::Walk;
+use crate::reader::tally::fresh;
 
 pub enum ReadAnswer {
     // The words and the text bytes that were filled.
@@ -27,7 +27,7 @@ pub const LIMIT: usize = 16777216;
 // The walk over a section, storing nothing; text `want` is looked for.
 pub(crate) fn measure(s: &[u8], want: usize) -> Walk
     requires { ⌜ length (now s) ≤ 16777216 ⌝ }
-    ensures { λ r. ⌜ r ≡ run (now (s .entry)) (noneYet want) [] [] (section (now (s .entry)) 0) .0 ⌝ }
+    ensures { λ r. ⌜ r ≡ walkOf (now (s .entry)) (emptyTally want) [] [] (section (now (s .entry)) 0) .0 ⌝ }
 {
     let mut words = [0u32; 0];
     let mut texts = [0u8; 0];
@@ -43,8 +43,8 @@ pub fn read(section: &[u8], words: &mut [u32], texts: &mut [u8]) -> ReadAnswer
         return ReadAnswer::TooLong(size);
     }
     match measure(section, 0) {
-        Walk::No(f) => ReadAnswer::Refused(f),
-        Walk::On(t, _p) => {
+        Walk::Stopped(f) => ReadAnswer::Refused(f),
+        Walk::Went(t, _p) => {
             let needs = t.words;
             let bytes = t.bytes;
             if words.len() < needs {

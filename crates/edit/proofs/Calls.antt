@@ -13,7 +13,7 @@ use Rattle.core.specs.Number.{le, put}
 use Rattle.core.proofs.Numbers.{low, length-le}
 use Rattle.core.proofs.Stores.{sets-turn}
 use Rattle.bflan.specs.Limits.{limit}
-use Rattle.bflan.proofs.Fields.{and-left, and-right}
+use Rattle.bflan.proofs.place.Fields.{and-left, and-right}
 use Rattle.edit.specs.declared.journal.Entry.{Entry}
 use Rattle.edit.specs.declared.journal.Packed.{Packed}
 use Rattle.edit.specs.declared.undo.UndoAnswer.the-variants.{Undone, TooLong, NothingToUndo, BadJournal}

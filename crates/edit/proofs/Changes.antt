@@ -19,14 +19,14 @@ use Rattle.core.specs.declared.float.HermiteBits.{HermiteBits}
 use Rattle.core.proofs.Numbers.{get-zero, get-suc, read-there}
 use Rattle.bflan.specs.Answer.{tooLong}
 use Rattle.bflan.specs.Layout.{written, row}
-use Rattle.bflan.specs.Letters.{fleu, targetFits}
+use Rattle.bflan.specs.pai1.Letters.{fleu, targetFits}
 use Rattle.bflan.specs.Limits.{limit}
-use Rattle.bflan.specs.Locating.{ofSpot, locatingIn, locating, ofLocated}
-use Rattle.bflan.specs.Places.{Spot, nowhere, spot, widths, total, fitWidths, allowed, fit, stride, after, keyIn, valueIn, targetIn, datumIn, infoTableIn, infoIn, contentIn, locate}
+use Rattle.bflan.specs.pai1.Locating.{ofSpot, locatingIn, locating, ofLocated}
+use Rattle.bflan.specs.pai1.Places.{Spot, nowhere, spot, widths, total, fitWidths, allowed, fit, stride, after, keyIn, valueIn, targetIn, datumIn, infoTableIn, infoIn, contentIn, locate}
 use Rattle.bflan.specs.Reader.{Res, ok, stop, Item, many}
-use Rattle.bflan.specs.Reading.{curveOf, countOf, datum, section}
-use Rattle.bflan.specs.Record.{keyWidths}
-use Rattle.bflan.proofs.Fields.{unlike, and-left}
+use Rattle.bflan.specs.pai1.Reading.{curveOf, countOf, datum, section}
+use Rattle.bflan.specs.pai1.Record.{keyWidths}
+use Rattle.bflan.proofs.place.Fields.{unlike, and-left}
 use Rattle.bflan.specs.declared.fault.Fault.{Fault}
 use Rattle.bflan.specs.declared.place.Field.{Field}
 use Rattle.bflan.specs.declared.place.Field.the-variants.{FrameCount, Looping, Layer, Target, Key, Value}

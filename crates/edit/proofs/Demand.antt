@@ -14,10 +14,10 @@ use Rattle.core.proofs.Numbers.{Bytes}
 use Rattle.bflan.specs.Answer.{noPlace}
 use Rattle.bflan.specs.Layout.{written, row}
 use Rattle.bflan.specs.Limits.{limit}
-use Rattle.bflan.specs.Places.{nowhere, spot, missing, found, fit, widths, total}
+use Rattle.bflan.specs.pai1.Places.{nowhere, spot, missing, found, fit, widths, total}
 use Rattle.bflan.specs.Reader.{ok}
 use Rattle.bflan.specs.declared.place.Field.{Field}
-use Rattle.bflan.proofs.Replacing.{length-row}
+use Rattle.bflan.proofs.place.Replacing.{length-row}
 use Rattle.edit.specs.Editing.{unfit, journalFull, nothingToUndo, oldAt, atSpot, onReading, editing, restored, undoing}
 use Rattle.edit.specs.Format.{Format}
 use Rattle.edit.specs.Journal.{entryWords, capacity, entryAt, entryOf, sound}

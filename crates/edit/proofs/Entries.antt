@@ -10,8 +10,8 @@ use lib.ListN.{length, set, take, drop, replicate, length-append, length-drop, l
 use lib.Seq.{sets, length-sets, sets-eq, take-at, drop-at, take-all, drop-drop, length-take-le, take-set-le, drop-set-lt}
 use Rattle.core.proofs.Numbers.{Bytes, bytes-take, bytes-drop, bytes-append, bytes-zeros, le-get, sets-read}
 use Rattle.core.proofs.Stores.{sets-sets}
-use Rattle.bflan.specs.Places.{widths, total}
-use Rattle.bflan.specs.Record.{keyWidths}
+use Rattle.bflan.specs.pai1.Places.{widths, total}
+use Rattle.bflan.specs.pai1.Record.{keyWidths}
 use Rattle.bflan.specs.declared.place.Field.{Field}
 use Rattle.bflan.specs.declared.place.Field.the-variants.{FrameCount, Looping, Layer, Target, Key, Value}
 use Rattle.edit.specs.Editing.{oldAt, restored}

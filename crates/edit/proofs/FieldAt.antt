@@ -17,18 +17,19 @@ use Rattle.core.specs.declared.float.Hermite.{Hermite as HermiteForm}
 use Rattle.core.proofs.Floats.{pattern-back, patterns-back}
 use Rattle.core.proofs.Numbers.{Bytes, get-lt, get-zero, get-suc}
 use Rattle.bflan.specs.Answer.{noPlace}
-use Rattle.bflan.specs.FieldValues.{foundOf, numbersIn, asRead, valuesAt}
-use Rattle.bflan.specs.Letters.{kindOf, targetUnder, targetOf}
+use Rattle.bflan.specs.pai1.FieldValues.{foundOf, numbersIn, asRead, valuesAt}
+use Rattle.bflan.specs.pai1.Letters.{kindOf, targetUnder, targetOf}
 use Rattle.bflan.specs.declared.letters.AnimInfoType.{AnimInfoType}
 use Rattle.bflan.specs.declared.letters.AnimInfoType.the-variants.{Standard}
-use Rattle.bflan.specs.Limits.{limit, Readable}
-use Rattle.bflan.specs.Locating.{ofSpot, locatingIn, locating}
-use Rattle.bflan.specs.Places.{Spot, nowhere, spot, Found, missing, found, fieldOf, widths, total, locate}
+use Rattle.bflan.specs.Limits.{limit}
+use Rattle.bflan.specs.pai1.Limits.{Readable}
+use Rattle.bflan.specs.pai1.Locating.{ofSpot, locatingIn, locating}
+use Rattle.bflan.specs.pai1.Places.{Spot, nowhere, spot, Found, missing, found, fieldOf, widths, total, locate}
 use Rattle.bflan.specs.Reader.{ok, Item}
-use Rattle.bflan.specs.Reading.{flagOf, section}
-use Rattle.bflan.specs.Record.{PaneAnimInfo, keyWidths, words, texts}
-use Rattle.bflan.specs.Walk.{wordsOf, textsOf}
-use Rattle.bflan.proofs.LocatedFields.{located-field, located-values}
+use Rattle.bflan.specs.pai1.Reading.{flagOf, section}
+use Rattle.bflan.specs.pai1.Record.{PaneAnimInfo, keyWidths, words, texts}
+use Rattle.bflan.specs.Items.{wordsOf, textsOf}
+use Rattle.bflan.proofs.place.LocatedFields.{located-field, located-values}
 use Rattle.bflan.specs.declared.place.Field.{Field}
 use Rattle.bflan.specs.declared.place.Field.the-variants.{FrameCount as frames, Looping as looping, Layer as layer, Target as number, Key as key, Value as value}
 use Rattle.bflan.specs.declared.place.Located.{Located}

@@ -7,15 +7,17 @@ use lib.ListN.{length, take}
 use Rattle.core.specs.Outcome.{Outcome}
 use Rattle.core.proofs.Numbers.{sets-read}
 use Rattle.bflan.specs.Writing.{writing}
-use Rattle.bflan.proofs.Verdicts.{written-there, accepted-within}
-use Rattle.bflan.specs.Layout.{written, sectionLay, size}
-use Rattle.bflan.specs.Limits.{limit, Within}
-use Rattle.bflan.specs.Record.{PaneAnimInfo, words as wordsOf, texts as textsOf}
+use Rattle.bflan.proofs.round_trip.Verdicts.{written-there, accepted-within}
+use Rattle.bflan.specs.Layout.{written, size}
+use Rattle.bflan.specs.pai1.Layout.{sectionLay}
+use Rattle.bflan.specs.Limits.{limit}
+use Rattle.bflan.specs.pai1.Limits.{Within}
+use Rattle.bflan.specs.pai1.Record.{PaneAnimInfo, words as wordsOf, texts as textsOf}
 use Rattle.bflan.specs.declared.place.Place.{Place}
-use Rattle.bflan.proofs.Fields.{Finding as Found, absent as gone, present as there, finding}
+use Rattle.bflan.proofs.place.Fields.{Finding as Found, absent as gone, present as there, finding}
 use Rattle.bflan.proofs.Layouts.{size-written}
-use Rattle.bflan.proofs.RoundTrip.{reads-back, read-written}
-use Rattle.bflan.proofs.WrittenBytes.{written-bytes}
+use Rattle.bflan.proofs.round_trip.RoundTrip.{reads-back, read-written}
+use Rattle.bflan.proofs.writer.WrittenBytes.{written-bytes}
 use Rattle.edit.specs.Format.{pai1, Reads, Writes}
 use Rattle.edit.specs.Journal.{capacity}
 use Rattle.edit.specs.Machine.{Call, started, Agrees}

@@ -12,7 +12,7 @@ use Rattle.core.specs.Outcome.{Outcome, accepted}
 use Rattle.bflan.specs.Answer.{refused, tooLong, noPlace, ofFault}
 use Rattle.bflan.specs.Layout.{written, row}
 use Rattle.bflan.specs.Limits.{limit}
-use Rattle.bflan.specs.Places.{Spot, nowhere, spot, fit, widths, total}
+use Rattle.bflan.specs.pai1.Places.{Spot, nowhere, spot, fit, widths, total}
 use Rattle.bflan.specs.Reader.{Res, ok, stop}
 use Rattle.bflan.specs.declared.place.Place.{Place}
 use Rattle.bflan.specs.declared.place.Place.the-variants.{FrameCount, Looping, Layer, Target, Key, Value}

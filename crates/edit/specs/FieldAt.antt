@@ -7,10 +7,10 @@ use lib.ListN.{getD}
 use Rattle.core.specs.Float.{floatOf, hermiteOf}
 use Rattle.core.specs.Outcome.{Outcome, accepted}
 use Rattle.bflan.specs.Answer.{tooLong, noPlace, ofFault}
-use Rattle.bflan.specs.FieldValues.{numbersIn, asRead, valuesAt}
-use Rattle.bflan.specs.Locating.{locating}
-use Rattle.bflan.specs.Places.{widths, first, Found, missing, found, fieldOf}
-use Rattle.bflan.specs.Record.{PaneAnimInfo}
+use Rattle.bflan.specs.pai1.FieldValues.{numbersIn, asRead, valuesAt}
+use Rattle.bflan.specs.pai1.Locating.{locating}
+use Rattle.bflan.specs.pai1.Places.{widths, first, Found, missing, found, fieldOf}
+use Rattle.bflan.specs.pai1.Record.{PaneAnimInfo}
 use Rattle.bflan.specs.declared.place.Field.{Field}
 use Rattle.bflan.specs.declared.place.Field.the-variants.{FrameCount as frames, Looping as looping, Layer as layer, Target as number, Key as key, Value as value}
 use Rattle.bflan.specs.declared.place.Located.{Located}

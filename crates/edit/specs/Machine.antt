@@ -8,7 +8,7 @@ use lib.ListN.{length, take, drop, getD}
 use Rattle.core.specs.Choice.{pick}
 use Rattle.core.specs.Outcome.{Outcome, accepted}
 use Rattle.bflan.specs.Answer.{noPlace}
-use Rattle.bflan.specs.Places.{Spot, nowhere, spot, Found, missing, found, fit, widths, total}
+use Rattle.bflan.specs.pai1.Places.{Spot, nowhere, spot, Found, missing, found, fit, widths, total}
 use Rattle.edit.specs.Editing.{unfit, journalFull, nothingToUndo, editing, undoing}
 use Rattle.edit.specs.Format.{Format}
 

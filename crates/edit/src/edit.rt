@@ -5,7 +5,7 @@ ghost use Prim.Native.Nat.{_+_, _*_, _<_, _≤_};
 ghost use lib.ListN.{length};
 ghost use lib.Seq.{sets};
 ghost use Rattle.bflan.specs.Layout.{written, row};
-ghost use Rattle.bflan.specs.Places.{spot, widths, total, fit};
+ghost use Rattle.bflan.specs.pai1.Places.{spot, widths, total, fit};
 ghost use Rattle.edit.specs.Editing.{ofEditing, keyWords, placeOf, valuesOf, oldAt, atSpot, editing};
 ghost use Rattle.edit.specs.Format.{pai1};
 ghost use Rattle.edit.specs.Journal.{entryWords, entryOf};

@@ -1,7 +1,7 @@
 // The words of a change's new value, and which of them a field takes.
 ghost use mathlib.Core.Path.{_≡_};
 ghost use mathlib.Core.List.{[], _∷_};
-ghost use Rattle.bflan.specs.Places.{widths, total, fitWidths, fit};
+ghost use Rattle.bflan.specs.pai1.Places.{widths, total, fitWidths, fit};
 ghost use Rattle.bflan.specs.declared.place.Field.the-variants.{Target, Key};
 ghost use Rattle.edit.specs.Editing.{placeOf, keyWords, valuesOf};
 ghost use Rattle.edit.specs.Packing.{valuesIn, oneMost};

@@ -17,17 +17,20 @@ use Rattle.core.proofs.Numbers.{sets-read}
 use Rattle.bflan.specs.declared.fault.Fault.{Fault}
 use Rattle.bflan.specs.declared.fault.Fault.the-variants.{PastEnd, NoZero, NotPai1}
 use Rattle.bflan.specs.Answer.{refused, tooLong, tooShort, ofFault, filled, reading}
-use Rattle.bflan.specs.Judge.{Judged, fine, badWord, badText, section as judge}
-use Rattle.bflan.specs.Layout.{size, written, sectionLay}
-use Rattle.bflan.specs.Limits.{limit, Within}
+use Rattle.bflan.specs.Judge.{Judged, fine, badWord, badText}
+use Rattle.bflan.specs.pai1.Judge.{section as judge}
+use Rattle.bflan.specs.Layout.{size, written}
+use Rattle.bflan.specs.pai1.Layout.{sectionLay}
+use Rattle.bflan.specs.Limits.{limit}
+use Rattle.bflan.specs.pai1.Limits.{Within}
 use Rattle.bflan.specs.Reader.{Res, ok, stop, Item}
-use Rattle.bflan.specs.Reading.{section}
-use Rattle.bflan.specs.Record.{PaneAnimInfo, words, texts}
-use Rattle.bflan.specs.Walk.{wordsOf, textsOf}
-use Rattle.bflan.specs.Writing.{stored, judged, writing}
+use Rattle.bflan.specs.pai1.Reading.{section}
+use Rattle.bflan.specs.pai1.Record.{PaneAnimInfo, words, texts}
+use Rattle.bflan.specs.Items.{wordsOf, textsOf}
+use Rattle.bflan.specs.Writing.{intoOutput, judged, writing}
 use Rattle.bflan.proofs.Layouts.{size-written}
-use Rattle.bflan.proofs.RoundTrip.{read-written}
-use Rattle.bflan.proofs.Verdicts.{texts-size, written-there, accepted-within}
+use Rattle.bflan.proofs.round_trip.RoundTrip.{read-written}
+use Rattle.bflan.proofs.round_trip.Verdicts.{texts-size, written-there, accepted-within}
 use Rattle.round_trip.specs.Trip.{said, most, writtenAgain, afterReading, trip, refusal, repliedWith, replied, printed}
 use Rattle.round_trip.proofs.Trips.{Filled, accepted-fills}
 
@@ -101,7 +104,7 @@ abbrev LowWritten : List ℕ → Outcome × List ℕ → Type 0
 LowWritten out r = (r .0 .number ≤ 9) × ((r .0 .number ≡ 0 → ⊥) → r .1 ≡ out)
 
 low-judged : (out : List ℕ) (v : Judged PaneAnimInfo) → LowWritten out (judged out v)
-unfolding judged stored
+unfolding judged intoOutput
 low-judged out (badWord i) = (omega arith, λ z. refl)
 low-judged out (badText i) = (omega arith, λ z. refl)
 low-judged out (fine r i j) =

@@ -23,8 +23,8 @@ use Rattle.bflan.specs.declared.write.WriteAnswer.the-variants.{Written, BadWor
 use Rattle.bflan.specs.Answer.{tooLong, tooShort, ofFault, ofReading, filled, reading}
 use Rattle.bflan.specs.Limits.{limit}
 use Rattle.bflan.specs.Reader.{Res, ok, stop, Item}
-use Rattle.bflan.specs.Reading.{section}
-use Rattle.bflan.specs.Walk.{wordsOf, textsOf}
+use Rattle.bflan.specs.pai1.Reading.{section}
+use Rattle.bflan.specs.Items.{wordsOf, textsOf}
 use Rattle.bflan.specs.Writing.{ofWriting, writing}
 use Rattle.bflan.proofs.read.ReadAnswer.{the-type as readType}
 use Rattle.bflan.proofs.write.WriteAnswer.{the-type as writeType}

@@ -3,10 +3,12 @@ ghost use mathlib.Core.Path.{_≡_};
 ghost use mathlib.Core.List.{List};
 ghost use Prim.Native.Nat.{ℕ, _≤_};
 ghost use lib.ListN.{length};
-ghost use Rattle.bflan.specs.Judge.{content, times};
-ghost use Rattle.bflan.specs.Layout.{size, parts, tableFrom, contentLay};
-ghost use Rattle.bflan.specs.Measure.{measured};
-ghost use Rattle.bflan.specs.MeasureParts.{named};
+ghost use Rattle.bflan.specs.pai1.Judge.{content};
+ghost use Rattle.bflan.specs.Judge.{times};
+ghost use Rattle.bflan.specs.Layout.{size, parts};
+ghost use Rattle.bflan.specs.pai1.Layout.{tableFrom, contentLay};
+ghost use Rattle.bflan.specs.inner.Measure.{verdictOf};
+ghost use Rattle.bflan.specs.inner.JudgeParts.{afterName};
 use crate::judge::Mark;
 use crate::judge::Verdict;
 use crate::judge::info::infos;
@@ -15,7 +17,7 @@ use crate::judge::size::padded;
 use crate::judge::text::name;
 use crate::judge::word::below;
 use crate::judge::word::word_of;
-use crate::tally::add;
+use crate::reader::tally::add;
 
 // Where a content's info table stands in it.
 pub(crate) fn table_from(kind: u32) -> usize
@@ -29,7 +31,7 @@ pub(crate) fn table_from(kind: u32) -> usize
 
 // What is behind a content's name.
 fn named(words: &[u32], texts: &[u8], i: usize, j: usize) -> Verdict
-    ensures { λ r. ⌜ ((name : List ℕ) → length name ≤ 28 → r ≡ measured (λ c. size (contentLay c)) (named name (now (words .entry)) (now (texts .entry)) i j)) ⌝ }
+    ensures { λ r. ⌜ ((name : List ℕ) → length name ≤ 28 → r ≡ verdictOf (λ c. size (contentLay c)) (afterName name (now (words .entry)) (now (texts .entry)) i j)) ⌝ }
 {
     if !below(words, i, 5) {
         return Verdict::BadWord(i);
@@ -44,7 +46,7 @@ fn named(words: &[u32], texts: &[u8], i: usize, j: usize) -> Verdict
 }
 
 pub(crate) fn content(words: &[u32], texts: &[u8], i: usize, j: usize) -> Verdict
-    ensures { λ r. ⌜ r ≡ measured (λ c. size (contentLay c)) (content (now (words .entry)) (now (texts .entry)) i j) ⌝ }
+    ensures { λ r. ⌜ r ≡ verdictOf (λ c. size (contentLay c)) (content (now (words .entry)) (now (texts .entry)) i j) ⌝ }
 {
     match name(words, texts, i, j) {
         Verdict::BadWord(k) => Verdict::BadWord(k),
@@ -55,7 +57,7 @@ pub(crate) fn content(words: &[u32], texts: &[u8], i: usize, j: usize) -> Verdic
 
 // `n` contents.
 pub(crate) fn contents(words: &[u32], texts: &[u8], i: usize, j: usize, n: usize) -> Verdict
-    ensures { λ r. ⌜ r ≡ measured (λ cs. size (parts contentLay cs)) (times n content (now (words .entry)) (now (texts .entry)) i j) ⌝ }
+    ensures { λ r. ⌜ r ≡ verdictOf (λ cs. size (parts contentLay cs)) (times n content (now (words .entry)) (now (texts .entry)) i j) ⌝ }
 {
     let mut left = n;
     let mut at = i;

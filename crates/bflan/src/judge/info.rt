@@ -1,8 +1,10 @@
 // Infos: letters, a count, and then targets or extended data.
 ghost use mathlib.Core.Path.{_≡_};
-ghost use Rattle.bflan.specs.Judge.{info, times};
-ghost use Rattle.bflan.specs.Layout.{size, parts, infoLay};
-ghost use Rattle.bflan.specs.Measure.{measured};
+ghost use Rattle.bflan.specs.pai1.Judge.{info};
+ghost use Rattle.bflan.specs.Judge.{times};
+ghost use Rattle.bflan.specs.Layout.{size, parts};
+ghost use Rattle.bflan.specs.pai1.Layout.{infoLay};
+ghost use Rattle.bflan.specs.inner.Measure.{verdictOf};
 use crate::judge::Mark;
 use crate::judge::Verdict;
 use crate::judge::datum::data;
@@ -12,10 +14,10 @@ use crate::judge::word::below;
 use crate::judge::word::letters_fit;
 use crate::judge::word::word_of;
 use crate::letters::FLEU;
-use crate::tally::add;
+use crate::reader::tally::add;
 
 pub(crate) fn info(words: &[u32], texts: &[u8], i: usize, j: usize) -> Verdict
-    ensures { λ r. ⌜ r ≡ measured (λ a. size (infoLay a)) (info (now (words .entry)) (now (texts .entry)) i j) ⌝ }
+    ensures { λ r. ⌜ r ≡ verdictOf (λ a. size (infoLay a)) (info (now (words .entry)) (now (texts .entry)) i j) ⌝ }
 {
     if !letters_fit(words, i) {
         return Verdict::BadWord(i);
@@ -34,7 +36,7 @@ pub(crate) fn info(words: &[u32], texts: &[u8], i: usize, j: usize) -> Verdict
 
 // `n` infos.
 pub(crate) fn infos(words: &[u32], texts: &[u8], i: usize, j: usize, n: usize) -> Verdict
-    ensures { λ r. ⌜ r ≡ measured (λ ps. size (parts infoLay ps)) (times n info (now (words .entry)) (now (texts .entry)) i j) ⌝ }
+    ensures { λ r. ⌜ r ≡ verdictOf (λ ps. size (parts infoLay ps)) (times n info (now (words .entry)) (now (texts .entry)) i j) ⌝ }
 {
     let mut left = n;
     let mut at = i;

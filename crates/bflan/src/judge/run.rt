@@ -3,10 +3,11 @@ ghost use mathlib.Core.Path.{_≡_};
 ghost use mathlib.Core.List.{List};
 ghost use Prim.Native.Nat.{ℕ, _-_, _<_, _≤_};
 ghost use lib.ListN.{length};
-ghost use Rattle.bflan.specs.Judge.{word, wide, row, times};
-ghost use Rattle.bflan.specs.Layout.{number, size, parts, keyLay};
-ghost use Rattle.bflan.specs.Measure.{measured};
-ghost use Rattle.bflan.specs.Record.{keyWidths};
+ghost use Rattle.bflan.specs.Judge.{nextWord, wide, row, times};
+ghost use Rattle.bflan.specs.Layout.{number, size, parts};
+ghost use Rattle.bflan.specs.pai1.Layout.{keyLay};
+ghost use Rattle.bflan.specs.inner.Measure.{verdictOf};
+ghost use Rattle.bflan.specs.pai1.Record.{keyWidths};
 use crate::judge::Mark;
 use crate::judge::Verdict;
 use crate::judge::word::below;
@@ -24,7 +25,7 @@ fn ahead(words: &[u32], i: usize) -> usize
 // `n` words from `i` on.
 pub(crate) fn run(words: &[u32], i: usize, j: usize, n: usize) -> Verdict
     requires { ⌜ n ≤ 17179869184 ⌝ }
-    ensures { λ r. ⌜ ((x : List ℕ) → r ≡ measured (λ vs. size (parts (number 4) vs)) (times n (word (wide 4)) (now (words .entry)) x i j)) ⌝ }
+    ensures { λ r. ⌜ ((x : List ℕ) → r ≡ verdictOf (λ vs. size (parts (number 4) vs)) (times n (nextWord (wide 4)) (now (words .entry)) x i j)) ⌝ }
 {
     if n <= ahead(words, i) {
         return Verdict::Fine(Mark {
@@ -42,7 +43,7 @@ pub(crate) fn run(words: &[u32], i: usize, j: usize, n: usize) -> Verdict
 // `n` keys of a frame and a u16.
 fn pairs(words: &[u32], i: usize, j: usize, n: usize) -> Verdict
     requires { ⌜ n < 65536 ⌝ }
-    ensures { λ r. ⌜ ((x : List ℕ) → r ≡ measured (λ ks. size (parts (keyLay 1) ks)) (times n (row (keyWidths 1)) (now (words .entry)) x i j)) ⌝ }
+    ensures { λ r. ⌜ ((x : List ℕ) → r ≡ verdictOf (λ ks. size (parts (keyLay 1) ks)) (times n (row (keyWidths 1)) (now (words .entry)) x i j)) ⌝ }
 {
     let mut left = n;
     let mut at = i;
@@ -69,7 +70,7 @@ fn pairs(words: &[u32], i: usize, j: usize, n: usize) -> Verdict
 // The `n` keys of a curve from `i` on.
 pub(crate) fn keys(words: &[u32], i: usize, j: usize, curve: u32, n: usize) -> Verdict
     requires { ⌜ n < 65536 ⌝ }
-    ensures { λ r. ⌜ ((x : List ℕ) → r ≡ measured (λ ks. size (parts (keyLay curve) ks)) (times n (row (keyWidths curve)) (now (words .entry)) x i j)) ⌝ }
+    ensures { λ r. ⌜ ((x : List ℕ) → r ≡ verdictOf (λ ks. size (parts (keyLay curve) ks)) (times n (row (keyWidths curve)) (now (words .entry)) x i j)) ⌝ }
 {
     match curve {
         0 => run(words, i, j, n),

@@ -1,10 +1,10 @@
 // A part's bytes in the section: more of them, and up to a multiple of 4.
 ghost use mathlib.Core.Path.{_≡_};
-ghost use Rattle.bflan.specs.MeasureParts.{grown, filledUp, padded};
-ghost use Rattle.bflan.specs.Walk.{sat};
+ghost use Rattle.bflan.specs.inner.Measure.{grown, filledUp, padded};
+ghost use Rattle.bflan.specs.inner.Walk.{sat};
 use crate::judge::Mark;
 use crate::judge::Verdict;
-use crate::tally::add;
+use crate::reader::tally::add;
 use core::fill::padding;
 
 // A part's verdict with `n` bytes more.

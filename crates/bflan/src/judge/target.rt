@@ -2,9 +2,11 @@
 ghost use mathlib.Core.Path.{_≡_};
 ghost use mathlib.Core.List.{List};
 ghost use Prim.Native.Nat.{ℕ};
-ghost use Rattle.bflan.specs.Judge.{target, times};
-ghost use Rattle.bflan.specs.Layout.{size, parts, targetLay};
-ghost use Rattle.bflan.specs.Measure.{measured};
+ghost use Rattle.bflan.specs.pai1.Judge.{target};
+ghost use Rattle.bflan.specs.Judge.{times};
+ghost use Rattle.bflan.specs.Layout.{size, parts};
+ghost use Rattle.bflan.specs.pai1.Layout.{targetLay};
+ghost use Rattle.bflan.specs.inner.Measure.{verdictOf};
 use crate::judge::Mark;
 use crate::judge::Verdict;
 use crate::judge::run::keys;
@@ -12,10 +14,10 @@ use crate::judge::size::grown;
 use crate::judge::word::below;
 use crate::judge::word::target_fits;
 use crate::judge::word::word_of;
-use crate::tally::add;
+use crate::reader::tally::add;
 
 pub(crate) fn target(words: &[u32], letters: u32, i: usize, j: usize) -> Verdict
-    ensures { λ r. ⌜ ((x : List ℕ) → r ≡ measured (λ t. size (targetLay t)) (target letters (now (words .entry)) x i j)) ⌝ }
+    ensures { λ r. ⌜ ((x : List ℕ) → r ≡ verdictOf (λ t. size (targetLay t)) (target letters (now (words .entry)) x i j)) ⌝ }
 {
     if !below(words, i, 256) {
         return Verdict::BadWord(i);
@@ -39,7 +41,7 @@ pub(crate) fn target(words: &[u32], letters: u32, i: usize, j: usize) -> Verdict
 
 // `n` targets.
 pub(crate) fn targets(words: &[u32], letters: u32, i: usize, j: usize, n: usize) -> Verdict
-    ensures { λ r. ⌜ ((x : List ℕ) → r ≡ measured (λ ts. size (parts targetLay ts)) (times n (target letters) (now (words .entry)) x i j)) ⌝ }
+    ensures { λ r. ⌜ ((x : List ℕ) → r ≡ verdictOf (λ ts. size (parts targetLay ts)) (times n (target letters) (now (words .entry)) x i j)) ⌝ }
 {
     let mut left = n;
     let mut at = i;

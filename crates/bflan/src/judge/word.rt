@@ -2,8 +2,8 @@
 ghost use mathlib.Core.Path.{_≡_};
 ghost use lib.Dec.{ltb};
 ghost use lib.ListN.{getD};
-ghost use Rattle.bflan.specs.Letters.{lettersFit, targetFits};
-ghost use Rattle.bflan.specs.MeasureParts.{fits};
+ghost use Rattle.bflan.specs.pai1.Letters.{lettersFit, targetFits};
+ghost use Rattle.bflan.specs.inner.Measure.{fits};
 use crate::letters::AnimInfoType;
 use crate::letters::kind_of;
 

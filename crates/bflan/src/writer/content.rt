@@ -5,9 +5,11 @@ ghost use lib.Dec.{leb};
 ghost use lib.ListN.{length, replicate};
 ghost use lib.Seq.{sets};
 ghost use Rattle.core.specs.Fill.{paddingOf};
-ghost use Rattle.bflan.specs.Judge.{text, times, info, content};
-ghost use Rattle.bflan.specs.Layout.{contentLay};
-ghost use Rattle.bflan.specs.Stored.{Ready, laid, behind, listed, nameLay, bodyLay};
+ghost use Rattle.bflan.specs.Judge.{nextText, times};
+ghost use Rattle.bflan.specs.pai1.Judge.{info, content};
+ghost use Rattle.bflan.specs.pai1.Layout.{contentLay};
+ghost use Rattle.bflan.specs.inner.Pen.{Ready, laid, penBehind, listed};
+ghost use Rattle.bflan.specs.inner.LayoutParts.{nameLay, bodyLay};
 use crate::judge::word::word_of;
 use crate::writer::Pen;
 use crate::writer::field::put_chars;
@@ -23,9 +25,9 @@ use core::placeholder::write_placeholders_u32;
 
 // The name, with zeros up to 28 bytes.
 fn put_name(words: &[u32], texts: &[u8], pen: Pen, out: &mut [u8]) -> Pen
-    requires { ⌜ Ready nameLay (text (λ n. leb n 28) (now words) (now texts) (pen .word) (pen .byte)) (pen .at) (length (now out)) ⌝ }
-    ensures { λ r. ⌜ (r ≡ behind nameLay (text (λ n. leb n 28) (now (words .entry)) (now (texts .entry)) (pen .word) (pen .byte)) (pen .at))
-        × (now (out .exit) ≡ laid nameLay (text (λ n. leb n 28) (now (words .entry)) (now (texts .entry)) (pen .word) (pen .byte)) (pen .at) (now (out .entry))) ⌝ }
+    requires { ⌜ Ready nameLay (nextText (λ n. leb n 28) (now words) (now texts) (pen .word) (pen .byte)) (pen .at) (length (now out)) ⌝ }
+    ensures { λ r. ⌜ (r ≡ penBehind nameLay (nextText (λ n. leb n 28) (now (words .entry)) (now (texts .entry)) (pen .word) (pen .byte)) (pen .at))
+        × (now (out .exit) ≡ laid nameLay (nextText (λ n. leb n 28) (now (words .entry)) (now (texts .entry)) (pen .word) (pen .byte)) (pen .at) (now (out .entry))) ⌝ }
 {
     let i = pen.word;
     let from = pen.byte;
@@ -44,7 +46,7 @@ fn put_name(words: &[u32], texts: &[u8], pen: Pen, out: &mut [u8]) -> Pen
 // when the infos are there.
 fn put_user(words: &[u32], texts: &[u8], n: usize, start: usize, pen: Pen, out: &mut [u8]) -> Pen
     requires { ⌜ (pen .at ≡ start + 32) × Ready (bodyLay 2) (times n info (now words) (now texts) (pen .word) (pen .byte)) (pen .at) (length (now out)) ⌝ }
-    ensures { λ r. ⌜ (r ≡ behind (bodyLay 2) (times n info (now (words .entry)) (now (texts .entry)) (pen .word) (pen .byte)) (pen .at))
+    ensures { λ r. ⌜ (r ≡ penBehind (bodyLay 2) (times n info (now (words .entry)) (now (texts .entry)) (pen .word) (pen .byte)) (pen .at))
         × (now (out .exit) ≡ laid (bodyLay 2) (times n info (now (words .entry)) (now (texts .entry)) (pen .word) (pen .byte)) (pen .at) (now (out .entry))) ⌝ }
 {
     let at = pen.at;
@@ -72,7 +74,7 @@ fn put_body(
     out: &mut [u8],
 ) -> Pen
     requires { ⌜ (pen .at ≡ start + 32) × Ready (bodyLay kind) (times n info (now words) (now texts) (pen .word) (pen .byte)) (pen .at) (length (now out)) ⌝ }
-    ensures { λ r. ⌜ (r ≡ behind (bodyLay kind) (times n info (now (words .entry)) (now (texts .entry)) (pen .word) (pen .byte)) (pen .at))
+    ensures { λ r. ⌜ (r ≡ penBehind (bodyLay kind) (times n info (now (words .entry)) (now (texts .entry)) (pen .word) (pen .byte)) (pen .at))
         × (now (out .exit) ≡ laid (bodyLay kind) (times n info (now (words .entry)) (now (texts .entry)) (pen .word) (pen .byte)) (pen .at) (now (out .entry))) ⌝ }
 {
     if kind == 2 {
@@ -101,7 +103,7 @@ fn put_padding(start: usize, pen: Pen, out: &mut [u8]) -> Pen
 // A content from the next word on.
 fn put_content(words: &[u32], texts: &[u8], pen: Pen, out: &mut [u8]) -> Pen
     requires { ⌜ Ready contentLay (content (now words) (now texts) (pen .word) (pen .byte)) (pen .at) (length (now out)) ⌝ }
-    ensures { λ r. ⌜ (r ≡ behind contentLay (content (now (words .entry)) (now (texts .entry)) (pen .word) (pen .byte)) (pen .at))
+    ensures { λ r. ⌜ (r ≡ penBehind contentLay (content (now (words .entry)) (now (texts .entry)) (pen .word) (pen .byte)) (pen .at))
         × (now (out .exit) ≡ laid contentLay (content (now (words .entry)) (now (texts .entry)) (pen .word) (pen .byte)) (pen .at) (now (out .entry))) ⌝ }
 {
     let start = pen.at;
@@ -129,7 +131,7 @@ pub(crate) fn put_contents(
     out: &mut [u8],
 ) -> Pen
     requires { ⌜ (base ≤ pen .at) × Ready (listed contentLay (pen .at + 4 * n - base)) (times n content (now words) (now texts) (pen .word) (pen .byte)) (pen .at) (length (now out)) ⌝ }
-    ensures { λ r. ⌜ (r ≡ behind (listed contentLay (pen .at + 4 * n - base)) (times n content (now (words .entry)) (now (texts .entry)) (pen .word) (pen .byte)) (pen .at))
+    ensures { λ r. ⌜ (r ≡ penBehind (listed contentLay (pen .at + 4 * n - base)) (times n content (now (words .entry)) (now (texts .entry)) (pen .word) (pen .byte)) (pen .at))
         × (now (out .exit) ≡ laid (listed contentLay (pen .at + 4 * n - base)) (times n content (now (words .entry)) (now (texts .entry)) (pen .word) (pen .byte)) (pen .at) (now (out .entry))) ⌝ }
 {
     let table = write_placeholders_u32(out, pen.at, n);

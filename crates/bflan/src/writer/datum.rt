@@ -3,9 +3,12 @@ ghost use mathlib.Core.Path.{_≡_};
 ghost use Prim.Native.Nat.{_+_, _*_, _≤_};
 ghost use lib.ListN.{length, getD};
 ghost use lib.Seq.{sets};
-ghost use Rattle.bflan.specs.Judge.{times, datum};
-ghost use Rattle.bflan.specs.Layout.{written, parts, datumLay};
-ghost use Rattle.bflan.specs.Stored.{Ready, laid, behind, datumHead, datumFront};
+ghost use Rattle.bflan.specs.Judge.{times};
+ghost use Rattle.bflan.specs.pai1.Judge.{datum};
+ghost use Rattle.bflan.specs.Layout.{written, parts};
+ghost use Rattle.bflan.specs.pai1.Layout.{datumLay};
+ghost use Rattle.bflan.specs.inner.Pen.{Ready, laid, penBehind};
+ghost use Rattle.bflan.specs.inner.LayoutParts.{datumHead, datumFront};
 use crate::judge::word::word_of;
 use crate::writer::Pen;
 use crate::writer::field::put_ended;
@@ -64,7 +67,7 @@ fn put_front(words: &[u32], pen: Pen, out: &mut [u8]) -> Pen
 // A datum from the next word on.
 fn put_datum(words: &[u32], texts: &[u8], pen: Pen, out: &mut [u8]) -> Pen
     requires { ⌜ Ready datumLay (datum (now words) (now texts) (pen .word) (pen .byte)) (pen .at) (length (now out)) ⌝ }
-    ensures { λ r. ⌜ (r ≡ behind datumLay (datum (now (words .entry)) (now (texts .entry)) (pen .word) (pen .byte)) (pen .at))
+    ensures { λ r. ⌜ (r ≡ penBehind datumLay (datum (now (words .entry)) (now (texts .entry)) (pen .word) (pen .byte)) (pen .at))
         × (now (out .exit) ≡ laid datumLay (datum (now (words .entry)) (now (texts .entry)) (pen .word) (pen .byte)) (pen .at) (now (out .entry))) ⌝ }
 {
     let next = put_front(words, pen, out);
@@ -74,7 +77,7 @@ fn put_datum(words: &[u32], texts: &[u8], pen: Pen, out: &mut [u8]) -> Pen
 // `n` data from the next word on.
 pub(crate) fn put_data(words: &[u32], texts: &[u8], n: usize, pen: Pen, out: &mut [u8]) -> Pen
     requires { ⌜ Ready (parts datumLay) (times n datum (now words) (now texts) (pen .word) (pen .byte)) (pen .at) (length (now out)) ⌝ }
-    ensures { λ r. ⌜ (r ≡ behind (parts datumLay) (times n datum (now (words .entry)) (now (texts .entry)) (pen .word) (pen .byte)) (pen .at))
+    ensures { λ r. ⌜ (r ≡ penBehind (parts datumLay) (times n datum (now (words .entry)) (now (texts .entry)) (pen .word) (pen .byte)) (pen .at))
         × (now (out .exit) ≡ laid (parts datumLay) (times n datum (now (words .entry)) (now (texts .entry)) (pen .word) (pen .byte)) (pen .at) (now (out .entry))) ⌝ }
 {
     let mut left = n;

@@ -5,9 +5,9 @@ ghost use lib.ListN.{length, take, drop};
 ghost use lib.Seq.{sets};
 ghost use Rattle.core.specs.Number.{put};
 ghost use Rattle.core.specs.Placeholder.{entryAt};
-ghost use Rattle.bflan.specs.Judge.{text, wide};
+ghost use Rattle.bflan.specs.Judge.{nextText, wide};
 ghost use Rattle.bflan.specs.Layout.{number, _⨾_, written, ended};
-ghost use Rattle.bflan.specs.Stored.{Ready, laid, behind};
+ghost use Rattle.bflan.specs.inner.Pen.{Ready, laid, penBehind};
 use crate::judge::word::word_of;
 use crate::writer::Pen;
 use core::fill::copy;
@@ -71,9 +71,9 @@ pub(crate) fn put_chars(texts: &[u8], from: usize, n: usize, out: &mut [u8], at:
 
 // A text and its zero.
 pub(crate) fn put_ended(words: &[u32], texts: &[u8], pen: Pen, out: &mut [u8]) -> Pen
-    requires { ⌜ Ready ended (text (wide 4) (now words) (now texts) (pen .word) (pen .byte)) (pen .at) (length (now out)) ⌝ }
-    ensures { λ r. ⌜ (r ≡ behind ended (text (wide 4) (now (words .entry)) (now (texts .entry)) (pen .word) (pen .byte)) (pen .at))
-        × (now (out .exit) ≡ laid ended (text (wide 4) (now (words .entry)) (now (texts .entry)) (pen .word) (pen .byte)) (pen .at) (now (out .entry))) ⌝ }
+    requires { ⌜ Ready ended (nextText (wide 4) (now words) (now texts) (pen .word) (pen .byte)) (pen .at) (length (now out)) ⌝ }
+    ensures { λ r. ⌜ (r ≡ penBehind ended (nextText (wide 4) (now (words .entry)) (now (texts .entry)) (pen .word) (pen .byte)) (pen .at))
+        × (now (out .exit) ≡ laid ended (nextText (wide 4) (now (words .entry)) (now (texts .entry)) (pen .word) (pen .byte)) (pen .at) (now (out .entry))) ⌝ }
 {
     let i = pen.word;
     let from = pen.byte;

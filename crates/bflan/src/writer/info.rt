@@ -3,10 +3,13 @@ ghost use mathlib.Core.Path.{_≡_};
 ghost use Prim.Native.Nat.{_+_, _-_, _*_, _<_, _≤_};
 ghost use lib.ListN.{length, getD};
 ghost use lib.Seq.{sets};
-ghost use Rattle.bflan.specs.Judge.{times, info};
-ghost use Rattle.bflan.specs.Layout.{written, infoHead, infoLay};
-ghost use Rattle.bflan.specs.Letters.{fleu};
-ghost use Rattle.bflan.specs.Stored.{Ready, laid, behind, listed, outOf, outBy};
+ghost use Rattle.bflan.specs.Judge.{times};
+ghost use Rattle.bflan.specs.pai1.Judge.{info};
+ghost use Rattle.bflan.specs.Layout.{written};
+ghost use Rattle.bflan.specs.pai1.Layout.{infoHead, infoLay};
+ghost use Rattle.bflan.specs.pai1.Letters.{fleu};
+ghost use Rattle.bflan.specs.inner.Pen.{Ready, laid, penBehind, listed};
+ghost use Rattle.bflan.specs.inner.LayoutParts.{outOf, outBy};
 use crate::judge::word::word_of;
 use crate::letters::FLEU;
 use crate::writer::Pen;
@@ -35,7 +38,7 @@ fn put_head(out: &mut [u8], at: usize, letters: u32, n: u32)
 // An info from the next word on.
 fn put_info(words: &[u32], texts: &[u8], pen: Pen, out: &mut [u8]) -> Pen
     requires { ⌜ Ready infoLay (info (now words) (now texts) (pen .word) (pen .byte)) (pen .at) (length (now out)) ⌝ }
-    ensures { λ r. ⌜ (r ≡ behind infoLay (info (now (words .entry)) (now (texts .entry)) (pen .word) (pen .byte)) (pen .at))
+    ensures { λ r. ⌜ (r ≡ penBehind infoLay (info (now (words .entry)) (now (texts .entry)) (pen .word) (pen .byte)) (pen .at))
         × (now (out .exit) ≡ laid infoLay (info (now (words .entry)) (now (texts .entry)) (pen .word) (pen .byte)) (pen .at) (now (out .entry))) ⌝ }
 {
     let i = pen.word;
@@ -77,7 +80,7 @@ pub(crate) fn put_infos(
     out: &mut [u8],
 ) -> Infos
     requires { ⌜ (base ≤ pen .at) × Ready (listed infoLay (pen .at + 4 * n - base)) (times n info (now words) (now texts) (pen .word) (pen .byte)) (pen .at) (length (now out)) ⌝ }
-    ensures { λ r. ⌜ (r .pen ≡ behind (listed infoLay (pen .at + 4 * n - base)) (times n info (now (words .entry)) (now (texts .entry)) (pen .word) (pen .byte)) (pen .at))
+    ensures { λ r. ⌜ (r .pen ≡ penBehind (listed infoLay (pen .at + 4 * n - base)) (times n info (now (words .entry)) (now (texts .entry)) (pen .word) (pen .byte)) (pen .at))
         × (r .out ≡ outOf (times n info (now (words .entry)) (now (texts .entry)) (pen .word) (pen .byte)))
         × (now (out .exit) ≡ laid (listed infoLay (pen .at + 4 * n - base)) (times n info (now (words .entry)) (now (texts .entry)) (pen .word) (pen .byte)) (pen .at) (now (out .entry))) ⌝ }
 {

@@ -3,12 +3,15 @@ ghost use mathlib.Core.Path.{_≡_};
 ghost use Prim.Native.Nat.{_+_, _-_, _*_, _≤_};
 ghost use lib.ListN.{length, getD};
 ghost use lib.Seq.{sets};
-ghost use Rattle.bflan.specs.Judge.{text, times, wide, section};
-ghost use Rattle.bflan.specs.Layout.{number, _⨾_, written, ended, sectionLay};
-ghost use Rattle.bflan.specs.Reading.{pai1};
-ghost use Rattle.bflan.specs.Stored.{Ready, laid, behind, listed, frameLay, namesLay};
+ghost use Rattle.bflan.specs.Judge.{nextText, times, wide};
+ghost use Rattle.bflan.specs.pai1.Judge.{section};
+ghost use Rattle.bflan.specs.Layout.{number, _⨾_, written, ended};
+ghost use Rattle.bflan.specs.pai1.Layout.{sectionLay};
+ghost use Rattle.bflan.specs.pai1.Reading.{pai1};
+ghost use Rattle.bflan.specs.inner.Pen.{Ready, laid, penBehind, listed};
+ghost use Rattle.bflan.specs.inner.LayoutParts.{frameLay, namesLay};
 use crate::judge::word::word_of;
-use crate::section::PAI1;
+use crate::reader::section::PAI1;
 use crate::writer::Pen;
 use crate::writer::content::put_contents;
 use crate::writer::field::put_byte;
@@ -24,9 +27,9 @@ use core::placeholder::write_placeholders_u32;
 
 // `n` texture names from the next word on, behind the table of their offsets, which count from `base`.
 fn put_textures(words: &[u32], texts: &[u8], n: usize, base: usize, pen: Pen, out: &mut [u8]) -> Pen
-    requires { ⌜ (base ≤ pen .at) × Ready (listed ended (pen .at + 4 * n - base)) (times n (text (wide 4)) (now words) (now texts) (pen .word) (pen .byte)) (pen .at) (length (now out)) ⌝ }
-    ensures { λ r. ⌜ (r ≡ behind (listed ended (pen .at + 4 * n - base)) (times n (text (wide 4)) (now (words .entry)) (now (texts .entry)) (pen .word) (pen .byte)) (pen .at))
-        × (now (out .exit) ≡ laid (listed ended (pen .at + 4 * n - base)) (times n (text (wide 4)) (now (words .entry)) (now (texts .entry)) (pen .word) (pen .byte)) (pen .at) (now (out .entry))) ⌝ }
+    requires { ⌜ (base ≤ pen .at) × Ready (listed ended (pen .at + 4 * n - base)) (times n (nextText (wide 4)) (now words) (now texts) (pen .word) (pen .byte)) (pen .at) (length (now out)) ⌝ }
+    ensures { λ r. ⌜ (r ≡ penBehind (listed ended (pen .at + 4 * n - base)) (times n (nextText (wide 4)) (now (words .entry)) (now (texts .entry)) (pen .word) (pen .byte)) (pen .at))
+        × (now (out .exit) ≡ laid (listed ended (pen .at + 4 * n - base)) (times n (nextText (wide 4)) (now (words .entry)) (now (texts .entry)) (pen .word) (pen .byte)) (pen .at) (now (out .entry))) ⌝ }
 {
     let table = write_placeholders_u32(out, pen.at, n);
     let mut i = 0;
@@ -45,9 +48,9 @@ fn put_textures(words: &[u32], texts: &[u8], n: usize, base: usize, pen: Pen, ou
 
 // The `n` texture names of a section, and zeros up to a multiple of 4.
 fn put_names(words: &[u32], texts: &[u8], n: usize, out: &mut [u8]) -> Pen
-    requires { ⌜ Ready namesLay (times n (text (wide 4)) (now words) (now texts) 4 0) 20 (length (now out)) ⌝ }
-    ensures { λ r. ⌜ (r ≡ behind namesLay (times n (text (wide 4)) (now (words .entry)) (now (texts .entry)) 4 0) 20)
-        × (now (out .exit) ≡ laid namesLay (times n (text (wide 4)) (now (words .entry)) (now (texts .entry)) 4 0) 20 (now (out .entry))) ⌝ }
+    requires { ⌜ Ready namesLay (times n (nextText (wide 4)) (now words) (now texts) 4 0) 20 (length (now out)) ⌝ }
+    ensures { λ r. ⌜ (r ≡ penBehind namesLay (times n (nextText (wide 4)) (now (words .entry)) (now (texts .entry)) 4 0) 20)
+        × (now (out .exit) ≡ laid namesLay (times n (nextText (wide 4)) (now (words .entry)) (now (texts .entry)) 4 0) 20 (now (out .entry))) ⌝ }
 {
     let start = Pen {
         word: 4,

@@ -4,10 +4,13 @@ ghost use mathlib.Core.List.{[]};
 ghost use Prim.Native.Nat.{_+_, _-_, _*_, _<_, _≤_};
 ghost use lib.ListN.{length};
 ghost use lib.Seq.{sets};
-ghost use Rattle.bflan.specs.Judge.{times, row, target};
-ghost use Rattle.bflan.specs.Layout.{written, parts, keyLay, targetLay};
-ghost use Rattle.bflan.specs.Record.{keyWidths};
-ghost use Rattle.bflan.specs.Stored.{Ready, laid, behind, listed, targetHead};
+ghost use Rattle.bflan.specs.Judge.{times, row};
+ghost use Rattle.bflan.specs.pai1.Judge.{target};
+ghost use Rattle.bflan.specs.Layout.{written, parts};
+ghost use Rattle.bflan.specs.pai1.Layout.{keyLay, targetLay};
+ghost use Rattle.bflan.specs.pai1.Record.{keyWidths};
+ghost use Rattle.bflan.specs.inner.Pen.{Ready, laid, penBehind, listed};
+ghost use Rattle.bflan.specs.inner.LayoutParts.{targetHead};
 use crate::judge::word::word_of;
 use crate::writer::Pen;
 use crate::writer::field::put_byte;
@@ -35,7 +38,7 @@ fn put_head(out: &mut [u8], at: usize, layer: u32, number: u32, curve: u32, n: u
 // `n` keys of a curve from the next word on.
 fn put_keys(words: &[u32], curve: u32, n: usize, pen: Pen, out: &mut [u8]) -> Pen
     requires { ⌜ (curve < 3) × (pen .word ≤ length (now words)) × Ready (parts (keyLay curve)) (times n (row (keyWidths curve)) (now words) [] (pen .word) (pen .byte)) (pen .at) (length (now out)) ⌝ }
-    ensures { λ r. ⌜ (r ≡ behind (parts (keyLay curve)) (times n (row (keyWidths curve)) (now (words .entry)) [] (pen .word) (pen .byte)) (pen .at))
+    ensures { λ r. ⌜ (r ≡ penBehind (parts (keyLay curve)) (times n (row (keyWidths curve)) (now (words .entry)) [] (pen .word) (pen .byte)) (pen .at))
         × (now (out .exit) ≡ laid (parts (keyLay curve)) (times n (row (keyWidths curve)) (now (words .entry)) [] (pen .word) (pen .byte)) (pen .at) (now (out .entry))) ⌝ }
 {
     let i = pen.word;
@@ -67,7 +70,7 @@ fn put_keys(words: &[u32], curve: u32, n: usize, pen: Pen, out: &mut [u8]) -> Pe
 // A target from the next word on.
 fn put_target(words: &[u32], letters: u32, pen: Pen, out: &mut [u8]) -> Pen
     requires { ⌜ Ready targetLay (target letters (now words) [] (pen .word) (pen .byte)) (pen .at) (length (now out)) ⌝ }
-    ensures { λ r. ⌜ (r ≡ behind targetLay (target letters (now (words .entry)) [] (pen .word) (pen .byte)) (pen .at))
+    ensures { λ r. ⌜ (r ≡ penBehind targetLay (target letters (now (words .entry)) [] (pen .word) (pen .byte)) (pen .at))
         × (now (out .exit) ≡ laid targetLay (target letters (now (words .entry)) [] (pen .word) (pen .byte)) (pen .at) (now (out .entry))) ⌝ }
 {
     let i = pen.word;
@@ -95,7 +98,7 @@ pub(crate) fn put_targets(
     out: &mut [u8],
 ) -> Pen
     requires { ⌜ (base ≤ pen .at) × Ready (listed targetLay (pen .at + 4 * n - base)) (times n (target letters) (now words) [] (pen .word) (pen .byte)) (pen .at) (length (now out)) ⌝ }
-    ensures { λ r. ⌜ (r ≡ behind (listed targetLay (pen .at + 4 * n - base)) (times n (target letters) (now (words .entry)) [] (pen .word) (pen .byte)) (pen .at))
+    ensures { λ r. ⌜ (r ≡ penBehind (listed targetLay (pen .at + 4 * n - base)) (times n (target letters) (now (words .entry)) [] (pen .word) (pen .byte)) (pen .at))
         × (now (out .exit) ≡ laid (listed targetLay (pen .at + 4 * n - base)) (times n (target letters) (now (words .entry)) [] (pen .word) (pen .byte)) (pen .at) (now (out .entry))) ⌝ }
 {
     let table = write_placeholders_u32(out, pen.at, n);

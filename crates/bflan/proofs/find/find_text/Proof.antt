@@ -5,7 +5,7 @@ use Rattle.bflan.proofs.find.find_text.Statement.{statement}
 use Rattle.bflan.proofs.find.find_text.Tie as tie
 use mathlib.Core.Path.{sym, _∙_}
 use native.Mathlib.Omega.{arith}
-use Rattle.bflan.proofs.Answers.{finding-long, finding-stop, finding-none, finding-inside, finding-there}
+use Rattle.bflan.proofs.read.Answers.{finding-long, finding-stop, finding-none, finding-inside, finding-there}
 
 returns : tie.Need-returns
 returns c = finding-long _ _ _ (c .if1 .taken)

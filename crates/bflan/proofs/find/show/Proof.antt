@@ -11,9 +11,9 @@ use denote.Ref.{now}
 use lib.ListN.{length}
 use lib.Seq.{slice, sets, length-slice}
 use Rattle.core.specs.Utf8.{decode, wellFormed}
-use Rattle.bflan.specs.Walk.{shownAt}
-use Rattle.bflan.proofs.Emits.{shown-size, shown-part}
-use Rattle.bflan.proofs.Answers.{shown-well, shown-short, shown-decoded}
+use Rattle.bflan.specs.Items.{shownAt}
+use Rattle.bflan.proofs.reader.Emits.{shown-size, shown-part}
+use Rattle.bflan.proofs.read.Answers.{shown-well, shown-short, shown-decoded}
 
 judged : (c : tie.After-well-formed) → c .well-formed .result ≡ wellFormed (slice (c .before .before .before .before .args .start) (c .before .before .before .before .args .start + c .before .before .before .before .args .len) (now (c .before .before .before .before .args .s)))
 judged c = c .well-formed .ensures ∙ ap wellFormed (shown-part (now (c .before .before .before .before .args .s)) (c .before .before .before .before .args .start) (c .before .before .before .before .args .len))

@@ -6,7 +6,7 @@ use Rattle.bflan.proofs.find.text_part.Tie as tie
 use mathlib.Core.Path.{_∙_}
 use mathlib.Core.Logic.{⊎-elim}
 use native.Mathlib.Omega.{arith}
-use Rattle.bflan.proofs.Answers.{part-section, part-scratch, part-nowhere}
+use Rattle.bflan.proofs.read.Answers.{part-section, part-scratch, part-nowhere}
 
 part-requires : tie.Need-part-requires
 part-requires c κs = search needs

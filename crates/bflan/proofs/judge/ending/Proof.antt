@@ -5,7 +5,7 @@ use Rattle.bflan.proofs.judge.ending.Statement.{statement}
 use Rattle.bflan.proofs.judge.ending.Tie as tie
 use mathlib.Core.Path.{sym, _∙_}
 use denote.Ref.{now}
-use Rattle.bflan.proofs.MeasureParts.{ending-word, ending-text, ending-fine}
+use Rattle.bflan.proofs.judge.JudgeParts.{ending-word, ending-text, ending-fine}
 
 contents-requires : tie.Need-contents-requires
 contents-requires c κs = search needs

@@ -3,7 +3,7 @@
 use Rattle.bflan.proofs.judge.ends.Statement.{statement}
 use Rattle.bflan.proofs.judge.ends.Tie as tie
 use denote.Ref.{now}
-use Rattle.bflan.proofs.MeasureParts.{ends-word, ends-text, ends-fine}
+use Rattle.bflan.proofs.judge.JudgeParts.{ends-word, ends-text, ends-fine}
 
 returns : tie.Need-returns
 returns c = ends-word (now (c .before .args .words)) (now (c .before .args .texts)) (c .before .args .i) (c .before .args .j) (c .if1 .taken)

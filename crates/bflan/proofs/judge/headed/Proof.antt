@@ -5,7 +5,7 @@ use Rattle.bflan.proofs.judge.headed.Statement.{statement}
 use Rattle.bflan.proofs.judge.headed.Tie as tie
 use mathlib.Core.Path.{sym, _∙_}
 use denote.Ref.{now}
-use Rattle.bflan.proofs.MeasureParts.{headed-word, headed-text, headed-fine}
+use Rattle.bflan.proofs.judge.JudgeParts.{headed-word, headed-text, headed-fine}
 
 textures-requires : tie.Need-textures-requires
 textures-requires c κs = search needs

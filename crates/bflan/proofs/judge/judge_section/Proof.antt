@@ -9,11 +9,12 @@ use borrow.Author.Tests.{ltb-true}
 use denote.Ref.{now}
 use lib.ListN.{getD}
 use Rattle.bflan.specs.Judge.{Judged, wide}
-use Rattle.bflan.specs.Layout.{size, sectionLay}
-use Rattle.bflan.specs.Measure.{measured}
-use Rattle.bflan.specs.Record.{PaneAnimInfo}
-use Rattle.bflan.proofs.Measures.{held, failed, fits-most, fits-holds}
-use Rattle.bflan.proofs.MeasureParts.{section-first, section-second, section-third, section-fourth, section-whole}
+use Rattle.bflan.specs.Layout.{size}
+use Rattle.bflan.specs.pai1.Layout.{sectionLay}
+use Rattle.bflan.specs.inner.Measure.{verdictOf}
+use Rattle.bflan.specs.pai1.Record.{PaneAnimInfo}
+use Rattle.bflan.proofs.judge.Measures.{held, failed, fits-most, fits-holds}
+use Rattle.bflan.proofs.judge.JudgeParts.{section-first, section-second, section-third, section-fourth, section-whole}
 
 below-requires : tie.Need-below-requires
 below-requires c κs = search needs
@@ -58,7 +59,7 @@ headed-requires c κs =
     (omega (arith, t, c .before .word-of .ensures), omega (arith, d, c .word-of2 .ensures))
 
 returns-5 : tie.Need-returns-5
-returns-5 c = c .headed .ensures (getD (now (c .before .before .before .before .before .before .before .before .before .before .before .before .before .args .words)) 0 0) (getD (now (c .before .before .before .before .before .before .before .before .before .before .before .before .before .args .words)) 1 0) ∙ ap (λ (r : Judged PaneAnimInfo). measured (λ (a : PaneAnimInfo). size (sectionLay a)) r) (section-whole (now (c .before .before .before .before .before .before .before .before .before .before .before .before .before .args .words)) (now (c .before .before .before .before .before .before .before .before .before .before .before .before .before .args .texts)) (held _ _ (c .before .before .before .before .before .before .before .before .before .before .below .ensures) (c .before .before .before .before .before .before .before .before .before .if1 .left)) (sym (fits-most 1 (now (c .before .before .before .before .before .before .before .before .before .before .before .before .before .args .words)) 1) ∙ (held _ _ (c .before .before .before .before .before .before .before .before .below2 .ensures) (c .before .before .before .before .before .before .before .if2 .left))) (held _ _ (c .before .before .before .before .before .before .below3 .ensures) (c .before .before .before .before .before .if3 .left)) (held _ _ (c .before .before .before .before .below4 .ensures) (c .before .before .before .if4 .left)) _ _ (c .before .before .word-of .ensures) (c .before .word-of2 .ensures))
+returns-5 c = c .headed .ensures (getD (now (c .before .before .before .before .before .before .before .before .before .before .before .before .before .args .words)) 0 0) (getD (now (c .before .before .before .before .before .before .before .before .before .before .before .before .before .args .words)) 1 0) ∙ ap (λ (r : Judged PaneAnimInfo). verdictOf (λ (a : PaneAnimInfo). size (sectionLay a)) r) (section-whole (now (c .before .before .before .before .before .before .before .before .before .before .before .before .before .args .words)) (now (c .before .before .before .before .before .before .before .before .before .before .before .before .before .args .texts)) (held _ _ (c .before .before .before .before .before .before .before .before .before .before .below .ensures) (c .before .before .before .before .before .before .before .before .before .if1 .left)) (sym (fits-most 1 (now (c .before .before .before .before .before .before .before .before .before .before .before .before .before .args .words)) 1) ∙ (held _ _ (c .before .before .before .before .before .before .before .before .below2 .ensures) (c .before .before .before .before .before .before .before .if2 .left))) (held _ _ (c .before .before .before .before .before .before .below3 .ensures) (c .before .before .before .before .before .if3 .left)) (held _ _ (c .before .before .before .before .below4 .ensures) (c .before .before .before .if4 .left)) _ _ (c .before .before .word-of .ensures) (c .before .word-of2 .ensures))
 
 pub judge-section-spec : {M : Type 1} → statement M
 judge-section-spec =

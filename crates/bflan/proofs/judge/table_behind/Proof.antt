@@ -6,9 +6,9 @@ use Rattle.bflan.proofs.judge.table_behind.Tie as tie
 use Prim.Native.Nat.{ℕ, _+_, _*_}
 use mathlib.Core.Path.{_≡_, ap, _∙_}
 use native.Mathlib.Omega.{arith}
-use Rattle.bflan.specs.MeasureParts.{filledUp}
-use Rattle.bflan.specs.Walk.{sat}
-use Rattle.bflan.proofs.Measures.{sat-filled}
+use Rattle.bflan.specs.inner.Measure.{filledUp}
+use Rattle.bflan.specs.inner.Walk.{sat}
+use Rattle.bflan.proofs.judge.Measures.{sat-filled}
 
 mul-add : tie.Need-mul-add
 mul-add c = search needs

@@ -1,5 +1,5 @@
 use mathlib.Core.Path.{_∙_, sym}
-use Rattle.bflan.proofs.Codes.{letters-by}
+use Rattle.bflan.proofs.letters.Codes.{letters-by}
 use borrow.Author.Needs.{needs}
 use Rattle.bflan.proofs.letters.letters_of.Statement.{statement}
 use Rattle.bflan.proofs.letters.letters_of.Tie as tie

@@ -4,7 +4,7 @@ use borrow.Author.Needs.{needs}
 use Rattle.bflan.proofs.letters.target_fits.Statement.{statement}
 use Rattle.bflan.proofs.letters.target_fits.Tie as tie
 use mathlib.Core.Path.{sym, _∙_}
-use Rattle.bflan.proofs.Codes.{target-fits-by}
+use Rattle.bflan.proofs.letters.Codes.{target-fits-by}
 
 kind-of-requires : tie.Need-kind-of-requires
 kind-of-requires c κs = search needs

@@ -3,7 +3,7 @@
 use borrow.Author.Needs.{needs}
 use Rattle.bflan.proofs.place.after_data.Statement.{statement}
 use Rattle.bflan.proofs.place.after_data.Tie as tie
-use Rattle.bflan.proofs.Locating.{after-on, after-no}
+use Rattle.bflan.proofs.place.Locating.{after-on, after-no}
 
 slice-aggregate-data : tie.Need-slice-aggregate-data
 slice-aggregate-data c = search needs

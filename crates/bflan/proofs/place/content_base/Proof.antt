@@ -3,7 +3,7 @@
 use borrow.Author.Needs.{needs}
 use Rattle.bflan.proofs.place.content_base.Statement.{statement}
 use Rattle.bflan.proofs.place.content_base.Tie as tie
-use Rattle.bflan.proofs.Locating.{content-yes, content-no}
+use Rattle.bflan.proofs.place.Locating.{content-yes, content-no}
 
 half-at-requires : tie.Need-half-at-requires
 half-at-requires c κs = search needs

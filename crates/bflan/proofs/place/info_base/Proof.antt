@@ -3,7 +3,7 @@
 use borrow.Author.Needs.{needs}
 use Rattle.bflan.proofs.place.info_base.Statement.{statement}
 use Rattle.bflan.proofs.place.info_base.Tie as tie
-use Rattle.bflan.proofs.Locating.{info-yes, info-no}
+use Rattle.bflan.proofs.place.Locating.{info-yes, info-no}
 
 add-byte-at : tie.Need-add-byte-at
 add-byte-at c = search needs

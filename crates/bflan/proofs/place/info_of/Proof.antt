@@ -4,7 +4,7 @@ use borrow.Author.Needs.{needs}
 use Rattle.bflan.proofs.place.info_of.Statement.{statement}
 use Rattle.bflan.proofs.place.info_of.Tie as tie
 use mathlib.Core.Path.{sym, _∙_}
-use Rattle.bflan.proofs.Locating.{content-from, info-on, info-off}
+use Rattle.bflan.proofs.place.Locating.{content-from, info-on, info-off}
 
 content-base-requires : tie.Need-content-base-requires
 content-base-requires c κs = search needs

@@ -5,7 +5,7 @@ use Rattle.bflan.proofs.place.info_table.Statement.{statement}
 use Rattle.bflan.proofs.place.info_table.Tie as tie
 use mathlib.Core.Path.{sym, _∙_}
 use native.Mathlib.Omega.{arith}
-use Rattle.bflan.proofs.Locating.{table-user, table-plain}
+use Rattle.bflan.proofs.place.Locating.{table-user, table-plain}
 
 add-byte-at : tie.Need-add-byte-at
 add-byte-at c = search needs

@@ -4,7 +4,7 @@ use borrow.Author.Needs.{needs}
 use Rattle.bflan.proofs.place.key_in.Statement.{statement}
 use Rattle.bflan.proofs.place.key_in.Tie as tie
 use native.Mathlib.Omega.{arith}
-use Rattle.bflan.proofs.Locating.{key-above, key-none, key-there, key-fits}
+use Rattle.bflan.proofs.place.Locating.{key-above, key-none, key-there, key-fits}
 
 add-byte-at : tie.Need-add-byte-at
 add-byte-at c = search needs

@@ -4,7 +4,7 @@ use borrow.Author.Needs.{needs}
 use Rattle.bflan.proofs.place.key_under.Statement.{statement}
 use Rattle.bflan.proofs.place.key_under.Tie as tie
 use mathlib.Core.Path.{sym, _∙_}
-use Rattle.bflan.proofs.Locating.{target-from, key-to, key-missing}
+use Rattle.bflan.proofs.place.Locating.{target-from, key-to, key-missing}
 
 target-base-requires : tie.Need-target-base-requires
 target-base-requires c κs = search needs

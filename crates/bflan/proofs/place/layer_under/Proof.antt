@@ -4,7 +4,7 @@ use borrow.Author.Needs.{needs}
 use Rattle.bflan.proofs.place.layer_under.Statement.{statement}
 use Rattle.bflan.proofs.place.layer_under.Tie as tie
 use mathlib.Core.Path.{sym, _∙_}
-use Rattle.bflan.proofs.Locating.{layer-to, layer-none}
+use Rattle.bflan.proofs.place.Locating.{layer-to, layer-none}
 
 target-base-requires : tie.Need-target-base-requires
 target-base-requires c κs = search needs

@@ -4,7 +4,7 @@ use borrow.Author.Needs.{needs}
 use Rattle.bflan.proofs.place.locate.Statement.{statement}
 use Rattle.bflan.proofs.place.locate.Tie as tie
 use native.Mathlib.Omega.{arith}
-use Rattle.bflan.proofs.Locating.{locating-long, locating-stop, locating-on, locating-section}
+use Rattle.bflan.proofs.place.Locating.{locating-long, locating-stop, locating-on, locating-section}
 
 returns : tie.Need-returns
 returns c = locating-long _ _ (c .if1 .taken)

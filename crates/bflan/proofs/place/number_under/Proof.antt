@@ -5,7 +5,7 @@ use Rattle.bflan.proofs.place.number_under.Statement.{statement}
 use Rattle.bflan.proofs.place.number_under.Tie as tie
 use mathlib.Core.Path.{sym, _∙_}
 use native.Mathlib.Omega.{arith}
-use Rattle.bflan.proofs.Locating.{target-from, number-to, number-none}
+use Rattle.bflan.proofs.place.Locating.{target-from, number-to, number-none}
 
 target-base-requires : tie.Need-target-base-requires
 target-base-requires c κs = search needs

@@ -6,9 +6,9 @@ use Rattle.bflan.proofs.place.path.Tie as tie
 use mathlib.Core.Path.{sym, ap, _∙_}
 use denote.Ref.{now}
 use Rattle.bflan.specs.declared.place.Place.{Place}
-use Rattle.bflan.specs.Locating.{ofSpot}
-use Rattle.bflan.specs.Places.{locate}
-use Rattle.bflan.proofs.Locating.{path-from, at-layer, no-layer, at-number, no-number, at-key, no-key, at-value, no-value}
+use Rattle.bflan.specs.pai1.Locating.{ofSpot}
+use Rattle.bflan.specs.pai1.Places.{locate}
+use Rattle.bflan.proofs.place.Locating.{path-from, at-layer, no-layer, at-number, no-number, at-key, no-key, at-value, no-value}
 
 enum-told : tie.Need-enum-told
 enum-told c = search needs

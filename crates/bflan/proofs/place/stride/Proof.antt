@@ -4,10 +4,10 @@ use Rattle.bflan.proofs.place.stride.Statement.{statement}
 use Rattle.bflan.proofs.place.stride.Tie as tie
 use mathlib.Core.Path.{sym, ap}
 use mathlib.Core.List.{[]}
-use Rattle.bflan.specs.Layout.{keySkip}
-use Rattle.bflan.specs.Places.{total, stride}
-use Rattle.bflan.specs.Record.{keyWidths}
-use Rattle.bflan.proofs.Locating.{stride-rest}
+use Rattle.bflan.specs.pai1.Layout.{keySkip}
+use Rattle.bflan.specs.pai1.Places.{total, stride}
+use Rattle.bflan.specs.pai1.Record.{keyWidths}
+use Rattle.bflan.proofs.place.Locating.{stride-rest}
 
 returns : tie.Need-returns
 unfolding stride total keyWidths keySkip

@@ -6,8 +6,8 @@ use Rattle.bflan.proofs.place.target_base.Tie as tie
 use mathlib.Core.Path.{_∙_}
 use native.Mathlib.Omega.{arith}
 use Rattle.core.specs.Number.{val}
-use Rattle.bflan.specs.Letters.{fleu}
-use Rattle.bflan.proofs.Locating.{target-fleu, target-yes, target-no}
+use Rattle.bflan.specs.pai1.Letters.{fleu}
+use Rattle.bflan.proofs.place.Locating.{target-fleu, target-yes, target-no}
 
 word-at-requires : tie.Need-word-at-requires
 word-at-requires c κs = search needs

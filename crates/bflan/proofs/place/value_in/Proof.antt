@@ -4,7 +4,7 @@ use borrow.Author.Needs.{needs}
 use Rattle.bflan.proofs.place.value_in.Statement.{statement}
 use Rattle.bflan.proofs.place.value_in.Tie as tie
 use native.Mathlib.Omega.{arith}
-use Rattle.bflan.proofs.Locating.{value-list, value-none, value-there, value-most}
+use Rattle.bflan.proofs.place.Locating.{value-list, value-none, value-there, value-most}
 
 add-offset-at : tie.Need-add-offset-at
 add-offset-at c = search needs

@@ -4,7 +4,7 @@ use borrow.Author.Needs.{needs}
 use Rattle.bflan.proofs.place.value_under.Statement.{statement}
 use Rattle.bflan.proofs.place.value_under.Tie as tie
 use mathlib.Core.Path.{sym, _∙_}
-use Rattle.bflan.proofs.Locating.{datum-from, value-to, value-missing}
+use Rattle.bflan.proofs.place.Locating.{datum-from, value-to, value-missing}
 
 datum-base-requires : tie.Need-datum-base-requires
 datum-base-requires c κs = search needs

@@ -3,7 +3,7 @@
 use borrow.Author.Needs.{needs}
 use Rattle.bflan.proofs.read.measure.Statement.{statement}
 use Rattle.bflan.proofs.read.measure.Tie as tie
-use Rattle.bflan.proofs.Answers.{measured}
+use Rattle.bflan.proofs.read.Answers.{measured}
 
 slice-aggregate-section-at : tie.Need-slice-aggregate-section-at
 slice-aggregate-section-at c = search needs

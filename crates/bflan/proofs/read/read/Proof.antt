@@ -5,7 +5,7 @@ use Rattle.bflan.proofs.read.read.Statement.{statement}
 use Rattle.bflan.proofs.read.read.Tie as tie
 use mathlib.Core.Path.{sym, _∙_}
 use native.Mathlib.Omega.{arith}
-use Rattle.bflan.proofs.Answers.{reading-long, reading-stop, reading-on, reading-words, reading-texts}
+use Rattle.bflan.proofs.read.Answers.{reading-long, reading-stop, reading-on, reading-words, reading-texts}
 
 returns : tie.Need-returns
 returns c = reading-long _ _ _ (c .if1 .taken)

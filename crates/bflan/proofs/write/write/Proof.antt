@@ -2,7 +2,7 @@
 -- Assumes nothing.
 use mathlib.Core.Path.{sym, _∙_}
 use denote.Ref.{now}
-use Rattle.bflan.proofs.WriteAnswers.{answer-word, answer-text, answer-over, answer-short, section-ready, answer-written}
+use Rattle.bflan.proofs.writer.WriteAnswers.{answer-word, answer-text, answer-over, answer-short, section-ready, answer-written}
 use borrow.Author.Needs.{needs}
 use Rattle.bflan.proofs.write.write.Statement.{statement}
 use Rattle.bflan.proofs.write.write.Tie as tie

@@ -9,7 +9,7 @@ use mathlib.Core.List.{List}
 use denote.Ref.{now}
 use lib.Seq.{sets}
 use Rattle.bflan.specs.Layout.{written, row}
-use Rattle.bflan.specs.Places.{fit}
+use Rattle.bflan.specs.pai1.Places.{fit}
 use Rattle.edit.specs.Editing.{valuesOf}
 use Rattle.edit.proofs.Changes.{size-room, spot-unfit, spot-full, spot-edited}
 

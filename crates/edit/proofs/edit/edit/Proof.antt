@@ -5,8 +5,8 @@ use Rattle.edit.proofs.edit.edit.Statement.{statement}
 use Rattle.edit.proofs.edit.edit.Tie as tie
 use mathlib.Core.Path.{sym, ap, _∙_}
 use denote.Ref.{now}
-use Rattle.bflan.specs.Locating.{locating}
-use Rattle.bflan.proofs.Locating.{spotted}
+use Rattle.bflan.specs.pai1.Locating.{locating}
+use Rattle.bflan.proofs.place.Locating.{spotted}
 use Rattle.edit.proofs.Changes.{spot-widths, edit-long, edit-refused, edit-nowhere, edit-there}
 
 place-of-requires : tie.Need-place-of-requires

@@ -4,7 +4,7 @@ use borrow.Author.Needs.{needs}
 use Rattle.edit.proofs.field.field_at.Statement.{statement}
 use Rattle.edit.proofs.field.field_at.Tie as tie
 use mathlib.Core.Path.{sym, ap, _∙_}
-use Rattle.bflan.proofs.Locating.{spotted}
+use Rattle.bflan.proofs.place.Locating.{spotted}
 use Rattle.edit.specs.declared.field.FieldAnswer.the-variants.{Is}
 use Rattle.edit.specs.FieldAt.{atLocated}
 use Rattle.edit.proofs.FieldAt.{field-by}

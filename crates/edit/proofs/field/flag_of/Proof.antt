@@ -4,7 +4,7 @@ use borrow.Author.Needs.{needs}
 use Rattle.edit.proofs.field.flag_of.Statement.{statement}
 use Rattle.edit.proofs.field.flag_of.Tie as tie
 use borrow.Author.Tests.{ne-eqb}
-use Rattle.bflan.specs.Reading.{flagOf}
+use Rattle.bflan.specs.pai1.Reading.{flagOf}
 
 returns : tie.Need-returns
 unfolding flagOf

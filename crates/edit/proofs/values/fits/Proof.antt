@@ -4,7 +4,7 @@ use borrow.Author.Needs.{needs}
 use Rattle.edit.proofs.values.fits.Statement.{statement}
 use Rattle.edit.proofs.values.fits.Tie as tie
 use mathlib.Core.Path.{sym, ap, _∙_}
-use Rattle.bflan.specs.Places.{fit}
+use Rattle.bflan.specs.pai1.Places.{fit}
 use Rattle.bflan.specs.declared.place.Field.{Field}
 use Rattle.edit.specs.Packing.{valuesIn}
 use Rattle.edit.proofs.Changes.{fit-frames, fit-looping, fit-layer, fit-value}

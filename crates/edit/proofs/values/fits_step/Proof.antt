@@ -6,7 +6,7 @@ use Rattle.edit.proofs.values.fits_step.Tie as tie
 use native.Mathlib.Omega.{arith}
 use mathlib.Core.List.{[], _∷_}
 use mathlib.Core.Path.{sym, ap, _∙_}
-use Rattle.bflan.specs.Places.{fitWidths}
+use Rattle.bflan.specs.pai1.Places.{fitWidths}
 use Rattle.edit.specs.declared.values.Values.{Values}
 use Rattle.edit.specs.Packing.{valuesIn}
 use Rattle.edit.proofs.Changes.{step-one, step-two, step-three}

@@ -4,7 +4,7 @@ use borrow.Author.Needs.{needs}
 use Rattle.edit.proofs.values.fits_target.Statement.{statement}
 use Rattle.edit.proofs.values.fits_target.Tie as tie
 use mathlib.Core.Path.{sym, ap, _∙_}
-use Rattle.bflan.specs.Places.{fit}
+use Rattle.bflan.specs.pai1.Places.{fit}
 use Rattle.bflan.specs.declared.place.Field.the-variants.{Target}
 use Rattle.edit.specs.declared.values.Values.{Values}
 use Rattle.edit.specs.Packing.{valuesIn}

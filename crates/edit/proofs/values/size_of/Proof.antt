@@ -6,8 +6,8 @@ use Rattle.edit.proofs.values.size_of.Tie as tie
 use Prim.Native.Nat.{ℕ}
 use mathlib.Core.Path.{sym, ap, _∙_}
 use Rattle.bflan.specs.declared.place.Field.{Field}
-use Rattle.bflan.specs.Places.{widths, total}
-use Rattle.bflan.specs.Record.{keyWidths}
+use Rattle.bflan.specs.pai1.Places.{widths, total}
+use Rattle.bflan.specs.pai1.Record.{keyWidths}
 use Rattle.edit.proofs.Changes.{size-rest}
 
 enum-told : tie.Need-enum-told

@@ -5,7 +5,7 @@ use Rattle.bflan.proofs.judge.content.content.Statement.{statement}
 use Rattle.bflan.proofs.judge.content.content.Tie as tie
 use mathlib.Core.Path.{sym, _∙_}
 use denote.Ref.{now}
-use Rattle.bflan.proofs.MeasureParts.{content-word, content-text, content-fine}
+use Rattle.bflan.proofs.judge.JudgeParts.{content-word, content-text, content-fine}
 
 name-requires : tie.Need-name-requires
 name-requires c κs = search needs

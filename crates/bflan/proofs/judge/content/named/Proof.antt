@@ -9,9 +9,9 @@ use native.Mathlib.Omega.{arith}
 use denote.Ref.{now}
 use lib.Dec.{ltb}
 use Rattle.bflan.specs.Judge.{wide}
-use Rattle.bflan.specs.MeasureParts.{grown, padded}
-use Rattle.bflan.proofs.Measures.{held, failed, fits-there, fits-most}
-use Rattle.bflan.proofs.MeasureParts.{table-le, named-first, named-second, named-whole}
+use Rattle.bflan.specs.inner.Measure.{grown, padded}
+use Rattle.bflan.proofs.judge.Measures.{held, failed, fits-there, fits-most}
+use Rattle.bflan.proofs.judge.JudgeParts.{table-le, named-first, named-second, named-whole}
 
 below-requires : tie.Need-below-requires
 below-requires c κs = search needs

@@ -3,7 +3,7 @@
 use Rattle.bflan.proofs.judge.content.table_from.Statement.{statement}
 use Rattle.bflan.proofs.judge.content.table_from.Tie as tie
 use borrow.Author.Tests.{eq-eqb, ne-eqb}
-use Rattle.bflan.specs.Layout.{tableFrom}
+use Rattle.bflan.specs.pai1.Layout.{tableFrom}
 
 returns : tie.Need-returns
 unfolding tableFrom

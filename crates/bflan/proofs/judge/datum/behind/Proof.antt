@@ -5,7 +5,7 @@ use Rattle.bflan.proofs.judge.datum.behind.Statement.{statement}
 use Rattle.bflan.proofs.judge.datum.behind.Tie as tie
 use mathlib.Core.Path.{sym, _∙_}
 use denote.Ref.{now}
-use Rattle.bflan.proofs.MeasureParts.{behind-word, behind-text, behind-fine}
+use Rattle.bflan.proofs.judge.JudgeParts.{behind-word, behind-text, behind-fine}
 
 run-requires : tie.Need-run-requires
 run-requires c κs = search needs

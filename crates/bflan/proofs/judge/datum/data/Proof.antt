@@ -7,16 +7,18 @@ use Prim.Native.Nat.{_≤_}
 use mathlib.Core.Path.{_≡_, sym, _∙_}
 use native.Mathlib.Omega.{arith}
 use denote.Ref.{now}
-use Rattle.bflan.specs.Judge.{datum, times}
-use Rattle.bflan.specs.Layout.{size, parts, datumLay}
-use Rattle.bflan.specs.Measure.{measured}
-use Rattle.bflan.specs.MeasureParts.{grown}
-use Rattle.bflan.proofs.Measures.{loop-start, loop-on, loop-word, loop-text, loop-end}
+use Rattle.bflan.specs.pai1.Judge.{datum}
+use Rattle.bflan.specs.Judge.{times}
+use Rattle.bflan.specs.Layout.{size, parts}
+use Rattle.bflan.specs.pai1.Layout.{datumLay}
+use Rattle.bflan.specs.inner.Measure.{verdictOf}
+use Rattle.bflan.specs.inner.Measure.{grown}
+use Rattle.bflan.proofs.judge.Measures.{loop-start, loop-on, loop-word, loop-text, loop-end}
 
 abbrev Inv-loop : tie.InvT-loop
 Inv-loop words texts i j n left₀ at₀ to₀ size₀ left at to k =
     (k ≤ 18446744073709551615)
-    × (grown k (measured (λ ps. size (parts datumLay ps)) (times left datum words texts at to)) ≡ measured (λ ps. size (parts datumLay ps)) (times n datum words texts i j))
+    × (grown k (verdictOf (λ ps. size (parts datumLay ps)) (times left datum words texts at to)) ≡ verdictOf (λ ps. size (parts datumLay ps)) (times n datum words texts i j))
 
 abbrev μ-loop : tie.MeasureT-loop
 μ-loop words texts i j n left₀ at₀ to₀ size₀ left at to size = left

@@ -8,8 +8,8 @@ use mathlib.Core.Path.{_∙_}
 use native.Mathlib.Omega.{arith}
 use denote.Ref.{now}
 use Rattle.bflan.specs.Judge.{wide}
-use Rattle.bflan.proofs.Measures.{held, failed, fits-there}
-use Rattle.bflan.proofs.MeasureParts.{datum-first, datum-second, datum-third, datum-fourth, datum-fifth, datum-whole}
+use Rattle.bflan.proofs.judge.Measures.{held, failed, fits-there}
+use Rattle.bflan.proofs.judge.JudgeParts.{datum-first, datum-second, datum-third, datum-fourth, datum-fifth, datum-whole}
 
 below-requires : tie.Need-below-requires
 below-requires c κs = search needs

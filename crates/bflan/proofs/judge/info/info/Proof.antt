@@ -9,9 +9,9 @@ use native.Mathlib.Omega.{arith}
 use denote.Ref.{now}
 use Rattle.core.specs.Number.{val}
 use Rattle.bflan.specs.Judge.{wide}
-use Rattle.bflan.specs.Letters.{fleu, lettersFit}
-use Rattle.bflan.proofs.Measures.{held, failed, fits-there}
-use Rattle.bflan.proofs.MeasureParts.{info-first, info-second, info-data, info-targets}
+use Rattle.bflan.specs.pai1.Letters.{fleu, lettersFit}
+use Rattle.bflan.proofs.judge.Measures.{held, failed, fits-there}
+use Rattle.bflan.proofs.judge.JudgeParts.{info-first, info-second, info-data, info-targets}
 
 letters-fit-requires : tie.Need-letters-fit-requires
 letters-fit-requires c κs = search needs

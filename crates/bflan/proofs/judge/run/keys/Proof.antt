@@ -6,7 +6,7 @@ use Rattle.bflan.proofs.judge.run.keys.Tie as tie
 use mathlib.Core.Path.{_∙_}
 use native.Mathlib.Omega.{arith}
 use denote.Ref.{now}
-use Rattle.bflan.proofs.MeasureParts.{keys-constant, keys-step, keys-hermite}
+use Rattle.bflan.proofs.judge.JudgeParts.{keys-constant, keys-step, keys-hermite}
 
 run-requires : tie.Need-run-requires
 run-requires c κs = search needs

@@ -10,13 +10,13 @@ use native.Mathlib.Omega.{arith}
 use denote.Ref.{now}
 use lib.Dec.{ltb}
 use Rattle.bflan.specs.Judge.{times, row}
-use Rattle.bflan.specs.Measure.{measured}
-use Rattle.bflan.specs.Record.{keyWidths}
-use Rattle.bflan.proofs.Measures.{fits-there}
-use Rattle.bflan.proofs.MeasureParts.{pair-first, pair-second, pair-on, pair-end, pairs-size}
+use Rattle.bflan.specs.inner.Measure.{verdictOf}
+use Rattle.bflan.specs.pai1.Record.{keyWidths}
+use Rattle.bflan.proofs.judge.Measures.{fits-there}
+use Rattle.bflan.proofs.judge.JudgeParts.{pair-first, pair-second, pair-on, pair-end, pairs-size}
 
 abbrev Inv-loop : tie.InvT-loop
-Inv-loop words i j n left₀ at₀ left at = (x : List ℕ) → measured (λ ks. 8 * n) (times left (row (keyWidths 1)) words x at j) ≡ measured (λ ks. 8 * n) (times n (row (keyWidths 1)) words x i j)
+Inv-loop words i j n left₀ at₀ left at = (x : List ℕ) → verdictOf (λ ks. 8 * n) (times left (row (keyWidths 1)) words x at j) ≡ verdictOf (λ ks. 8 * n) (times n (row (keyWidths 1)) words x i j)
 
 abbrev μ-loop : tie.MeasureT-loop
 μ-loop words i j n left₀ at₀ left at = left

@@ -5,7 +5,7 @@ use Rattle.bflan.proofs.judge.run.run.Statement.{statement}
 use Rattle.bflan.proofs.judge.run.run.Tie as tie
 use native.Mathlib.Omega.{arith}
 use denote.Ref.{now}
-use Rattle.bflan.proofs.MeasureParts.{run-there, run-short}
+use Rattle.bflan.proofs.judge.JudgeParts.{run-there, run-short}
 
 ahead-requires : tie.Need-ahead-requires
 ahead-requires c κs = search needs

@@ -3,7 +3,7 @@
 use borrow.Author.Needs.{needs}
 use Rattle.bflan.proofs.judge.size.filled_up.Statement.{statement}
 use Rattle.bflan.proofs.judge.size.filled_up.Tie as tie
-use Rattle.bflan.specs.MeasureParts.{filledUp}
+use Rattle.bflan.specs.inner.Measure.{filledUp}
 
 padding-requires : tie.Need-padding-requires
 padding-requires c κs = search needs

@@ -3,7 +3,7 @@
 use borrow.Author.Needs.{needs}
 use Rattle.bflan.proofs.judge.size.grown.Statement.{statement}
 use Rattle.bflan.proofs.judge.size.grown.Tie as tie
-use Rattle.bflan.specs.MeasureParts.{grown}
+use Rattle.bflan.specs.inner.Measure.{grown}
 
 enum-known-v : tie.Need-enum-known-v
 enum-known-v c = search needs

@@ -3,7 +3,7 @@
 use borrow.Author.Needs.{needs}
 use Rattle.bflan.proofs.judge.size.padded.Statement.{statement}
 use Rattle.bflan.proofs.judge.size.padded.Tie as tie
-use Rattle.bflan.specs.MeasureParts.{padded}
+use Rattle.bflan.specs.inner.Measure.{padded}
 
 enum-known-v : tie.Need-enum-known-v
 enum-known-v c = search needs

@@ -11,9 +11,9 @@ use denote.Ref.{now}
 use lib.Dec.{ltb}
 use lib.ListN.{getD}
 use Rattle.bflan.specs.Judge.{wide}
-use Rattle.bflan.specs.Letters.{targetFits}
-use Rattle.bflan.proofs.Measures.{held, failed, fits-there, fits-holds}
-use Rattle.bflan.proofs.MeasureParts.{target-first, target-second, target-third, target-fourth, target-whole}
+use Rattle.bflan.specs.pai1.Letters.{targetFits}
+use Rattle.bflan.proofs.judge.Measures.{held, failed, fits-there, fits-holds}
+use Rattle.bflan.proofs.judge.JudgeParts.{target-first, target-second, target-third, target-fourth, target-whole}
 
 below-requires : tie.Need-below-requires
 below-requires c κs = search needs

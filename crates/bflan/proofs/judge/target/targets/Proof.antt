@@ -8,16 +8,18 @@ use mathlib.Core.List.{List}
 use mathlib.Core.Path.{_≡_, sym, _∙_}
 use native.Mathlib.Omega.{arith}
 use denote.Ref.{now}
-use Rattle.bflan.specs.Judge.{target, times}
-use Rattle.bflan.specs.Layout.{size, parts, targetLay}
-use Rattle.bflan.specs.Measure.{measured}
-use Rattle.bflan.specs.MeasureParts.{grown}
-use Rattle.bflan.proofs.Measures.{loop-start, loop-on, loop-word, loop-text, loop-end}
+use Rattle.bflan.specs.pai1.Judge.{target}
+use Rattle.bflan.specs.Judge.{times}
+use Rattle.bflan.specs.Layout.{size, parts}
+use Rattle.bflan.specs.pai1.Layout.{targetLay}
+use Rattle.bflan.specs.inner.Measure.{verdictOf}
+use Rattle.bflan.specs.inner.Measure.{grown}
+use Rattle.bflan.proofs.judge.Measures.{loop-start, loop-on, loop-word, loop-text, loop-end}
 
 abbrev Inv-loop : tie.InvT-loop
 Inv-loop words letters i j n left₀ at₀ to₀ size₀ left at to k =
     (k ≤ 18446744073709551615)
-    × ((x : List ℕ) → grown k (measured (λ ps. size (parts targetLay ps)) (times left (target letters) words x at to)) ≡ measured (λ ps. size (parts targetLay ps)) (times n (target letters) words x i j))
+    × ((x : List ℕ) → grown k (verdictOf (λ ps. size (parts targetLay ps)) (times left (target letters) words x at to)) ≡ verdictOf (λ ps. size (parts targetLay ps)) (times n (target letters) words x i j))
 
 abbrev μ-loop : tie.MeasureT-loop
 μ-loop words letters i j n left₀ at₀ to₀ size₀ left at to size = left

@@ -5,7 +5,7 @@ use Rattle.bflan.proofs.judge.text.chars.Statement.{statement}
 use Rattle.bflan.proofs.judge.text.chars.Tie as tie
 use native.Mathlib.Omega.{arith}
 use denote.Ref.{now}
-use Rattle.bflan.proofs.MeasureParts.{chars-missing, chars-fault, chars-fine}
+use Rattle.bflan.proofs.judge.JudgeParts.{chars-missing, chars-fault, chars-fine}
 
 returns : tie.Need-returns
 returns c = λ w. chars-missing (c .before .before .args .n) w (now (c .before .before .args .texts)) (c .before .before .args .i) (c .before .before .args .j) (omega arith)

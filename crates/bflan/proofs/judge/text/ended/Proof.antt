@@ -8,8 +8,8 @@ use native.Mathlib.Omega.{arith}
 use denote.Ref.{now}
 use Rattle.bflan.specs.Judge.{wide}
 use Rattle.bflan.specs.Layout.{size, ended}
-use Rattle.bflan.proofs.Measures.{fits-there}
-use Rattle.bflan.proofs.MeasureParts.{text-bad, ended-then}
+use Rattle.bflan.proofs.judge.Measures.{fits-there}
+use Rattle.bflan.proofs.judge.JudgeParts.{text-bad, ended-then}
 
 below-requires : tie.Need-below-requires
 below-requires c κs = search needs

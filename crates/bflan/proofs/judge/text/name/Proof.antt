@@ -10,8 +10,8 @@ use native.Mathlib.Omega.{arith}
 use denote.Ref.{now}
 use lib.Dec.{ltb, leb}
 use lib.ListN.{length}
-use Rattle.bflan.proofs.Measures.{fits-there, fits-most}
-use Rattle.bflan.proofs.MeasureParts.{text-bad, text-then}
+use Rattle.bflan.proofs.judge.Measures.{fits-there, fits-most}
+use Rattle.bflan.proofs.judge.JudgeParts.{text-bad, text-then}
 
 below-requires : tie.Need-below-requires
 below-requires c κs = search needs

@@ -7,16 +7,16 @@ use Prim.Native.Nat.{_≤_}
 use mathlib.Core.Path.{_≡_, sym, _∙_}
 use native.Mathlib.Omega.{arith}
 use denote.Ref.{now}
-use Rattle.bflan.specs.Judge.{text, times, wide}
+use Rattle.bflan.specs.Judge.{nextText, times, wide}
 use Rattle.bflan.specs.Layout.{size, parts, ended}
-use Rattle.bflan.specs.Measure.{measured}
-use Rattle.bflan.specs.MeasureParts.{grown}
-use Rattle.bflan.proofs.Measures.{loop-start, loop-on, loop-word, loop-text, loop-end}
+use Rattle.bflan.specs.inner.Measure.{verdictOf}
+use Rattle.bflan.specs.inner.Measure.{grown}
+use Rattle.bflan.proofs.judge.Measures.{loop-start, loop-on, loop-word, loop-text, loop-end}
 
 abbrev Inv-loop : tie.InvT-loop
 Inv-loop words texts i j n left₀ at₀ to₀ size₀ left at to k =
     (k ≤ 18446744073709551615)
-    × (grown k (measured (λ ts. size (parts ended ts)) (times left (text (wide 4)) words texts at to)) ≡ measured (λ ts. size (parts ended ts)) (times n (text (wide 4)) words texts i j))
+    × (grown k (verdictOf (λ ts. size (parts ended ts)) (times left (nextText (wide 4)) words texts at to)) ≡ verdictOf (λ ts. size (parts ended ts)) (times n (nextText (wide 4)) words texts i j))
 
 abbrev μ-loop : tie.MeasureT-loop
 μ-loop words texts i j n left₀ at₀ to₀ size₀ left at to size = left
@@ -31,13 +31,13 @@ enum-known-k : tie.Need-enum-known-k Inv-loop μ-loop
 enum-known-k c = search needs
 
 returns : tie.Need-returns Inv-loop μ-loop
-returns c = loop-word (text (wide 4)) ended (now (c .before .before .before .before .before .before .before .before .args .words)) (now (c .before .before .before .before .before .before .before .before .args .texts)) (c .before .before .before .before .before .loop .left) (c .before .before .before .before .before .loop .at) (c .before .before .before .before .before .loop .to) (c .before .before .before .before .before .loop .size) _ (c .before .before .before .before .before .loop .inv .1) (c .before .before .before .before .loop-test .taken) _ (sym (c .before .before .before .ended .ensures) ∙ c .before .k .given .1)
+returns c = loop-word (nextText (wide 4)) ended (now (c .before .before .before .before .before .before .before .before .args .words)) (now (c .before .before .before .before .before .before .before .before .args .texts)) (c .before .before .before .before .before .loop .left) (c .before .before .before .before .before .loop .at) (c .before .before .before .before .before .loop .to) (c .before .before .before .before .before .loop .size) _ (c .before .before .before .before .before .loop .inv .1) (c .before .before .before .before .loop-test .taken) _ (sym (c .before .before .before .ended .ensures) ∙ c .before .k .given .1)
 
 enum-known-k-2 : tie.Need-enum-known-k-2 Inv-loop μ-loop
 enum-known-k-2 c = search needs
 
 returns-2 : tie.Need-returns-2 Inv-loop μ-loop
-returns-2 c = loop-text (text (wide 4)) ended (now (c .before .before .before .before .before .before .before .before .args .words)) (now (c .before .before .before .before .before .before .before .before .args .texts)) (c .before .before .before .before .before .loop .left) (c .before .before .before .before .before .loop .at) (c .before .before .before .before .before .loop .to) (c .before .before .before .before .before .loop .size) _ (c .before .before .before .before .before .loop .inv .1) (c .before .before .before .before .loop-test .taken) _ (sym (c .before .before .before .ended .ensures) ∙ c .before .k2 .given .1)
+returns-2 c = loop-text (nextText (wide 4)) ended (now (c .before .before .before .before .before .before .before .before .args .words)) (now (c .before .before .before .before .before .before .before .before .args .texts)) (c .before .before .before .before .before .loop .left) (c .before .before .before .before .before .loop .at) (c .before .before .before .before .before .loop .to) (c .before .before .before .before .before .loop .size) _ (c .before .before .before .before .before .loop .inv .1) (c .before .before .before .before .loop-test .taken) _ (sym (c .before .before .before .ended .ensures) ∙ c .before .k2 .given .1)
 
 enum-known-m : tie.Need-enum-known-m Inv-loop μ-loop
 enum-known-m c = search needs
@@ -52,10 +52,10 @@ loop-less : tie.Need-loop-less Inv-loop μ-loop
 loop-less c = omega arith
 
 loop-again : tie.Need-loop-again Inv-loop μ-loop
-loop-again c = (omega (arith, c .add .ensures), loop-on (text (wide 4)) ended (now (c .before .before .before .before .before .before .before .before .before .args .words)) (now (c .before .before .before .before .before .before .before .before .before .args .texts)) (c .before .before .before .before .before .before .loop .left) (c .before .before .before .before .before .before .loop .at) (c .before .before .before .before .before .before .loop .to) (c .before .before .before .before .before .before .loop .size) _ (c .before .before .before .before .before .before .loop .inv .1) (c .before .before .before .before .before .loop-test .taken) _ _ (sym (c .before .before .before .before .ended .ensures) ∙ c .before .before .m .given .1) (c .add .ensures))
+loop-again c = (omega (arith, c .add .ensures), loop-on (nextText (wide 4)) ended (now (c .before .before .before .before .before .before .before .before .before .args .words)) (now (c .before .before .before .before .before .before .before .before .before .args .texts)) (c .before .before .before .before .before .before .loop .left) (c .before .before .before .before .before .before .loop .at) (c .before .before .before .before .before .before .loop .to) (c .before .before .before .before .before .before .loop .size) _ (c .before .before .before .before .before .before .loop .inv .1) (c .before .before .before .before .before .loop-test .taken) _ _ (sym (c .before .before .before .before .ended .ensures) ∙ c .before .before .m .given .1) (c .add .ensures))
 
 returns-3 : tie.Need-returns-3 Inv-loop μ-loop
-returns-3 c = loop-end (text (wide 4)) ended (now (c .before .before .before .before .args .words)) (now (c .before .before .before .before .args .texts)) (c .before .loop .left) (c .before .loop .at) (c .before .loop .to) (c .before .loop .size) _ (c .before .loop .inv .1) (c .loop-test .left) (c .before .loop .inv .0)
+returns-3 c = loop-end (nextText (wide 4)) ended (now (c .before .before .before .before .args .words)) (now (c .before .before .before .before .args .texts)) (c .before .loop .left) (c .before .loop .at) (c .before .loop .to) (c .before .loop .size) _ (c .before .loop .inv .1) (c .loop-test .left) (c .before .loop .inv .0)
 
 pub textures-spec : {M : Type 1} → statement M
 textures-spec =

@@ -6,7 +6,7 @@ use Rattle.bflan.proofs.judge.word.below.Tie as tie
 use native.Mathlib.Omega.{arith}
 use denote.Ref.{now}
 use lib.Dec.{ltb}
-use Rattle.bflan.proofs.Measures.{fits-in, fits-out}
+use Rattle.bflan.proofs.judge.Measures.{fits-in, fits-out}
 
 mul-v : tie.Need-mul-v
 mul-v c = search needs

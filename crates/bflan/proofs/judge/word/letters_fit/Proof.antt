@@ -5,8 +5,8 @@ use Rattle.bflan.proofs.judge.word.letters_fit.Statement.{statement}
 use Rattle.bflan.proofs.judge.word.letters_fit.Tie as tie
 use mathlib.Core.Path.{_∙_}
 use denote.Ref.{now}
-use Rattle.bflan.specs.Letters.{lettersFit}
-use Rattle.bflan.proofs.Measures.{fits-in, fits-out}
+use Rattle.bflan.specs.pai1.Letters.{lettersFit}
+use Rattle.bflan.proofs.judge.Measures.{fits-in, fits-out}
 
 mul-listed : tie.Need-mul-listed
 mul-listed c = search needs

@@ -4,7 +4,7 @@ use borrow.Author.Needs.{needs}
 use Rattle.bflan.proofs.judge.word.listed.Statement.{statement}
 use Rattle.bflan.proofs.judge.word.listed.Tie as tie
 use mathlib.Core.Path.{sym, _∙_}
-use Rattle.bflan.proofs.Codes.{letters-fit-by}
+use Rattle.bflan.proofs.letters.Codes.{letters-fit-by}
 
 kind-of-requires : tie.Need-kind-of-requires
 kind-of-requires c κs = search needs

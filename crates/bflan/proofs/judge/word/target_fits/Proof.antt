@@ -5,8 +5,8 @@ use Rattle.bflan.proofs.judge.word.target_fits.Statement.{statement}
 use Rattle.bflan.proofs.judge.word.target_fits.Tie as tie
 use mathlib.Core.Path.{_∙_}
 use denote.Ref.{now}
-use Rattle.bflan.specs.Letters.{targetFits}
-use Rattle.bflan.proofs.Measures.{fits-in, fits-out}
+use Rattle.bflan.specs.pai1.Letters.{targetFits}
+use Rattle.bflan.proofs.judge.Measures.{fits-in, fits-out}
 
 mul-target-fits : tie.Need-mul-target-fits
 mul-target-fits c = search needs

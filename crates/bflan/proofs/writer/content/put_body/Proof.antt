@@ -2,7 +2,7 @@
 -- Assumes nothing.
 use native.Mathlib.Omega.{arith}
 use denote.Ref.{now}
-use Rattle.bflan.proofs.StoredParts.{two-ready, two-done, plain-ready, plain-done}
+use Rattle.bflan.proofs.writer.LayoutParts.{two-ready, two-done, plain-ready, plain-done}
 use borrow.Author.Needs.{needs}
 use Rattle.bflan.proofs.writer.content.put_body.Statement.{statement}
 use Rattle.bflan.proofs.writer.content.put_body.Tie as tie

@@ -3,9 +3,9 @@
 use mathlib.Core.Path.{refl, _∙_}
 use native.Mathlib.Omega.{arith}
 use denote.Ref.{now}
-use Rattle.bflan.specs.Stored.{bodyLay}
-use Rattle.bflan.proofs.Storing.{ready-in, behind-within}
-use Rattle.bflan.proofs.StoredParts.{name-ready, content-fits, body-ready, content-done}
+use Rattle.bflan.specs.inner.LayoutParts.{bodyLay}
+use Rattle.bflan.proofs.writer.Pens.{ready-in, behind-within}
+use Rattle.bflan.proofs.writer.LayoutParts.{name-ready, content-fits, body-ready, content-done}
 use borrow.Author.Needs.{needs}
 use Rattle.bflan.proofs.writer.content.put_content.Statement.{statement}
 use Rattle.bflan.proofs.writer.content.put_content.Tie as tie

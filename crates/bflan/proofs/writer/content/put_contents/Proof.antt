@@ -5,9 +5,9 @@ use mathlib.Core.Path.{_∙_}
 use native.Mathlib.Omega.{arith}
 use borrow.Author.Needs.{needs}
 use denote.Ref.{now}
-use Rattle.bflan.specs.Judge.{content}
-use Rattle.bflan.specs.Layout.{contentLay}
-use Rattle.bflan.proofs.Storing.{ready-in, Going, going-start, going-first, going-turn, going-end, listed-fits}
+use Rattle.bflan.specs.pai1.Judge.{content}
+use Rattle.bflan.specs.pai1.Layout.{contentLay}
+use Rattle.bflan.proofs.writer.Pens.{ready-in, Going, going-start, going-first, going-turn, going-end, listed-fits}
 use Rattle.bflan.proofs.writer.content.put_contents.Statement.{statement}
 use Rattle.bflan.proofs.writer.content.put_contents.Tie as tie
 

@@ -3,7 +3,7 @@
 use mathlib.Core.Path.{refl}
 use native.Mathlib.Omega.{arith}
 use denote.Ref.{now}
-use Rattle.bflan.proofs.StoredParts.{name-fits, name-done}
+use Rattle.bflan.proofs.writer.LayoutParts.{name-fits, name-done}
 use borrow.Author.Needs.{needs}
 use Rattle.bflan.proofs.writer.content.put_name.Statement.{statement}
 use Rattle.bflan.proofs.writer.content.put_name.Tie as tie

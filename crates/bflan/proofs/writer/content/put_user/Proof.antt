@@ -4,10 +4,10 @@ use Prim.Native.Nat.{_+_, _*_, _-_}
 use mathlib.Core.Path.{_∙_}
 use native.Mathlib.Omega.{arith}
 use denote.Ref.{now}
-use Rattle.bflan.specs.Layout.{infoLay}
-use Rattle.bflan.specs.Stored.{listed}
-use Rattle.bflan.proofs.Storing.{ready-in, behind-within}
-use Rattle.bflan.proofs.StoredParts.{user-left, user-ready, user-done}
+use Rattle.bflan.specs.pai1.Layout.{infoLay}
+use Rattle.bflan.specs.inner.Pen.{listed}
+use Rattle.bflan.proofs.writer.Pens.{ready-in, behind-within}
+use Rattle.bflan.proofs.writer.LayoutParts.{user-left, user-ready, user-done}
 use borrow.Author.Needs.{needs}
 use Rattle.bflan.proofs.writer.content.put_user.Statement.{statement}
 use Rattle.bflan.proofs.writer.content.put_user.Tie as tie

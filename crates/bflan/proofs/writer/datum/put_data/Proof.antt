@@ -4,16 +4,18 @@ use mathlib.Core.Path.{_≡_, refl, _∙_}
 use native.Mathlib.Omega.{arith}
 use denote.Ref.{now}
 use lib.ListN.{length}
-use Rattle.bflan.specs.Judge.{times, datum}
-use Rattle.bflan.specs.Layout.{parts, datumLay}
-use Rattle.bflan.specs.Stored.{laid, behind}
-use Rattle.bflan.proofs.Storing.{first-of, Running, running-turn, running-end}
+use Rattle.bflan.specs.Judge.{times}
+use Rattle.bflan.specs.pai1.Judge.{datum}
+use Rattle.bflan.specs.Layout.{parts}
+use Rattle.bflan.specs.pai1.Layout.{datumLay}
+use Rattle.bflan.specs.inner.Pen.{laid, penBehind}
+use Rattle.bflan.proofs.writer.Pens.{first-of, Running, running-turn, running-end}
 use Rattle.bflan.proofs.writer.datum.put_data.Statement.{statement}
 use Rattle.bflan.proofs.writer.datum.put_data.Tie as tie
 
 abbrev Inv-loop : tie.InvT-loop
 Inv-loop words texts n out₀ left₀ q₀ out left q =
-    Running datum datumLay words texts (behind (parts datumLay) (times n datum words texts (q₀ .word) (q₀ .byte)) (q₀ .at))
+    Running datum datumLay words texts (penBehind (parts datumLay) (times n datum words texts (q₀ .word) (q₀ .byte)) (q₀ .at))
     (laid (parts datumLay) (times n datum words texts (q₀ .word) (q₀ .byte)) (q₀ .at) out₀) left q out
     × (length out ≡ length out₀)
 

@@ -2,8 +2,8 @@
 -- Assumes nothing.
 use native.Mathlib.Omega.{arith}
 use denote.Ref.{now}
-use Rattle.bflan.proofs.Storing.{ready-in}
-use Rattle.bflan.proofs.StoredParts.{datum-fits, key-ready, datum-done}
+use Rattle.bflan.proofs.writer.Pens.{ready-in}
+use Rattle.bflan.proofs.writer.LayoutParts.{datum-fits, key-ready, datum-done}
 use borrow.Author.Needs.{needs}
 use Rattle.bflan.proofs.writer.datum.put_datum.Statement.{statement}
 use Rattle.bflan.proofs.writer.datum.put_datum.Tie as tie

@@ -1,6 +1,6 @@
 -- `writer::datum::put_fields` meets its contract.
 -- Assumes nothing.
-use Rattle.bflan.proofs.StoredParts.{fields-stored}
+use Rattle.bflan.proofs.writer.LayoutParts.{fields-stored}
 use borrow.Author.Needs.{needs}
 use Rattle.bflan.proofs.writer.datum.put_fields.Statement.{statement}
 use Rattle.bflan.proofs.writer.datum.put_fields.Tie as tie

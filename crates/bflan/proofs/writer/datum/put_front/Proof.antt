@@ -4,7 +4,7 @@ use Prim.Native.Nat.{ℕ, _*_}
 use mathlib.Core.Path.{refl, ap}
 use native.Mathlib.Omega.{arith}
 use denote.Ref.{now}
-use Rattle.bflan.proofs.StoredParts.{front-stored}
+use Rattle.bflan.proofs.writer.LayoutParts.{front-stored}
 use borrow.Author.Needs.{needs}
 use Rattle.bflan.proofs.writer.datum.put_front.Statement.{statement}
 use Rattle.bflan.proofs.writer.datum.put_front.Tie as tie

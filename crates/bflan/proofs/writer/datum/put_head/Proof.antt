@@ -2,7 +2,7 @@
 -- Assumes nothing.
 use native.Mathlib.Omega.{arith}
 use denote.Ref.{now}
-use Rattle.bflan.proofs.StoredParts.{fields-by}
+use Rattle.bflan.proofs.writer.LayoutParts.{fields-by}
 use borrow.Author.Needs.{needs}
 use Rattle.bflan.proofs.writer.datum.put_head.Statement.{statement}
 use Rattle.bflan.proofs.writer.datum.put_head.Tie as tie

@@ -2,7 +2,7 @@
 -- Assumes nothing.
 use mathlib.Core.Path.{_∙_}
 use denote.Ref.{now}
-use Rattle.bflan.proofs.StoredParts.{put-low-byte}
+use Rattle.bflan.proofs.writer.LayoutParts.{put-low-byte}
 use borrow.Author.Needs.{needs}
 use Rattle.bflan.proofs.writer.field.put_byte.Statement.{statement}
 use Rattle.bflan.proofs.writer.field.put_byte.Tie as tie

@@ -1,6 +1,6 @@
 -- `writer::field::put_counts` meets its contract.
 -- Assumes nothing.
-use Rattle.bflan.proofs.StoredParts.{counts-stored}
+use Rattle.bflan.proofs.writer.LayoutParts.{counts-stored}
 use borrow.Author.Needs.{needs}
 use Rattle.bflan.proofs.writer.field.put_counts.Statement.{statement}
 use Rattle.bflan.proofs.writer.field.put_counts.Tie as tie

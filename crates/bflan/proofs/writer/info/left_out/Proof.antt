@@ -4,8 +4,8 @@ use mathlib.Core.Path.{sym, _∙_}
 use native.Mathlib.Omega.{arith}
 use denote.Ref.{now}
 use Rattle.core.specs.Number.{val}
-use Rattle.bflan.specs.Letters.{fleu}
-use Rattle.bflan.proofs.StoredParts.{out-other, out-extended}
+use Rattle.bflan.specs.pai1.Letters.{fleu}
+use Rattle.bflan.proofs.writer.LayoutParts.{out-other, out-extended}
 use borrow.Author.Needs.{needs}
 use Rattle.bflan.proofs.writer.info.left_out.Statement.{statement}
 use Rattle.bflan.proofs.writer.info.left_out.Tie as tie

@@ -1,7 +1,7 @@
 -- `writer::info::put_head` meets its contract.
 -- Assumes nothing.
 use native.Mathlib.Omega.{arith}
-use Rattle.bflan.proofs.StoredParts.{info-head-stored}
+use Rattle.bflan.proofs.writer.LayoutParts.{info-head-stored}
 use borrow.Author.Needs.{needs}
 use Rattle.bflan.proofs.writer.info.put_head.Statement.{statement}
 use Rattle.bflan.proofs.writer.info.put_head.Tie as tie

@@ -3,9 +3,9 @@
 use native.Mathlib.Omega.{arith}
 use denote.Ref.{now}
 use Rattle.core.specs.Number.{val}
-use Rattle.bflan.specs.Letters.{fleu}
-use Rattle.bflan.proofs.Storing.{ready-in}
-use Rattle.bflan.proofs.StoredParts.{info-there, info-fits, data-ready, data-done, targets-ready, targets-done}
+use Rattle.bflan.specs.pai1.Letters.{fleu}
+use Rattle.bflan.proofs.writer.Pens.{ready-in}
+use Rattle.bflan.proofs.writer.LayoutParts.{info-there, info-fits, data-ready, data-done, targets-ready, targets-done}
 use borrow.Author.Needs.{needs}
 use Rattle.bflan.proofs.writer.info.put_info.Statement.{statement}
 use Rattle.bflan.proofs.writer.info.put_info.Tie as tie

@@ -5,11 +5,12 @@ use mathlib.Core.Path.{_≡_, _∙_}
 use native.Mathlib.Omega.{arith}
 use borrow.Author.Needs.{needs}
 use denote.Ref.{now}
-use Rattle.bflan.specs.Judge.{times, info}
-use Rattle.bflan.specs.Layout.{infoLay}
-use Rattle.bflan.specs.Stored.{outOf}
-use Rattle.bflan.proofs.StoredParts.{info-there, out-start, out-turn, out-none, out-fits}
-use Rattle.bflan.proofs.Storing.{ready-in, Going, going-start, going-first, going-turn, going-end, listed-fits}
+use Rattle.bflan.specs.Judge.{times}
+use Rattle.bflan.specs.pai1.Judge.{info}
+use Rattle.bflan.specs.pai1.Layout.{infoLay}
+use Rattle.bflan.specs.inner.LayoutParts.{outOf}
+use Rattle.bflan.proofs.writer.LayoutParts.{info-there, out-start, out-turn, out-none, out-fits}
+use Rattle.bflan.proofs.writer.Pens.{ready-in, Going, going-start, going-first, going-turn, going-end, listed-fits}
 use Rattle.bflan.proofs.writer.info.put_infos.Statement.{statement}
 use Rattle.bflan.proofs.writer.info.put_infos.Tie as tie
 

@@ -1,6 +1,6 @@
 -- `writer::section::put_frame` meets its contract.
 -- Assumes nothing.
-use Rattle.bflan.proofs.StoredParts.{frame-stored}
+use Rattle.bflan.proofs.writer.LayoutParts.{frame-stored}
 use borrow.Author.Needs.{needs}
 use Rattle.bflan.proofs.writer.section.put_frame.Statement.{statement}
 use Rattle.bflan.proofs.writer.section.put_frame.Tie as tie

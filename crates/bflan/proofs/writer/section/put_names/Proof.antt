@@ -6,9 +6,9 @@ use native.Mathlib.Omega.{arith}
 use denote.Ref.{now}
 use Rattle.core.proofs.Padding.{padding-lt}
 use Rattle.bflan.specs.Layout.{ended}
-use Rattle.bflan.specs.Stored.{listed}
-use Rattle.bflan.proofs.Storing.{behind-within}
-use Rattle.bflan.proofs.StoredParts.{names-ready, names-done}
+use Rattle.bflan.specs.inner.Pen.{listed}
+use Rattle.bflan.proofs.writer.Pens.{behind-within}
+use Rattle.bflan.proofs.writer.LayoutParts.{names-ready, names-done}
 use borrow.Author.Needs.{needs}
 use Rattle.bflan.proofs.writer.section.put_names.Statement.{statement}
 use Rattle.bflan.proofs.writer.section.put_names.Tie as tie

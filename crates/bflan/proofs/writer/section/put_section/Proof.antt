@@ -3,9 +3,9 @@
 use mathlib.Core.Path.{_∙_}
 use native.Mathlib.Omega.{arith}
 use denote.Ref.{now}
-use Rattle.bflan.specs.Stored.{namesLay}
-use Rattle.bflan.proofs.Storing.{ready-in, behind-within}
-use Rattle.bflan.proofs.StoredParts.{names-there, contents-there, section-done}
+use Rattle.bflan.specs.inner.LayoutParts.{namesLay}
+use Rattle.bflan.proofs.writer.Pens.{ready-in, behind-within}
+use Rattle.bflan.proofs.writer.LayoutParts.{names-there, contents-there, section-done}
 use borrow.Author.Needs.{needs}
 use Rattle.bflan.proofs.writer.section.put_section.Statement.{statement}
 use Rattle.bflan.proofs.writer.section.put_section.Tie as tie

@@ -2,8 +2,8 @@
 -- Assumes nothing.
 use denote.Ref.{now}
 use Rattle.core.specs.Number.{val}
-use Rattle.bflan.specs.Reading.{pai1}
-use Rattle.bflan.proofs.StoredParts.{start-stored}
+use Rattle.bflan.specs.pai1.Reading.{pai1}
+use Rattle.bflan.proofs.writer.LayoutParts.{start-stored}
 use borrow.Author.Needs.{needs}
 use Rattle.bflan.proofs.writer.section.put_start.Statement.{statement}
 use Rattle.bflan.proofs.writer.section.put_start.Tie as tie

@@ -1,6 +1,6 @@
 -- `writer::target::put_head` meets its contract.
 -- Assumes nothing.
-use Rattle.bflan.proofs.StoredParts.{head-stored}
+use Rattle.bflan.proofs.writer.LayoutParts.{head-stored}
 use borrow.Author.Needs.{needs}
 use Rattle.bflan.proofs.writer.target.put_head.Statement.{statement}
 use Rattle.bflan.proofs.writer.target.put_head.Tie as tie

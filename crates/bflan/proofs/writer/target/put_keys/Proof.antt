@@ -5,7 +5,7 @@ use mathlib.Core.List.{[]}
 use native.Mathlib.Omega.{arith}
 use denote.Ref.{now}
 use lib.ListN.{length}
-use Rattle.bflan.proofs.StoredParts.{constant-coded, step-coded, hermite-coded, keys-fit, constant-done, keys-done}
+use Rattle.bflan.proofs.writer.LayoutParts.{constant-coded, step-coded, hermite-coded, keys-fit, constant-done, keys-done}
 use borrow.Author.Needs.{needs}
 use Rattle.bflan.proofs.writer.target.put_keys.Statement.{statement}
 use Rattle.bflan.proofs.writer.target.put_keys.Tie as tie

@@ -3,8 +3,8 @@
 use mathlib.Core.List.{[]}
 use native.Mathlib.Omega.{arith}
 use denote.Ref.{now}
-use Rattle.bflan.proofs.Storing.{ready-in}
-use Rattle.bflan.proofs.StoredParts.{target-there, keys-ready, target-done}
+use Rattle.bflan.proofs.writer.Pens.{ready-in}
+use Rattle.bflan.proofs.writer.LayoutParts.{target-there, keys-ready, target-done}
 use borrow.Author.Needs.{needs}
 use Rattle.bflan.proofs.writer.target.put_target.Statement.{statement}
 use Rattle.bflan.proofs.writer.target.put_target.Tie as tie

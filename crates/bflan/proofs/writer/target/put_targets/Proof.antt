@@ -6,9 +6,9 @@ use mathlib.Core.List.{[]}
 use native.Mathlib.Omega.{arith}
 use borrow.Author.Needs.{needs}
 use denote.Ref.{now}
-use Rattle.bflan.specs.Judge.{target}
-use Rattle.bflan.specs.Layout.{targetLay}
-use Rattle.bflan.proofs.Storing.{ready-in, Going, going-start, going-first, going-turn, going-end, listed-fits}
+use Rattle.bflan.specs.pai1.Judge.{target}
+use Rattle.bflan.specs.pai1.Layout.{targetLay}
+use Rattle.bflan.proofs.writer.Pens.{ready-in, Going, going-start, going-first, going-turn, going-end, listed-fits}
 use Rattle.bflan.proofs.writer.target.put_targets.Statement.{statement}
 use Rattle.bflan.proofs.writer.target.put_targets.Tie as tie
 

@@ -1,0 +1,3 @@
+pub mod JudgeParts
+pub mod Judging
+pub mod Measures

@@ -1,0 +1,480 @@
+-- A record's parts by their words and texts: what the walk that measures them meets, in the arms of its code.
+-- Assumes nothing.
+use Prim.Native.Nat.{ℕ, zero, suc, max, _+_, _-_, _*_, _<_, _≤_}
+use mathlib.Core.Path.{_≡_, refl, ap, sym, _∙_}
+use mathlib.Core.Bool.{Bool, true, false, _&&_}
+use mathlib.Core.List.{List, [], _∷_}
+use native.Mathlib.Omega.{arith}
+use borrow.Author.Tests.{leb-true, le-leb, lt-leb, lt-ltb, le-ltb, eq-eqb, ne-eqb}
+use lib.Dec.{ltb, leb, eqb}
+use lib.ListN.{length, getD, take, drop, replicate, length-take, length-drop, length-replicate}
+use Rattle.core.specs.Choice.{pick}
+use Rattle.core.specs.Fill.{paddingOf}
+use Rattle.core.specs.Text.{firstFault}
+use Rattle.bflan.specs.declared.judge.Mark.{Mark}
+use Rattle.bflan.specs.declared.judge.Verdict.{Verdict}
+use Rattle.bflan.specs.declared.judge.Verdict.the-variants.{Fine, BadWord, BadText}
+use Rattle.bflan.specs.Judge.{Judged, fine, badWord, badText, J, andThen, ret, nextWord, nextChars, nextText, times, wide, row, ends}
+use Rattle.bflan.specs.pai1.Judge.{target, datum, info, content, section}
+use Rattle.bflan.specs.pai1.Letters.{fleu, lettersFit, targetFits}
+use Rattle.bflan.specs.Layout.{zeros, number, size, parts, ended}
+use Rattle.bflan.specs.pai1.Layout.{targetLay, datumLay, infoHead, infoLay, infosOut, tableFrom, infosFrom, contentBody, contentLay, namesEnd, contentTable, sectionLay, keySkip, keyLay}
+use Rattle.bflan.specs.inner.Measure.{verdictOf}
+use Rattle.bflan.specs.inner.Measure.{fits, grown, filledUp, padded}
+use Rattle.bflan.specs.inner.JudgeParts.{ValuesAndKey, valuesAndKey, afterName, contentsAndEnd, afterHead}
+use Rattle.bflan.specs.pai1.Places.{total}
+use Rattle.bflan.specs.pai1.Record.{AnimTarget, Standard, AnimInfo, AnimContent, PaneAnimInfo, keyWidths}
+use Rattle.bflan.specs.inner.Walk.{sat}
+use Rattle.bflan.proofs.Layouts.{size-row, size-table, user-size}
+use Rattle.bflan.proofs.reader.Inversion.{times-length}
+use Rattle.bflan.proofs.judge.Measures.{marked, measured-padded, sat-filled, grown-sat, was-word, was-text, was-fine, measured-by, measured-grown, measured-made, then-grown, word-fine, word-bad, times-none, times-turn, steps-as, steps-word, steps-row, steps-times, ran, steps-measured, size-parts, size-numbers}
+
+-- ---- texts
+
+module _ (n : ℕ) (w x : List ℕ) (i j : ℕ) where
+  pub chars-missing : length x < j + n → BadText (length x) ≡ verdictOf (λ (t : List ℕ). length t) (nextChars n w x i j)
+  unfolding nextChars verdictOf
+  chars-missing h = rw (lt-leb (j + n) (length x) h)
+
+  module _ (f : ℕ) (h : j + n ≤ length x) (e : f ≡ firstFault (take (j + n - j) (drop j x))) where
+    fault-is : firstFault (take n (drop j x)) ≡ f
+    fault-is = let m : j + n - j ≡ n = omega arith in sym (rw m at e)
+
+    pub chars-fault : f < n → BadText (j + f) ≡ verdictOf (λ (t : List ℕ). length t) (nextChars n w x i j)
+    unfolding nextChars verdictOf
+    chars-fault l = rw (le-leb (j + n) (length x) h, fault-is, lt-ltb f n l)
+
+    pub chars-fine : n ≤ f → length x ≤ 18446744073709551615 → marked i (j + n) n ≡ verdictOf (λ (t : List ℕ). length t) (nextChars n w x i j)
+    unfolding nextChars verdictOf
+    chars-fine l b =
+        let q : sat (length (take n (drop j x))) ≡ n = rw (length-take n (drop j x), length-drop j x) (omega arith) in
+        rw (le-leb (j + n) (length x) h, fault-is, le-ltb f n l) (ap (marked i (j + n)) (sym q))
+
+module _ (test : ℕ → Bool) (w x : List ℕ) (i j : ℕ) where
+  pub text-bad : (s : List ℕ → ℕ) → fits test w i ≡ false → BadWord i ≡ verdictOf s (nextText test w x i j)
+  unfolding nextText verdictOf
+  text-bad s e = rw (word-bad test w x i j e)
+
+  pub text-on : fits test w i ≡ true → nextText test w x i j ≡ nextChars (getD w i 0) w x (i + 1) j
+  unfolding nextText
+  text-on e = rw (word-fine test w x i j e)
+
+  -- its bytes, by the answer for them
+  pub text-then : (n : ℕ) (v : Verdict) → fits test w i ≡ true → n ≡ getD w i 0 → v ≡ verdictOf (λ (t : List ℕ). length t) (nextChars n w x (i + 1) j) → v ≡ verdictOf (λ (t : List ℕ). length t) (nextText test w x i j)
+  text-then n v f e d = rw (text-on f, ← e) d
+
+  pub ended-then : (n : ℕ) (v : Verdict) → fits test w i ≡ true → n ≡ getD w i 0 → v ≡ verdictOf (λ (t : List ℕ). length t) (nextChars n w x (i + 1) j) → grown 1 v ≡ verdictOf (λ t. size (ended t)) (nextText test w x i j)
+  ended-then n v f e d =
+      ap (grown 1) (text-then n v f e d) ∙ measured-grown 1 (λ (t : List ℕ). length t) (nextText test w x i j)
+      ∙ measured-by (λ t. 1 + length t) (λ t. size (ended t)) (nextText test w x i j) (λ t u v e. unfold ended size in omega arith)
+
+chars-length : (n : ℕ) (w x : List ℕ) (i j : ℕ) (t : List ℕ) (u v : ℕ) → nextChars n w x i j ≡ fine t u v → length t ≡ n
+unfolding nextChars
+chars-length n w x i j t u v e = go (leb (j + n) (length x)) refl (ltb (firstFault (take n (drop j x))) n) e
+  where
+    go : (a : Bool) → leb (j + n) (length x) ≡ a → (b : Bool) → pick a (pick b (badText (j + firstFault (take n (drop j x)))) (fine (take n (drop j x)) i (j + n))) (badText (length x)) ≡ fine t u v → length t ≡ n
+    go true d true e = let z : _≡_ {A = ℕ} 0 1 = cc in absurd (omega arith)
+    go true d false e =
+        let h = leb-true (j + n) (length x) d in
+        let q : take n (drop j x) ≡ t = cc in
+        ap length (sym q) ∙ rw (length-take n (drop j x), length-drop j x) (omega arith)
+    go false d b e = let z : _≡_ {A = ℕ} 0 1 = cc in absurd (omega arith)
+
+-- the test holds of a text's length
+pub text-fits : (test : ℕ → Bool) (w x : List ℕ) (i j : ℕ) (t : List ℕ) (u v : ℕ) → nextText test w x i j ≡ fine t u v → test (length t) ≡ true
+unfolding nextText nextWord
+text-fits test w x i j t u v e = go (ltb i (length w)) (test (getD w i 0)) refl e
+  where
+    go : (a b : Bool) → test (getD w i 0) ≡ b → andThen (pick (a && b) (fine (getD w i 0) (i + 1) j) (badWord i)) (λ n. nextChars n) w x ≡ fine t u v → test (length t) ≡ true
+    go true true d e = ap test (chars-length (getD w i 0) w x (i + 1) j t u v e) ∙ d
+    go true false d e = let z : _≡_ {A = ℕ} 0 1 = cc in absurd (omega arith)
+    go false b d e = let z : _≡_ {A = ℕ} 0 1 = cc in absurd (omega arith)
+
+-- ---- runs of words
+
+module _ (w : List ℕ) (small : (k : ℕ) → getD w k 0 < 4294967296) (x : List ℕ) (n i j : ℕ) where
+  run-is : verdictOf (λ vs. size (parts (number 4) vs)) (times n (nextWord (wide 4)) w x i j) ≡ ran n (n * 4) (length w) i j
+  run-is =
+      steps-measured (times n (nextWord (wide 4))) w x n (steps-as _ w x (n * 1) n (steps-times (nextWord (wide 4)) w x 1 (steps-word w small x) n) (omega arith)) (λ vs. size (parts (number 4) vs)) (n * 4) i j
+      (λ vs u v e. size-numbers vs ∙ ap (λ (m : ℕ). m * 4) (times-length (nextWord (wide 4)) w x n i j e))
+
+  pub run-there : n ≤ length w - i → n ≤ 17179869184 → marked (i + n) j (4 * n) ≡ verdictOf (λ vs. size (parts (number 4) vs)) (times n (nextWord (wide 4)) w x i j)
+  run-there h b = rw (run-is, le-leb n (length w - i) h) (ap (marked (i + n) j) (omega arith))
+
+  pub run-short : length w - i < n → (u : ℕ) → u ≡ max i (length w) → BadWord u ≡ verdictOf (λ vs. size (parts (number 4) vs)) (times n (nextWord (wide 4)) w x i j)
+  run-short h u e = rw (run-is, lt-leb n (length w - i) h) (ap BadWord e)
+
+-- ---- keys
+
+-- keys whose words are all of four bytes are a run of words
+module _ (w : List ℕ) (small : (k : ℕ) → getD w k 0 < 4294967296) (x : List ℕ) (i j : ℕ) where
+  keys-run : (curve k m n : ℕ) → keyWidths curve ≡ replicate k 4 → ((ks : List ℕ) → size (keyLay curve ks) ≡ k * 4) → n * k ≡ m → n * (k * 4) ≡ m * 4
+      → verdictOf (λ vs. size (parts (number 4) vs)) (times m (nextWord (wide 4)) w x i j) ≡ verdictOf (λ ks. size (parts (keyLay curve) ks)) (times n (row (keyWidths curve)) w x i j)
+  keys-run curve k m n ew es em e4 =
+      run-is w small x m i j ∙ sym (rw ew
+      (steps-measured (times n (row (replicate k 4))) w x m (steps-as _ w x (n * k) m (steps-times (row (replicate k 4)) w x k (steps-row w small x k) n) em) (λ ks. size (parts (keyLay curve) ks)) (m * 4) i j
+      (λ ks u v e. size-parts (keyLay curve) (k * 4) es ks ∙ ap (λ (l : ℕ). l * (k * 4)) (times-length (row (replicate k 4)) w x n i j e) ∙ e4)))
+
+  pub keys-constant : (curve n : ℕ) → curve ≡ 0
+      → verdictOf (λ vs. size (parts (number 4) vs)) (times n (nextWord (wide 4)) w x i j) ≡ verdictOf (λ ks. size (parts (keyLay curve) ks)) (times n (row (keyWidths curve)) w x i j)
+  keys-constant curve n e = rw e (keys-run 0 1 n n (unfold keyWidths in refl) (λ ks. unfold keyLay keyWidths keySkip size total in rw (size-row (4 ∷ []) ks)) (omega arith) (omega arith))
+
+  pub keys-hermite : (curve n : ℕ) → 2 ≤ curve
+      → verdictOf (λ vs. size (parts (number 4) vs)) (times (3 * n) (nextWord (wide 4)) w x i j) ≡ verdictOf (λ ks. size (parts (keyLay curve) ks)) (times n (row (keyWidths curve)) w x i j)
+  keys-hermite zero n h = absurd (omega arith)
+  keys-hermite (suc zero) n h = absurd (omega arith)
+  keys-hermite (suc (suc c)) n h = keys-run (suc (suc c)) 3 (3 * n) n (unfold keyWidths in refl) (λ ks. unfold keyLay keyWidths keySkip size total in rw (size-row (4 ∷ 4 ∷ 4 ∷ []) ks, ne-eqb (suc (suc c)) 1 (λ e. omega arith))) (omega arith) (omega arith)
+
+-- pairs: the second word is of two bytes, and a loop looks at each
+module _ (w x : List ℕ) (left at j c : ℕ) (whole : Verdict) (e : verdictOf (λ ks. c) (times left (row (keyWidths 1)) w x at j) ≡ whole) where
+  pair-turn : 0 < left → whole ≡ verdictOf (λ ks. c) (andThen (row (keyWidths 1) w x at j) (λ a w x i j. andThen (times (left - 1) (row (keyWidths 1)) w x i j) (λ ps. ret (a ∷ ps)) w x) w x)
+  pair-turn l = sym e ∙ ap (verdictOf (λ ks. c)) (times-turn (row (keyWidths 1)) w x left at j l)
+
+  pub pair-first : 0 < left → fits (wide 4) w at ≡ false → BadWord at ≡ whole
+  pair-first l f = rw (pair-turn l) (unfold keyWidths row verdictOf in rw (word-bad (wide 4) w x at j f))
+
+  pub pair-second : 0 < left → fits (wide 4) w at ≡ true → fits (wide 2) w (at + 1) ≡ false → BadWord (at + 1) ≡ whole
+  pair-second l f g = rw (pair-turn l) (unfold keyWidths row verdictOf in rw (word-fine (wide 4) w x at j f, word-bad (wide 2) w x (at + 1) j g))
+
+  pub pair-on : 0 < left → fits (wide 4) w at ≡ true → fits (wide 2) w (at + 1) ≡ true → verdictOf (λ ks. c) (times (left - 1) (row (keyWidths 1)) w x (at + 1 + 1) j) ≡ whole
+  pair-on l f g =
+      let d : row (keyWidths 1) w x at j ≡ fine (getD w at 0 ∷ getD w (at + 1) 0 ∷ []) (at + 1 + 1) j = unfold keyWidths row in rw (word-fine (wide 4) w x at j f, word-fine (wide 2) w x (at + 1) j g) in
+      measured-made (λ ks. c) (times (left - 1) (row (keyWidths 1)) w x (at + 1 + 1) j) w x (λ ps. (getD w at 0 ∷ getD w (at + 1) 0 ∷ []) ∷ ps)
+      ∙ ap (λ (r : Judged (List ℕ)). verdictOf (λ ks. c) (andThen r (λ a w x i j. andThen (times (left - 1) (row (keyWidths 1)) w x i j) (λ ps. ret (a ∷ ps)) w x) w x)) (sym d)
+      ∙ sym (pair-turn l)
+
+  pub pair-end : left ≤ 0 → c ≤ 18446744073709551615 → marked at j c ≡ whole
+  pair-end l h = rw (sym e, times-none (row (keyWidths 1)) w x left at j l) (unfold verdictOf in ap (marked at j) (omega arith))
+
+pub pairs-size : (w x : List ℕ) (n i j : ℕ) → verdictOf (λ ks. 8 * n) (times n (row (keyWidths 1)) w x i j) ≡ verdictOf (λ ks. size (parts (keyLay 1) ks)) (times n (row (keyWidths 1)) w x i j)
+pairs-size w x n i j =
+    measured-by (λ ks. 8 * n) (λ ks. size (parts (keyLay 1) ks)) (times n (row (keyWidths 1)) w x i j)
+    (λ ks u v e.
+    let l = times-length (row (keyWidths 1)) w x n i j e in
+    let s = size-parts (keyLay 1) 8 (λ k. unfold keyLay keyWidths keySkip size total in rw (size-row (4 ∷ 2 ∷ []) k)) ks in
+    omega (arith, l, s))
+
+pub keys-step : (w x : List ℕ) (i j curve n : ℕ) → curve ≡ 1
+    → verdictOf (λ ks. size (parts (keyLay 1) ks)) (times n (row (keyWidths 1)) w x i j) ≡ verdictOf (λ ks. size (parts (keyLay curve) ks)) (times n (row (keyWidths curve)) w x i j)
+keys-step w x i j curve n e = rw e
+
+-- ---- a target: refused at its first word, .., at its fourth, or measured with its keys
+
+module _ (letters : ℕ) (w x : List ℕ) (i j : ℕ) where
+  pub target-first : fits (wide 1) w i ≡ false → BadWord i ≡ verdictOf (λ t. size (targetLay t)) (target letters w x i j)
+  unfolding target verdictOf
+  target-first e = rw (word-bad (wide 1) w x i j e)
+
+  pub target-second : fits (wide 1) w i ≡ true → fits (targetFits letters) w (i + 1) ≡ false → BadWord (i + 1) ≡ verdictOf (λ t. size (targetLay t)) (target letters w x i j)
+  unfolding target verdictOf
+  target-second e1 e = rw (word-fine (wide 1) w x i j e1, word-bad (targetFits letters) w x (i + 1) j e)
+
+  pub target-third : fits (wide 1) w i ≡ true → fits (targetFits letters) w (i + 1) ≡ true → fits (λ c. ltb c 3) w (i + 1 + 1) ≡ false
+      → BadWord (i + 1 + 1) ≡ verdictOf (λ t. size (targetLay t)) (target letters w x i j)
+  unfolding target verdictOf
+  target-third e1 e2 e = rw (word-fine (wide 1) w x i j e1, word-fine (targetFits letters) w x (i + 1) j e2, word-bad (λ c. ltb c 3) w x (i + 1 + 1) j e)
+
+  pub target-fourth : fits (wide 1) w i ≡ true → fits (targetFits letters) w (i + 1) ≡ true → fits (λ c. ltb c 3) w (i + 1 + 1) ≡ true → fits (wide 2) w (i + 1 + 1 + 1) ≡ false
+      → BadWord (i + 1 + 1 + 1) ≡ verdictOf (λ t. size (targetLay t)) (target letters w x i j)
+  unfolding target verdictOf
+  target-fourth e1 e2 e3 e =
+      rw (word-fine (wide 1) w x i j e1, word-fine (targetFits letters) w x (i + 1) j e2, word-fine (λ c. ltb c 3) w x (i + 1 + 1) j e3, word-bad (wide 2) w x (i + 1 + 1 + 1) j e)
+
+  pub target-whole : fits (wide 1) w i ≡ true → fits (targetFits letters) w (i + 1) ≡ true → fits (λ c. ltb c 3) w (i + 1 + 1) ≡ true → fits (wide 2) w (i + 1 + 1 + 1) ≡ true
+      → (curve n : ℕ) → curve ≡ getD w (i + 1 + 1) 0 → n ≡ getD w (i + 1 + 1 + 1) 0
+      → (v : Verdict) → v ≡ verdictOf (λ ks. size (parts (keyLay curve) ks)) (times n (row (keyWidths curve)) w x (i + 1 + 1 + 1 + 1) j)
+      → grown 12 v ≡ verdictOf (λ t. size (targetLay t)) (target letters w x i j)
+  unfolding target
+  target-whole e1 e2 e3 e4 curve n ec en v ev =
+      rw (word-fine (wide 1) w x i j e1, word-fine (targetFits letters) w x (i + 1) j e2, word-fine (λ c. ltb c 3) w x (i + 1 + 1) j e3, word-fine (wide 2) w x (i + 1 + 1 + 1) j e4, ← ec, ← en)
+      (then-grown (λ t. size (targetLay t)) (λ ks. size (parts (keyLay curve) ks)) (times n (row (keyWidths curve)) w x (i + 1 + 1 + 1 + 1) j) w x 12 v _ ev (λ ks u u′ e. unfold targetLay size in omega arith))
+
+-- ---- a datum: the values and the key, and what is before them
+
+-- two parts one after another, with n bytes more
+two-grown : {A B C D : Type 0} (s : C → ℕ) (all : D → ℕ) (n : ℕ) (r : Judged A) (q : J B) (f : A → B → C) (g : A → B → D) (w x : List ℕ) → ((a : A) (b : B) → n + s (f a b) ≡ all (g a b))
+    → grown n (verdictOf s (andThen r (λ a w x i j. andThen (q w x i j) (λ b. ret (f a b)) w x) w x)) ≡ verdictOf all (andThen r (λ a w x i j. andThen (q w x i j) (λ b. ret (g a b)) w x) w x)
+two-grown s all n (fine a i j) q f g w x h =
+    measured-grown n s (andThen (q w x i j) (λ b. ret (f a b)) w x) ∙ sym (measured-made (λ c. n + s c) (q w x i j) w x (f a))
+    ∙ measured-by (λ b. n + s (f a b)) (λ b. all (g a b)) (q w x i j) (λ b u v e. h a b) ∙ measured-made all (q w x i j) w x (g a)
+two-grown s all n (badWord i) q f g w x h = unfold grown verdictOf in refl
+two-grown s all n (badText j) q f g w x h = unfold grown verdictOf in refl
+
+abbrev pub behindSize : ValuesAndKey → ℕ
+behindSize b = size (parts (number 4) (b .values)) + size (ended (b .key))
+
+module _ (n : ℕ) (w x : List ℕ) (i j : ℕ) where
+  pub behind-word : (k : ℕ) → verdictOf (λ vs. size (parts (number 4) vs)) (times n (nextWord (wide 4)) w x i j) ≡ BadWord k → BadWord k ≡ verdictOf behindSize (valuesAndKey n w x i j)
+  unfolding valuesAndKey verdictOf
+  behind-word k e = rw (was-word (λ vs. size (parts (number 4) vs)) (times n (nextWord (wide 4)) w x i j) k e)
+
+  pub behind-text : (k : ℕ) → verdictOf (λ vs. size (parts (number 4) vs)) (times n (nextWord (wide 4)) w x i j) ≡ BadText k → BadText k ≡ verdictOf behindSize (valuesAndKey n w x i j)
+  unfolding valuesAndKey verdictOf
+  behind-text k e = rw (was-text (λ vs. size (parts (number 4) vs)) (times n (nextWord (wide 4)) w x i j) k e)
+
+  pub behind-fine : (m : Mark) (v : Verdict) → verdictOf (λ vs. size (parts (number 4) vs)) (times n (nextWord (wide 4)) w x i j) ≡ Fine m
+      → v ≡ verdictOf (λ t. size (ended t)) (nextText (wide 4) w x (m .word) (m .byte)) → grown (m .size) v ≡ verdictOf behindSize (valuesAndKey n w x i j)
+  unfolding valuesAndKey
+  behind-fine m v e ev = let z = was-fine (λ vs. size (parts (number 4) vs)) (times n (nextWord (wide 4)) w x i j) m e in go (z .value) (z .is) (z .sized)
+    where
+      go : (vs : List ℕ) → times n (nextWord (wide 4)) w x i j ≡ fine vs (m .word) (m .byte) → m .size ≡ sat (size (parts (number 4) vs)) → grown (m .size) v ≡ verdictOf behindSize (valuesAndKey n w x i j)
+      go vs is sized =
+          ap (λ (k : ℕ). grown k v) sized ∙ grown-sat (size (parts (number 4) vs)) v
+          ∙ rw is (then-grown behindSize (λ t. size (ended t)) (nextText (wide 4) w x (m .word) (m .byte)) w x (size (parts (number 4) vs)) v _ ev (λ t u u′ d. refl))
+
+module _ (w x : List ℕ) (i j : ℕ) where
+  pub datum-first : fits (wide 4) w i ≡ false → BadWord i ≡ verdictOf (λ d. size (datumLay d)) (datum w x i j)
+  unfolding datum verdictOf
+  datum-first e = rw (word-bad (wide 4) w x i j e)
+
+  pub datum-second : fits (wide 4) w i ≡ true → fits (wide 2) w (i + 1) ≡ false → BadWord (i + 1) ≡ verdictOf (λ d. size (datumLay d)) (datum w x i j)
+  unfolding datum verdictOf
+  datum-second e1 e = rw (word-fine (wide 4) w x i j e1, word-bad (wide 2) w x (i + 1) j e)
+
+  pub datum-third : fits (wide 4) w i ≡ true → fits (wide 2) w (i + 1) ≡ true → fits (wide 2) w (i + 1 + 1) ≡ false → BadWord (i + 1 + 1) ≡ verdictOf (λ d. size (datumLay d)) (datum w x i j)
+  unfolding datum verdictOf
+  datum-third e1 e2 e = rw (word-fine (wide 4) w x i j e1, word-fine (wide 2) w x (i + 1) j e2, word-bad (wide 2) w x (i + 1 + 1) j e)
+
+  pub datum-fourth : fits (wide 4) w i ≡ true → fits (wide 2) w (i + 1) ≡ true → fits (wide 2) w (i + 1 + 1) ≡ true → fits (wide 4) w (i + 1 + 1 + 1) ≡ false
+      → BadWord (i + 1 + 1 + 1) ≡ verdictOf (λ d. size (datumLay d)) (datum w x i j)
+  unfolding datum verdictOf
+  datum-fourth e1 e2 e3 e = rw (word-fine (wide 4) w x i j e1, word-fine (wide 2) w x (i + 1) j e2, word-fine (wide 2) w x (i + 1 + 1) j e3, word-bad (wide 4) w x (i + 1 + 1 + 1) j e)
+
+  pub datum-fifth : fits (wide 4) w i ≡ true → fits (wide 2) w (i + 1) ≡ true → fits (wide 2) w (i + 1 + 1) ≡ true → fits (wide 4) w (i + 1 + 1 + 1) ≡ true → fits (wide 4) w (i + 1 + 1 + 1 + 1) ≡ false
+      → BadWord (i + 1 + 1 + 1 + 1) ≡ verdictOf (λ d. size (datumLay d)) (datum w x i j)
+  unfolding datum verdictOf
+  datum-fifth e1 e2 e3 e4 e =
+      rw (word-fine (wide 4) w x i j e1, word-fine (wide 2) w x (i + 1) j e2, word-fine (wide 2) w x (i + 1 + 1) j e3, word-fine (wide 4) w x (i + 1 + 1 + 1) j e4, word-bad (wide 4) w x (i + 1 + 1 + 1 + 1) j e)
+
+  pub datum-whole : fits (wide 4) w i ≡ true → fits (wide 2) w (i + 1) ≡ true → fits (wide 2) w (i + 1 + 1) ≡ true → fits (wide 4) w (i + 1 + 1 + 1) ≡ true → fits (wide 4) w (i + 1 + 1 + 1 + 1) ≡ true
+      → (base : ℕ) → base ≡ getD w (i + 1 + 1 + 1) 0 → (v : Verdict) → v ≡ verdictOf behindSize (valuesAndKey (3 * base) w x (i + 1 + 1 + 1 + 1 + 1) j)
+      → grown 20 v ≡ verdictOf (λ d. size (datumLay d)) (datum w x i j)
+  unfolding datum valuesAndKey
+  datum-whole e1 e2 e3 e4 e5 base eb v ev =
+      rw (word-fine (wide 4) w x i j e1, word-fine (wide 2) w x (i + 1) j e2, word-fine (wide 2) w x (i + 1 + 1) j e3, word-fine (wide 4) w x (i + 1 + 1 + 1) j e4, word-fine (wide 4) w x (i + 1 + 1 + 1 + 1) j e5, ev, ← eb)
+      (two-grown behindSize (λ d. size (datumLay d)) 20 (times (3 * base) (nextWord (wide 4)) w x (i + 1 + 1 + 1 + 1 + 1) j) (nextText (wide 4)) _ _ w x (λ vs t. unfold datumLay size in omega arith))
+
+-- ---- an info: its two words, and then data or targets
+
+targets-size : (letters n : ℕ) (ts : List AnimTarget) → length ts ≡ n → 8 + 4 * n + size (parts targetLay ts) ≡ size (infoLay (Standard letters ts))
+unfolding infoLay infoHead size
+targets-size letters n ts l = let t = size-table targetLay (8 + 4 * length ts) ts in omega (arith, l, t)
+
+module _ (w x : List ℕ) (i j : ℕ) where
+  pub info-first : fits lettersFit w i ≡ false → BadWord i ≡ verdictOf (λ a. size (infoLay a)) (info w x i j)
+  unfolding info verdictOf
+  info-first e = rw (word-bad lettersFit w x i j e)
+
+  pub info-second : fits lettersFit w i ≡ true → fits (wide 1) w (i + 1) ≡ false → BadWord (i + 1) ≡ verdictOf (λ a. size (infoLay a)) (info w x i j)
+  unfolding info verdictOf
+  info-second e1 e = rw (word-fine lettersFit w x i j e1, word-bad (wide 1) w x (i + 1) j e)
+
+  module _ (e1 : fits lettersFit w i ≡ true) (e2 : fits (wide 1) w (i + 1) ≡ true) (letters n : ℕ) (el : letters ≡ getD w i 0) (en : n ≡ getD w (i + 1) 0) (v : Verdict) where
+    pub info-data : letters ≡ fleu → v ≡ verdictOf (λ ds. size (parts datumLay ds)) (times n datum w x (i + 1 + 1) j) → grown 8 v ≡ verdictOf (λ a. size (infoLay a)) (info w x i j)
+    unfolding info
+    info-data e ev =
+        rw (word-fine lettersFit w x i j e1, word-fine (wide 1) w x (i + 1) j e2, ← el, ← en, eq-eqb letters fleu e)
+        (then-grown (λ a. size (infoLay a)) (λ ds. size (parts datumLay ds)) (times n datum w x (i + 1 + 1) j) w x 8 v _ ev (λ ds u u′ d. unfold infoLay infoHead size in omega arith))
+
+    pub info-targets : (letters ≡ fleu → ⊥) → v ≡ verdictOf (λ ts. size (parts targetLay ts)) (times n (target letters) w x (i + 1 + 1) j)
+        → grown (8 + 4 * n) v ≡ verdictOf (λ a. size (infoLay a)) (info w x i j)
+    unfolding info
+    info-targets e ev =
+        rw (word-fine lettersFit w x i j e1, word-fine (wide 1) w x (i + 1) j e2, ← el, ← en, ne-eqb letters fleu e)
+        (then-grown (λ a. size (infoLay a)) (λ ts. size (parts targetLay ts)) (times n (target letters) w x (i + 1 + 1) j) w x (8 + 4 * n) v _ ev
+        (λ ts u u′ d. targets-size letters n ts (times-length (target letters) w x n (i + 1 + 1) j d)))
+
+-- ---- a content: its name, and what is behind it
+
+zeros-size : (n : ℕ) → size (zeros n) ≡ n
+unfolding size
+zeros-size n = length-replicate n 0
+
+pub table-le : (type : ℕ) → tableFrom type ≤ 40
+unfolding tableFrom
+table-le type = go (eqb type 2)
+  where
+    go : (b : Bool) → pick b 40 32 ≤ 40
+    go true = omega arith
+    go false = omega arith
+
+body-size : (c : AnimContent) → length (c .name) ≤ 28 → size (contentBody c) ≡ tableFrom (c .type) + 4 * length (c .infos) + size (parts infoLay (c .infos))
+unfolding contentBody size
+body-size c h =
+    let z = zeros-size (28 - length (c .name)) in
+    let u = user-size (c .type) (infosFrom c + size (parts infoLay (c .infos)) - infosOut (c .infos)) in
+    let t = size-table infoLay (infosFrom c) (c .infos) in
+    omega (arith, z, u, t)
+
+content-size : (c : AnimContent) → length (c .name) ≤ 28 → filledUp (tableFrom (c .type) + 4 * length (c .infos) + size (parts infoLay (c .infos))) ≡ size (contentLay c)
+unfolding contentLay size filledUp
+content-size c h = rw (← body-size c h) (ap (λ (n : ℕ). size (contentBody c) + n) (sym (zeros-size (paddingOf (size (contentBody c))))))
+
+module _ (name w x : List ℕ) (i j : ℕ) where
+  pub named-first : fits (λ t. leb t 4) w i ≡ false → BadWord i ≡ verdictOf (λ c. size (contentLay c)) (afterName name w x i j)
+  unfolding afterName verdictOf
+  named-first e = rw (word-bad (λ t. leb t 4) w x i j e)
+
+  pub named-second : fits (λ t. leb t 4) w i ≡ true → fits (wide 1) w (i + 1) ≡ false → BadWord (i + 1) ≡ verdictOf (λ c. size (contentLay c)) (afterName name w x i j)
+  unfolding afterName verdictOf
+  named-second e1 e = rw (word-fine (λ t. leb t 4) w x i j e1, word-bad (wide 1) w x (i + 1) j e)
+
+  named-made : (head n type : ℕ) → head ≡ tableFrom type + 4 * n → length name ≤ 28 → (r : Judged (List AnimInfo)) → ((ps : List AnimInfo) (u v : ℕ) → r ≡ fine ps u v → length ps ≡ n)
+      → padded (grown head (verdictOf (λ ps. size (parts infoLay ps)) r)) ≡ verdictOf (λ c. size (contentLay c)) (andThen r (λ ps. ret (record { name = name; type = type; infos = ps })) w x)
+  named-made head n type eh h r l =
+      ap padded (measured-grown head (λ ps. size (parts infoLay ps)) r) ∙ measured-padded (λ ps. head + size (parts infoLay ps)) r
+      ∙ measured-by (λ ps. filledUp (head + size (parts infoLay ps))) (λ ps. size (contentLay (record { name = name; type = type; infos = ps }))) r
+      (λ ps u v e. ap (λ (k : ℕ). filledUp (k + size (parts infoLay ps))) (eh ∙ ap (λ (k : ℕ). tableFrom type + 4 * k) (sym (l ps u v e))) ∙ content-size (record { name = name; type = type; infos = ps }) h)
+      ∙ measured-made (λ c. size (contentLay c)) r w x (λ ps. record { name = name; type = type; infos = ps })
+
+  pub named-whole : fits (λ t. leb t 4) w i ≡ true → fits (wide 1) w (i + 1) ≡ true → length name ≤ 28 → (head n type : ℕ) → n ≡ getD w (i + 1) 0 → type ≡ getD w i 0 → head ≡ tableFrom type + 4 * n
+      → (v : Verdict) → v ≡ verdictOf (λ ps. size (parts infoLay ps)) (times n info w x (i + 1 + 1) j) → padded (grown head v) ≡ verdictOf (λ c. size (contentLay c)) (afterName name w x i j)
+  unfolding afterName
+  named-whole e1 e2 h head n type en et eh v ev =
+      rw (word-fine (λ t. leb t 4) w x i j e1, word-fine (wide 1) w x (i + 1) j e2, ← en, ← et, ev)
+      (named-made head n type eh h (times n info w x (i + 1 + 1) j) (λ ps u v e. times-length info w x n (i + 1 + 1) j e))
+
+module _ (w x : List ℕ) (i j : ℕ) where
+  pub content-word : (k : ℕ) → verdictOf (λ (t : List ℕ). length t) (nextText (λ n. leb n 28) w x i j) ≡ BadWord k → BadWord k ≡ verdictOf (λ c. size (contentLay c)) (content w x i j)
+  unfolding content verdictOf
+  content-word k e = rw (was-word (λ (t : List ℕ). length t) (nextText (λ n. leb n 28) w x i j) k e)
+
+  pub content-text : (k : ℕ) → verdictOf (λ (t : List ℕ). length t) (nextText (λ n. leb n 28) w x i j) ≡ BadText k → BadText k ≡ verdictOf (λ c. size (contentLay c)) (content w x i j)
+  unfolding content verdictOf
+  content-text k e = rw (was-text (λ (t : List ℕ). length t) (nextText (λ n. leb n 28) w x i j) k e)
+
+  pub content-fine : (m : Mark) (v : Verdict) → verdictOf (λ (t : List ℕ). length t) (nextText (λ n. leb n 28) w x i j) ≡ Fine m
+      → ((name : List ℕ) → length name ≤ 28 → v ≡ verdictOf (λ c. size (contentLay c)) (afterName name w x (m .word) (m .byte))) → v ≡ verdictOf (λ c. size (contentLay c)) (content w x i j)
+  unfolding content afterName
+  content-fine m v e f = let z = was-fine (λ (t : List ℕ). length t) (nextText (λ n. leb n 28) w x i j) m e in go (z .value) (z .is)
+    where
+      go : (name : List ℕ) → nextText (λ n. leb n 28) w x i j ≡ fine name (m .word) (m .byte) → v ≡ verdictOf (λ c. size (contentLay c)) (content w x i j)
+      go name is = rw is (f name (leb-true (length name) 28 (text-fits (λ n. leb n 28) w x i j name (m .word) (m .byte) is)))
+
+-- ---- the end
+
+module _ (w x : List ℕ) (i j : ℕ) where
+  pub ends-word : i < length w → BadWord i ≡ verdictOf (λ z. 0) (ends w x i j)
+  unfolding ends verdictOf
+  ends-word h = rw (lt-ltb i (length w) h)
+
+  pub ends-text : length w ≤ i → j < length x → BadText j ≡ verdictOf (λ z. 0) (ends w x i j)
+  unfolding ends verdictOf
+  ends-text h k = rw (le-ltb i (length w) h, lt-ltb j (length x) k)
+
+  pub ends-fine : length w ≤ i → length x ≤ j → marked i j 0 ≡ verdictOf (λ z. 0) (ends w x i j)
+  unfolding ends verdictOf
+  ends-fine h k = rw (le-ltb i (length w) h, le-ltb j (length x) k)
+
+abbrev pub endingSize : List AnimContent → ℕ
+endingSize cs = 4 * length cs + size (parts contentLay cs)
+
+module _ (n : ℕ) (w x : List ℕ) (i j : ℕ) where
+  pub ending-word : (k : ℕ) → verdictOf (λ cs. size (parts contentLay cs)) (times n content w x i j) ≡ BadWord k → BadWord k ≡ verdictOf endingSize (contentsAndEnd n w x i j)
+  unfolding contentsAndEnd verdictOf
+  ending-word k e = rw (was-word (λ cs. size (parts contentLay cs)) (times n content w x i j) k e)
+
+  pub ending-text : (k : ℕ) → verdictOf (λ cs. size (parts contentLay cs)) (times n content w x i j) ≡ BadText k → BadText k ≡ verdictOf endingSize (contentsAndEnd n w x i j)
+  unfolding contentsAndEnd verdictOf
+  ending-text k e = rw (was-text (λ cs. size (parts contentLay cs)) (times n content w x i j) k e)
+
+  pub ending-fine : (m : Mark) (k : ℕ) (v : Verdict) → verdictOf (λ cs. size (parts contentLay cs)) (times n content w x i j) ≡ Fine m → k ≡ sat (4 * n + m .size)
+      → v ≡ verdictOf (λ z. 0) (ends w x (m .word) (m .byte)) → grown k v ≡ verdictOf endingSize (contentsAndEnd n w x i j)
+  unfolding contentsAndEnd
+  ending-fine m k v e ek ev = let z = was-fine (λ cs. size (parts contentLay cs)) (times n content w x i j) m e in go (z .value) (z .is) (z .sized)
+    where
+      go : (cs : List AnimContent) → times n content w x i j ≡ fine cs (m .word) (m .byte) → m .size ≡ sat (size (parts contentLay cs)) → grown k v ≡ verdictOf endingSize (contentsAndEnd n w x i j)
+      go cs is sized =
+          let l = times-length content w x n i j is in
+          let q : k ≡ sat (endingSize cs) = omega (arith, ek, sized, l) in
+          ap (λ (k : ℕ). grown k v) q ∙ grown-sat (endingSize cs) v
+          ∙ rw is (then-grown endingSize (λ z. 0) (ends w x (m .word) (m .byte)) w x (endingSize cs) v (λ z. cs) ev (λ z u u′ d. omega arith))
+
+-- ---- a section
+
+abbrev made : ℕ → ℕ → List (List ℕ) → List AnimContent → PaneAnimInfo
+made frames looping ts cs = record { frames = frames; looping = looping; textures = ts; contents = cs }
+
+section-size : (r : PaneAnimInfo) → filledUp (20 + (4 * length (r .textures) + size (parts ended (r .textures)))) + endingSize (r .contents) ≡ size (sectionLay r)
+unfolding sectionLay contentTable namesEnd size filledUp
+section-size r =
+    let n : ℕ = 20 + (4 * length (r .textures) + size (parts ended (r .textures))) in
+    let z : length (replicate {A = ℕ} (paddingOf n) 0) ≡ paddingOf n = length-replicate (paddingOf n) 0 in
+    let a = size-table ended (4 * length (r .textures)) (r .textures) in
+    let b = size-table contentLay (contentTable r + 4 * length (r .contents)) (r .contents) in
+    omega (arith, z, a, b)
+
+module _ (frames looping nt nc : ℕ) (w x : List ℕ) (i j : ℕ) where
+  pub headed-word : (k : ℕ) → verdictOf (λ ts. size (parts ended ts)) (times nt (nextText (wide 4)) w x i j) ≡ BadWord k → BadWord k ≡ verdictOf (λ (a : PaneAnimInfo). size (sectionLay a)) (afterHead frames looping nt nc w x i j)
+  unfolding afterHead verdictOf
+  headed-word k e = rw (was-word (λ ts. size (parts ended ts)) (times nt (nextText (wide 4)) w x i j) k e)
+
+  pub headed-text : (k : ℕ) → verdictOf (λ ts. size (parts ended ts)) (times nt (nextText (wide 4)) w x i j) ≡ BadText k → BadText k ≡ verdictOf (λ (a : PaneAnimInfo). size (sectionLay a)) (afterHead frames looping nt nc w x i j)
+  unfolding afterHead verdictOf
+  headed-text k e = rw (was-text (λ ts. size (parts ended ts)) (times nt (nextText (wide 4)) w x i j) k e)
+
+  pub headed-fine : (m : Mark) (k : ℕ) (v : Verdict) → verdictOf (λ ts. size (parts ended ts)) (times nt (nextText (wide 4)) w x i j) ≡ Fine m → k ≡ sat (filledUp (20 + (4 * nt + m .size)))
+      → v ≡ verdictOf endingSize (contentsAndEnd nc w x (m .word) (m .byte)) → grown k v ≡ verdictOf (λ (a : PaneAnimInfo). size (sectionLay a)) (afterHead frames looping nt nc w x i j)
+  unfolding afterHead
+  headed-fine m k v e ek ev = let z = was-fine (λ ts. size (parts ended ts)) (times nt (nextText (wide 4)) w x i j) m e in go (z .value) (z .is) (z .sized)
+    where
+      go : (ts : List (List ℕ)) → times nt (nextText (wide 4)) w x i j ≡ fine ts (m .word) (m .byte) → m .size ≡ sat (size (parts ended ts))
+          → grown k v ≡ verdictOf (λ (a : PaneAnimInfo). size (sectionLay a)) (afterHead frames looping nt nc w x i j)
+      go ts is sized =
+          let l = times-length (nextText (wide 4)) w x nt i j is in
+          let n : ℕ = 20 + (4 * length ts + size (parts ended ts)) in
+          let o : ℕ = 20 + (4 * nt + m .size) in
+          let s : sat o ≡ sat n = omega (arith, sized, l) in
+          let q : k ≡ sat (filledUp n) = ek ∙ sym (sat-filled o) ∙ ap (λ (z : ℕ). sat (filledUp z)) s ∙ sat-filled n in
+          ap (λ (k : ℕ). grown k v) q ∙ grown-sat (filledUp n) v
+          ∙ rw is
+          (then-grown (λ (a : PaneAnimInfo). size (sectionLay a)) endingSize (contentsAndEnd nc w x (m .word) (m .byte)) w x (filledUp n) v (made frames looping ts) ev
+          (λ cs u u′ d. section-size (made frames looping ts cs)))
+
+module _ (w x : List ℕ) where
+  pub section-first : fits (wide 2) w 0 ≡ false → BadWord 0 ≡ verdictOf (λ (a : PaneAnimInfo). size (sectionLay a)) (section w x 0 0)
+  unfolding section verdictOf
+  section-first e = rw (word-bad (wide 2) w x 0 0 e)
+
+  pub section-second : fits (wide 2) w 0 ≡ true → fits (λ b. leb b 1) w 1 ≡ false → BadWord 1 ≡ verdictOf (λ (a : PaneAnimInfo). size (sectionLay a)) (section w x 0 0)
+  unfolding section verdictOf
+  section-second e1 e = rw (word-fine (wide 2) w x 0 0 e1, word-bad (λ b. leb b 1) w x 1 0 e)
+
+  pub section-third : fits (wide 2) w 0 ≡ true → fits (λ b. leb b 1) w 1 ≡ true → fits (wide 2) w 2 ≡ false → BadWord 2 ≡ verdictOf (λ (a : PaneAnimInfo). size (sectionLay a)) (section w x 0 0)
+  unfolding section verdictOf
+  section-third e1 e2 e = rw (word-fine (wide 2) w x 0 0 e1, word-fine (λ b. leb b 1) w x 1 0 e2, word-bad (wide 2) w x 2 0 e)
+
+  pub section-fourth : fits (wide 2) w 0 ≡ true → fits (λ b. leb b 1) w 1 ≡ true → fits (wide 2) w 2 ≡ true → fits (wide 2) w 3 ≡ false → BadWord 3 ≡ verdictOf (λ (a : PaneAnimInfo). size (sectionLay a)) (section w x 0 0)
+  unfolding section verdictOf
+  section-fourth e1 e2 e3 e = rw (word-fine (wide 2) w x 0 0 e1, word-fine (λ b. leb b 1) w x 1 0 e2, word-fine (wide 2) w x 2 0 e3, word-bad (wide 2) w x 3 0 e)
+
+  -- the contents' end is judged before the record is made
+  ended-made : (frames looping : ℕ) (ts : List (List ℕ)) (r : Judged (List AnimContent))
+      → andThen (andThen r (λ cs w x i j. andThen (ends w x i j) (λ z. ret cs) w x) w x) (λ cs. ret (made frames looping ts cs)) w x
+      ≡ andThen r (λ cs w x i j. andThen (ends w x i j) (λ z. ret (made frames looping ts cs)) w x) w x
+  ended-made frames looping ts (fine cs i j) = go (ends w x i j)
+    where
+      go : (r : Judged ℕ) → andThen (andThen r (λ z. ret cs) w x) (λ cs. ret (made frames looping ts cs)) w x
+          ≡ andThen r (λ z. ret (made frames looping ts cs)) w x
+      go (fine z u v) = refl
+      go (badWord u) = refl
+      go (badText u) = refl
+  ended-made frames looping ts (badWord i) = refl
+  ended-made frames looping ts (badText j) = refl
+
+  headed-is : (frames looping nt nc i j : ℕ) → afterHead frames looping nt nc w x i j
+      ≡ andThen (times nt (nextText (wide 4)) w x i j) (λ ts w x i j. andThen (times nc content w x i j) (λ cs w x i j. andThen (ends w x i j) (λ z. ret (made frames looping ts cs)) w x) w x) w x
+  unfolding afterHead contentsAndEnd
+  headed-is frames looping nt nc i j = go (times nt (nextText (wide 4)) w x i j)
+    where
+      go : (r : Judged (List (List ℕ))) → andThen r (λ ts w x i j. andThen (contentsAndEnd nc w x i j) (λ cs. ret (made frames looping ts cs)) w x) w x
+          ≡ andThen r (λ ts w x i j. andThen (times nc content w x i j) (λ cs w x i j. andThen (ends w x i j) (λ z. ret (made frames looping ts cs)) w x) w x) w x
+      go (fine ts u v) = ended-made frames looping ts (times nc content w x u v)
+      go (badWord u) = refl
+      go (badText u) = refl
+
+  pub section-whole : fits (wide 2) w 0 ≡ true → fits (λ b. leb b 1) w 1 ≡ true → fits (wide 2) w 2 ≡ true → fits (wide 2) w 3 ≡ true → (nt nc : ℕ) → nt ≡ getD w 2 0 → nc ≡ getD w 3 0
+      → afterHead (getD w 0 0) (getD w 1 0) nt nc w x 4 0 ≡ section w x 0 0
+  unfolding section
+  section-whole e1 e2 e3 e4 nt nc et ec =
+      rw (word-fine (wide 2) w x 0 0 e1, word-fine (λ b. leb b 1) w x 1 0 e2, word-fine (wide 2) w x 2 0 e3, word-fine (wide 2) w x 3 0 e4, ← et, ← ec) (headed-is (getD w 0 0) (getD w 1 0) nt nc 4 0)

@@ -1,0 +1,4 @@
+pub mod Fields
+pub mod LocatedFields
+pub mod Locating
+pub mod Replacing

@@ -1,0 +1,233 @@
+-- What the public calls answer, by what the walks under them say.
+-- Assumes nothing.
+use Prim.Native.Nat.{ℕ, _+_, _-_, _<_, _≤_}
+use mathlib.Core.Path.{_≡_, refl, ap, sym, _∙_}
+use mathlib.Core.Bool.{Bool, true, false}
+use mathlib.Core.List.{List, []}
+use native.Mathlib.Nat.{add-sub-cancel-left, zero-add}
+use native.Mathlib.Omega.{arith}
+use borrow.Author.Tests.{le-leb, lt-leb, lt-ltb, le-ltb, eq-eqb, ne-eqb, eqb-true}
+use denote.Ref.{RefT, now}
+use lib.Dec.{eqb}
+use lib.ListN.{length, getD, take, drop}
+use lib.Seq.{slice, sets}
+use Rattle.core.specs.Part.{partOf, partPtr}
+use Rattle.core.specs.Utf8.{decode, wellFormed}
+use Rattle.bflan.specs.declared.fault.Fault.{Fault}
+use Rattle.bflan.specs.declared.reader.tally.Tally.{Tally}
+use Rattle.bflan.specs.declared.reader.tally.Walk.{Walk}
+use Rattle.bflan.specs.declared.reader.tally.Walk.the-variants.{Went, Stopped}
+use Rattle.bflan.specs.declared.read.ReadAnswer.the-variants.{Accepted, Refused, TooLong, TooShort}
+use Rattle.bflan.specs.declared.find.FindAnswer.the-variants.{Found, Refused as FindRefused, TooLong as FindTooLong, NoSuchText, ScratchTooShort}
+use Rattle.bflan.specs.Reader.{Res, ok, stop, Item}
+use Rattle.bflan.specs.pai1.Reading.{section}
+use Rattle.bflan.specs.Items.{wordsOf, textsOf}
+use Rattle.bflan.specs.inner.Walk.{emptyTally, tallied, walkOf, walked}
+use Rattle.bflan.specs.Answer.{ofReading, ofFinding, shown, shownIn, filled, reading, found, finding, textPart, textPtr}
+use Rattle.bflan.specs.Items.{textsIn}
+use Rattle.core.proofs.Numbers.{Bytes}
+use Rattle.bflan.proofs.reader.Walks.{on-no, on-tally, no-fault}
+use Rattle.bflan.proofs.reader.Counts.{Fresh, whole-words, whole-bytes, whole-texts, whole-start, whole-len, whole-inside}
+
+-- ---- a walk's answer, without the tables
+
+pub told-answer : (r : Walk) (w x : List ℕ) → walked r w x .0 ≡ r
+unfolding walked
+told-answer (Went t p) w x = refl
+told-answer (Stopped f) w x = refl
+
+pub measured : (r : Walk) (s : List ℕ) (k : ℕ) (t : Tally) (w x : List ℕ) (res : Res (List Item)) → t ≡ emptyTally k → walked r w x ≡ walkOf s t [] [] res → r ≡ walkOf s (emptyTally k) [] [] res .0
+measured r s k t w x res et e = sym (told-answer r w x) ∙ ap (λ (z : Walk × List ℕ × List ℕ). z .0) (e ∙ ap (λ (u : Tally). walkOf s u [] [] res) et)
+
+-- and of one that went through, the tables
+pub tables : (r : Walk) (s : List ℕ) (t : Tally) (w x w′ x′ : List ℕ) (is : List Item) (p : ℕ) → walked r w′ x′ ≡ walkOf s t w x (ok is p)
+    → (w′ ≡ sets w (t .words) (wordsOf s is)) × (x′ ≡ sets x (t .bytes) (textsOf s is))
+unfolding walked walkOf
+tables (Went u q) s t w x w′ x′ is p e = (ap (λ (z : Walk × List ℕ × List ℕ). z .1) e, ap (λ (z : Walk × List ℕ × List ℕ). z .2) e)
+tables (Stopped f) s t w x w′ x′ is p e = absurd (on-no _ _ _ (sym (ap (λ (z : Walk × List ℕ × List ℕ). z .0) e)))
+
+-- ---- a section that was measured
+
+pub stopped : (s : List ℕ) (t : Tally) (res : Res (List Item)) (f : Fault) → walkOf s t [] [] res .0 ≡ Stopped f → res ≡ stop f
+unfolding walkOf
+stopped s t (ok is p) f e = absurd (on-no _ _ _ e)
+stopped s t (stop g) f e = ap (λ (z : Fault). stop z) (no-fault g f e)
+
+went : (s : List ℕ) (u t : Tally) (is : List Item) (q p : ℕ) → walkOf s u [] [] (ok is q) .0 ≡ Went t p → t ≡ tallied s u is
+unfolding walkOf
+went s u t is q p e = sym (on-tally _ _ _ _ e)
+
+went-not : (s : List ℕ) (u t : Tally) (f : Fault) (p : ℕ) → walkOf s u [] [] (stop f) .0 ≡ Went t p → ⊥
+unfolding walkOf
+went-not s u t f p e = on-no _ _ _ (sym e)
+
+-- what the tally of a section says, of which text k was wanted
+pub record Whole (s : List ℕ) (k : ℕ) (t : Tally) : Type 0 where
+  pub items : List Item
+  pub last : ℕ
+  pub reads : section s 0 ≡ ok items last
+  pub counts : t ≡ tallied s (emptyTally k) items
+
+pub whole : (s : List ℕ) (k : ℕ) (t : Tally) (p : ℕ) → walkOf s (emptyTally k) [] [] (section s 0) .0 ≡ Went t p → Whole s k t
+whole s k t p e = go (section s 0) refl e
+  where
+    go : (res : Res (List Item)) → section s 0 ≡ res → walkOf s (emptyTally k) [] [] res .0 ≡ Went t p → Whole s k t
+    go (ok is q) er em = record { items = is; last = q; reads = er; counts = went s (emptyTally k) t is q p em }
+    go (stop f) er em = absurd (went-not s (emptyTally k) t f p em)
+
+new : (k : ℕ) → Fresh k (emptyTally k)
+new k = (refl, refl, refl, refl)
+
+module _ (s : List ℕ) (b : Bytes s) (h : length s ≤ 16777216) (k : ℕ) (t : Tally) (m : Whole s k t) where
+  whole-w : t .words ≡ length (wordsOf s (m .items))
+  whole-w = ap (λ (z : Tally). z .words) (m .counts) ∙ whole-words s b h (m .items) (m .last) (m .reads) (emptyTally k) k (new k)
+
+  whole-b : t .bytes ≡ length (textsOf s (m .items))
+  whole-b = ap (λ (z : Tally). z .bytes) (m .counts) ∙ whole-bytes s b h (m .items) (m .last) (m .reads) (emptyTally k) k (new k)
+
+  whole-t : t .texts ≡ length (textsIn (m .items))
+  whole-t = ap (λ (z : Tally). z .texts) (m .counts) ∙ whole-texts s b h (m .items) (m .last) (m .reads) (emptyTally k) k (new k)
+
+  module _ (l : k < length (textsIn (m .items))) where
+    whole-s : t .start ≡ getD (textsIn (m .items)) k (0, 0) .0
+    whole-s = ap (λ (z : Tally). z .start) (m .counts) ∙ whole-start s b h (m .items) (m .last) (m .reads) (emptyTally k) k (new k) l
+
+    whole-l : t .len ≡ getD (textsIn (m .items)) k (0, 0) .1
+    whole-l = ap (λ (z : Tally). z .len) (m .counts) ∙ whole-len s b h (m .items) (m .last) (m .reads) (emptyTally k) k (new k) l
+
+    whole-i : t .start + t .len ≤ length s
+    whole-i = rw (m .counts) (whole-inside s b h (m .items) (m .last) (m .reads) (emptyTally k) k (new k) l)
+
+-- ---- reading
+
+filled-both : (s w x : List ℕ) (is : List Item) (p a b : ℕ) → a ≡ length (wordsOf s is) → b ≡ length (textsOf s is) → a ≤ length w → b ≤ length x
+    → (ofReading (Accepted a b), sets w 0 (wordsOf s is), sets x 0 (textsOf s is)) ≡ filled s w x (ok is p)
+unfolding ofReading filled
+filled-both s w x is p a b ea eb ha hb = rw (sym ea, sym eb, le-leb _ _ ha, le-leb _ _ hb)
+
+filled-words : (s w x : List ℕ) (is : List Item) (p a b : ℕ) → a ≡ length (wordsOf s is) → b ≡ length (textsOf s is) → length w < a → (ofReading (TooShort a b), w, x) ≡ filled s w x (ok is p)
+unfolding ofReading filled
+filled-words s w x is p a b ea eb ha = rw (sym ea, sym eb, lt-leb _ _ ha)
+
+filled-texts : (s w x : List ℕ) (is : List Item) (p a b : ℕ) → a ≡ length (wordsOf s is) → b ≡ length (textsOf s is) → a ≤ length w → length x < b
+    → (ofReading (TooShort a b), w, x) ≡ filled s w x (ok is p)
+unfolding ofReading filled
+filled-texts s w x is p a b ea eb ha hb = rw (sym ea, sym eb, le-leb _ _ ha, lt-leb _ _ hb)
+
+pub reading-long : (s w x : List ℕ) → 16777216 < length s → (ofReading (TooLong (length s)), w, x) ≡ reading s w x
+unfolding ofReading reading
+reading-long s w x h = rw (lt-leb _ _ h)
+
+module _ (s w x : List ℕ) (h : length s ≤ 16777216) where
+  by-section : reading s w x ≡ filled s w x (section s 0)
+  unfolding reading
+  by-section = rw (le-leb _ _ h)
+
+  pub reading-stop : (t : Tally) (f : Fault) → walkOf s t [] [] (section s 0) .0 ≡ Stopped f → (ofReading (Refused f), w, x) ≡ reading s w x
+  unfolding ofReading filled
+  reading-stop t f e = rw (by-section, stopped s t (section s 0) f e)
+
+  module _ (b : Bytes s) (k : ℕ) (t : Tally) (p : ℕ) (e : walkOf s (emptyTally k) [] [] (section s 0) .0 ≡ Went t p) where
+    m : Whole s k t
+    m = whole s k t p e
+
+    by-items : reading s w x ≡ filled s w x (ok (m .items) (m .last))
+    by-items = by-section ∙ ap (filled s w x) (m .reads)
+
+    pub reading-on : (r : Walk) (u : Tally) (w′ x′ : List ℕ) → t .words ≤ length w → t .bytes ≤ length x → u ≡ emptyTally k → walked r w′ x′ ≡ walkOf s u w x (section s 0)
+        → (ofReading (Accepted (t .words) (t .bytes)), w′, x′) ≡ reading s w x
+    reading-on r u w′ x′ ha hb eu er =
+        let e′ : walked r w′ x′ ≡ walkOf s (emptyTally k) w x (ok (m .items) (m .last)) = er ∙ ap (λ (z : Tally). walkOf s z w x (section s 0)) eu ∙ ap (walkOf s (emptyTally k) w x) (m .reads) in
+        let z = tables r s (emptyTally k) w x w′ x′ (m .items) (m .last) e′ in
+        rw (by-items, z .0, z .1) (filled-both s w x (m .items) (m .last) _ _ (whole-w s b h k t m) (whole-b s b h k t m) ha hb)
+
+    pub reading-words : length w < t .words → (ofReading (TooShort (t .words) (t .bytes)), w, x) ≡ reading s w x
+    reading-words ha = filled-words s w x (m .items) (m .last) _ _ (whole-w s b h k t m) (whole-b s b h k t m) ha ∙ sym by-items
+
+    pub reading-texts : t .words ≤ length w → length x < t .bytes → (ofReading (TooShort (t .words) (t .bytes)), w, x) ≡ reading s w x
+    reading-texts ha hb = filled-texts s w x (m .items) (m .last) _ _ (whole-w s b h k t m) (whole-b s b h k t m) ha hb ∙ sym by-items
+
+-- ---- finding a text
+
+pub finding-long : (s : List ℕ) (k : ℕ) (x : List ℕ) → 16777216 < length s → (ofFinding (FindTooLong (length s)), x) ≡ finding s k x
+unfolding ofFinding finding
+finding-long s k x h = rw (lt-leb _ _ h)
+
+found-none : (s : List ℕ) (k : ℕ) (x : List ℕ) (is : List Item) (p : ℕ) → length (textsIn is) ≤ k → (ofFinding NoSuchText, x) ≡ found s k x (ok is p)
+unfolding ofFinding found
+found-none s k x is p h = rw (le-ltb _ _ h)
+
+found-there : (s : List ℕ) (k : ℕ) (x : List ℕ) (is : List Item) (p : ℕ) → k < length (textsIn is) → found s k x (ok is p) ≡ shownIn s x (getD (textsIn is) k (0, 0))
+unfolding found
+found-there s k x is p h = rw (lt-ltb _ _ h)
+
+shown-place : (s x : List ℕ) (p : ℕ × ℕ) (a len : ℕ) → a ≡ p .0 → len ≡ p .1 → shownIn s x p ≡ shown a (slice a (a + len) s) x
+shown-place s x p a len ea el = rw (sym ea, sym el)
+
+module _ (s : List ℕ) (k : ℕ) (h : length s ≤ 16777216) where
+  in-section : (x : List ℕ) → finding s k x ≡ found s k x (section s 0)
+  unfolding finding
+  in-section x = rw (le-leb _ _ h)
+
+  pub finding-stop : (x : List ℕ) (f : Fault) → walkOf s (emptyTally k) [] [] (section s 0) .0 ≡ Stopped f → (ofFinding (FindRefused f), x) ≡ finding s k x
+  unfolding ofFinding found
+  finding-stop x f e = rw (in-section x, stopped s (emptyTally k) (section s 0) f e)
+
+  module _ (b : Bytes s) (t : Tally) (p : ℕ) (e : walkOf s (emptyTally k) [] [] (section s 0) .0 ≡ Went t p) where
+    n : Whole s k t
+    n = whole s k t p e
+
+    in-items : (x : List ℕ) → finding s k x ≡ found s k x (ok (n .items) (n .last))
+    in-items x = in-section x ∙ ap (found s k x) (n .reads)
+
+    pub finding-none : (x : List ℕ) → t .texts ≤ k → (ofFinding NoSuchText, x) ≡ finding s k x
+    finding-none x l =
+        let g : length (textsIn (n .items)) ≤ k = omega (arith, whole-t s b h k t n, l) in
+        found-none s k x (n .items) (n .last) g ∙ sym (in-items x)
+
+    met : k < t .texts → k < length (textsIn (n .items))
+    met l = omega (arith, whole-t s b h k t n, l)
+
+    pub finding-inside : k < t .texts → t .start + t .len ≤ length s
+    finding-inside l = whole-i s b h k t n (met l)
+
+    pub finding-there : (x : List ℕ) → k < t .texts → finding s k x ≡ shown (t .start) (slice (t .start) (t .start + t .len) s) x
+    finding-there x l = in-items x ∙ found-there s k x (n .items) (n .last) (met l) ∙ shown-place s x _ _ _ (whole-s s b h k t n (met l)) (whole-l s b h k t n (met l))
+
+-- a text of these bytes that starts at a
+module _ (a : ℕ) (bytes x : List ℕ) where
+  pub shown-well : (len : ℕ) → wellFormed bytes ≡ true → len ≡ length bytes → (ofFinding (Found 0 a len), x) ≡ shown a bytes x
+  unfolding ofFinding shown
+  shown-well len e l = rw (e, sym l)
+
+  pub shown-short : (size : ℕ) → wellFormed bytes ≡ false → size ≡ length (decode bytes) → length x < size → (ofFinding (ScratchTooShort size), x) ≡ shown a bytes x
+  unfolding ofFinding shown
+  shown-short size e l h = rw (e, sym l, lt-leb _ _ h)
+
+  pub shown-decoded : (size : ℕ) (x′ : List ℕ) → wellFormed bytes ≡ false → size ≡ length (decode bytes) → size ≤ length x → x′ ≡ sets x 0 (decode bytes) → (ofFinding (Found 1 0 size), x′) ≡ shown a bytes x
+  unfolding ofFinding shown
+  shown-decoded size x′ e l h d = ap (λ (y : List ℕ). (ofFinding (Found 1 0 size), y)) d ∙ rw (e, sym l, le-leb _ _ h)
+
+-- ---- the part that three numbers say
+
+module _ (s x : RefT (List ℕ)) (source start len : ℕ) where
+  abbrev Lies : List ℕ → ℕ × ℕ → Type 0
+  Lies l p = (l ≡ textPart (now s) (now x) source start len) × (p ≡ textPtr s x source start len)
+
+  pub part-section : source ≡ 0 → Lies (partOf (now s) start len) (partPtr s start len)
+  unfolding textPart textPtr
+  part-section e = rw (eq-eqb _ _ e) (refl, refl)
+
+  pub part-scratch : source ≡ 1 → start + len ≤ length (now x) → Lies (take (start + len - start) (drop start (now x))) (x .ptr .0, start + x .ptr .1)
+  unfolding textPart textPtr partOf partPtr
+  part-scratch e h =
+      let e₀ : eqb source 0 ≡ false = ne-eqb source 0 (λ z. omega arith) in
+      rw (e₀, eq-eqb _ _ e, le-leb _ _ h, add-sub-cancel-left) (refl, refl)
+
+  nowhere : (b : Bool) → eqb source 1 ≡ b → (source ≡ 0 → ⊥) → (source ≡ 1 → length (now x) < start + len) → Lies [] (s .ptr .0, 0 + s .ptr .1)
+  unfolding textPart textPtr partOf
+  nowhere true e n h = rw (ne-eqb _ _ n, e, lt-leb _ _ (h (eqb-true _ _ e)), zero-add) (refl, refl)
+  nowhere false e n h = rw (ne-eqb _ _ n, e, zero-add) (refl, refl)
+
+  pub part-nowhere : (source ≡ 0 → ⊥) → (source ≡ 1 → length (now x) < start + len) → Lies [] (s .ptr .0, 0 + s .ptr .1)
+  part-nowhere n h = nowhere (eqb source 1) refl n h

@@ -1,0 +1,12 @@
+pub mod Bounds
+pub mod ContentParts
+pub mod Counts
+pub mod DatumParts
+pub mod Emits
+pub mod InfoParts
+pub mod Inversion
+pub mod KeyRuns
+pub mod Rows
+pub mod SectionParts
+pub mod TargetParts
+pub mod Walks

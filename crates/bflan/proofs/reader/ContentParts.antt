@@ -1,0 +1,220 @@
+-- A content by its thirty-two bytes: the reads of its head, and what follows it.
+-- Assumes nothing.
+use Prim.Native.Nat.{ℕ, min, _+_, _-_, _<_, _≤_}
+use mathlib.Core.Path.{_≡_, refl, ap, sym, _∙_}
+use mathlib.Core.Bool.{Bool, true, false}
+use mathlib.Core.List.{List, [], _∷_}
+use native.Mathlib.Omega.{arith}
+use borrow.Author.Tests.{leb-true, leb-false, eqb-true, eqb-false, le-leb, lt-leb, eq-eqb, ne-eqb}
+use lib.Dec.{leb, eqb}
+use lib.ListN.{length, getD, set, take, drop, length-set, length-take, length-drop}
+use lib.Seq.{sets, length-sets}
+use Rattle.core.specs.Number.{get}
+use Rattle.core.specs.Seek.{seekOf}
+use Rattle.core.specs.Text.{beforeZero, fixedOf}
+use Rattle.core.specs.Run.{numbersAt, numbersOf}
+use Rattle.core.specs.declared.run.Run.the-variants.{Next, Cut}
+use Rattle.core.specs.declared.seek.Sought.the-variants.{At, Past as SoughtPast}
+use Rattle.core.specs.declared.text.TextAt.the-variants.{Text, Past as TextPast, Unended}
+use Rattle.core.proofs.Seeks.{seek-there, seek-over}
+use Rattle.core.proofs.Zeros.{before-le}
+use Rattle.bflan.specs.declared.fault.Fault.{Fault}
+use Rattle.bflan.specs.declared.fault.Fault.the-variants.{PastEnd, NoZero}
+use Rattle.bflan.specs.declared.reader.tally.Tally.{Tally}
+use Rattle.bflan.specs.Reader.{Res, ok, stop, andThen, _>>=_, ret, Item, word, text, fixedText, numbers, visit}
+use Rattle.bflan.specs.pai1.Reading.{info, typeOf, infoTable, content}
+use Rattle.bflan.specs.Items.{shownAt}
+use Rattle.bflan.specs.inner.Walk.{withWords, withText, walkOf}
+use Rattle.bflan.proofs.reader.Emits.{sought-on, sought-past, sought-there, run-put2, run-named}
+use Rattle.bflan.proofs.reader.KeyRuns.{num-there, num-to, num-short, numbers-run}
+use Rattle.bflan.proofs.reader.Rows.{rowThen, Row}
+use Rattle.bflan.proofs.reader.Walks.{before, before-before, put-before}
+
+-- ---- the name
+
+-- its length in the section
+abbrev pub nameSize : List ℕ → ℕ → ℕ
+nameSize s base = beforeZero (take 28 (drop base s))
+
+field-size : (s : List ℕ) (base : ℕ) → base ≤ length s → length (take 28 (drop base s)) ≡ min 28 (length s - base)
+field-size s base h = rw (length-take, length-drop)
+
+pub name-there : (s : List ℕ) (base : ℕ) → base < length s → fixedText 28 s base ≡ ok (text base (nameSize s base)) (base + min 28 (length s - base))
+unfolding fixedText fixedOf
+name-there s base h = rw (le-leb (base + 1) (length s) (omega arith)) (ap (λ (n : ℕ). ok (text base (nameSize s base)) (base + n)) (field-size s base (omega arith)))
+
+pub name-none : (s : List ℕ) (base : ℕ) → length s ≤ base → fixedText 28 s base ≡ stop (PastEnd base 28)
+unfolding fixedText fixedOf
+name-none s base h = rw (lt-leb (base + 1) (length s) (omega arith))
+
+pub name-within : (s : List ℕ) (base : ℕ) → base + 28 ≤ length s → base + nameSize s base ≤ length s
+name-within s base h =
+    let b = before-le (take 28 (drop base s)) in
+    let l = field-size s base (omega arith) in
+    omega (arith, b, l, h)
+
+pub name-part : (s : List ℕ) (base r : ℕ) → r ≡ beforeZero (take (base + 28 - base) (drop base s)) → r ≡ nameSize s base
+name-part s base r e = let m : base + 28 - base ≡ 28 = omega arith in rw m at e
+
+-- what is read behind the numbers of a content's head
+abbrev pub contentAfter : ℕ → Item → List ℕ → List ℕ → ℕ → Res (List Item)
+contentAfter base name vs =
+    _>>=_ (infoTable base (getD vs 1 0))
+    (λ at. _>>=_ (numbers (getD vs 0 0)) (λ offsets. _>>=_ (visit base info offsets) (λ is. ret (name ∷ word (typeOf (getD vs 1 0)) ∷ word (getD vs 0 0) ∷ is))))
+
+module _ (base : ℕ) (s : List ℕ) (i : ℕ) where
+  whole-name : base + 28 ≤ length s → fixedText 28 s base ≡ ok (text base (nameSize s base)) (base + 28)
+  whole-name h = let e : base + min 28 (length s - base) ≡ base + 28 = omega arith in name-there s base (omega arith) ∙ ap (λ (n : ℕ). ok (text base (nameSize s base)) n) e
+
+  -- ---- the reads of its head, by core's answers
+
+  pub content-past : (o k : ℕ) → seekOf s base ≡ SoughtPast o k → content base s i ≡ stop (PastEnd o k)
+  unfolding content
+  content-past o k e = rw (sought-past s base i o k e)
+
+  module _ {p : ℕ} (e : seekOf s base ≡ At p) where
+    pub content-none : (o k : ℕ) → fixedOf 28 s p ≡ TextPast o k → content base s i ≡ stop (PastEnd o k)
+    unfolding content fixedText
+    content-none o k f = rw (sought-on s base i p e, f)
+
+    pub content-unended : (a : ℕ) → fixedOf 28 s p ≡ Unended a → content base s i ≡ stop (NoZero a)
+    unfolding content fixedText
+    content-unended a f = rw (sought-on s base i p e, f)
+
+    -- its three numbers as a row, and what is behind them
+    pub content-row : {len q : ℕ} {x : Res (List Item)} → fixedOf 28 s p ≡ Text len q → Row (1 ∷ 1 ∷ 2 ∷ []) (contentAfter base (text p len)) s q x → content base s i ≡ x
+    unfolding content fixedText rowThen
+    content-row f r = rw (sought-on s base i p e, f) (r .gives)
+
+  -- ---- behind them
+
+  -- the info table at q, and what it leads to
+  abbrev pub contentTable : ℕ → ℕ → ℕ → Res (List Item)
+  contentTable n type q =
+      _>>=_ (numbers n) (λ offsets. _>>=_ (visit base info offsets) (λ is. ret (text base (nameSize s base) ∷ word (typeOf type) ∷ word n ∷ is))) s q
+
+  abbrev pub contentRest : ℕ → ℕ → Res (List Item)
+  contentRest n type =
+      _>>=_ (infoTable base type)
+      (λ at. _>>=_ (numbers n) (λ offsets. _>>=_ (visit base info offsets) (λ is. ret (text base (nameSize s base) ∷ word (typeOf type) ∷ word n ∷ is))))
+      s (base + 32)
+
+  pub content-there : base + 32 ≤ length s → content base s i ≡ contentRest (get 1 s (base + 28)) (get 1 s (base + 29))
+  unfolding content
+  content-there h = rw (sought-there s base i (omega arith), whole-name (omega arith), num-to 1 s (base + 28) (base + 29) (omega arith) (omega arith), num-to 1 s (base + 29) (base + 30) (omega arith) (omega arith), num-to 2 s (base + 30) (base + 32) (omega arith) (omega arith))
+
+  pub rest-at : (n type q : ℕ) → infoTable base type s (base + 32) ≡ ok q q → contentRest n type ≡ contentTable n type q
+  rest-at n type q e = rw e
+
+  pub rest-stop : (n type : ℕ) (f : Fault) → infoTable base type s (base + 32) ≡ stop f → contentRest n type ≡ stop f
+  rest-stop n type f e = rw e
+
+  pub table-on : (n type q p : ℕ) → numbersOf n s q ≡ Next p
+      → contentTable n type q ≡ before (text base (nameSize s base) ∷ word (typeOf type) ∷ word n ∷ []) (visit base info (numbersAt n s q) s p)
+  table-on n type q p t =
+      let r : numbers n s q ≡ ok (numbersAt n s q) p = numbers-run n s q ∙ rw t in
+      rw r (put-before (text base (nameSize s base) ∷ word (typeOf type) ∷ word n ∷ []) (visit base info (numbersAt n s q) s p) s)
+
+  pub table-cut : (n type q o k : ℕ) → numbersOf n s q ≡ Cut o k → contentTable n type q ≡ stop (PastEnd o k)
+  table-cut n type q o k t = let r : numbers n s q ≡ stop (PastEnd o k) = numbers-run n s q ∙ rw t in rw r
+
+-- ---- where the info table stands
+
+ok-place : (k q : ℕ) → _≡_ {A = Res ℕ} (ok k k) (ok q q) → k ≡ q
+ok-place k q e = cc
+
+ok-stop : (q : ℕ) (f : Fault) → _≡_ {A = Res ℕ} (ok q q) (stop f) → ⊥
+ok-stop q f e = let z : _≡_ {A = ℕ} 0 1 = cc in omega arith
+
+module _ (base type : ℕ) (s : List ℕ) (p : ℕ) where
+  pub table-plain : (type ≡ 2 → ⊥) → infoTable base type s p ≡ ok p p
+  unfolding infoTable
+  table-plain e = rw (ne-eqb type 2 e)
+
+  pub table-user : type ≡ 2 → p + 4 ≤ length s → (q : ℕ) → seekOf s (base + get 4 s p) ≡ At q → infoTable base type s p ≡ ok q q
+  unfolding infoTable
+  table-user e h q k = rw (eq-eqb type 2 e, num-there 4 s p h, sought-on s (base + get 4 s p) (p + 4) q k)
+
+  pub table-past : type ≡ 2 → p + 4 ≤ length s → (o k : ℕ) → seekOf s (base + get 4 s p) ≡ SoughtPast o k → infoTable base type s p ≡ stop (PastEnd o k)
+  unfolding infoTable
+  table-past e h o k d = rw (eq-eqb type 2 e, num-there 4 s p h, sought-past s (base + get 4 s p) (p + 4) o k d)
+
+  pub table-short : type ≡ 2 → length s < p + 4 → infoTable base type s p ≡ stop (PastEnd p 4)
+  unfolding infoTable
+  table-short e h = rw (eq-eqb type 2 e, num-short 4 s p h)
+
+  -- a table that was found stands in the section
+  pub table-within : (q : ℕ) → p ≤ length s → infoTable base type s p ≡ ok q q → q ≤ length s
+  table-within q h e = kind (eqb type 2) refl
+    where
+      same : (k : ℕ) → infoTable base type s p ≡ ok k k → k ≡ q
+      same k d = ok-place k q (sym d ∙ e)
+
+      none : (f : Fault) → infoTable base type s p ≡ stop f → q ≤ length s
+      none f d = absurd (ok-stop q f (sym e ∙ d))
+
+      there : type ≡ 2 → p + 4 ≤ length s → (b : Bool) → leb (base + get 4 s p) (length s) ≡ b → q ≤ length s
+      there k l true d =
+          let to = base + get 4 s p in
+          let m = leb-true to (length s) d in
+          let z = same to (table-user k l to (seek-there s to m)) in
+          omega (arith, m, z)
+      there k l false d =
+          let to = base + get 4 s p in
+          none _ (table-past k l _ _ (seek-over s to (leb-false to (length s) d)))
+
+      user : type ≡ 2 → (b : Bool) → leb (p + 4) (length s) ≡ b → q ≤ length s
+      user k true d = there k (leb-true (p + 4) (length s) d) (leb (base + get 4 s p) (length s)) refl
+      user k false d = none _ (table-short k (leb-false (p + 4) (length s) d))
+
+      kind : (b : Bool) → eqb type 2 ≡ b → q ≤ length s
+      kind true d = user (eqb-true type 2 d) (leb (p + 4) (length s)) refl
+      kind false d =
+          let z = same p (table-plain (eqb-false type 2 d)) in
+          omega (arith, h, z)
+
+-- ---- a content as the code has it: by the count, the type and the place of the table
+
+module _ (base : ℕ) (s : List ℕ) (i : ℕ) (h : base + 32 ≤ length s) {n type : ℕ} (en : n ≡ get 1 s (base + 28)) (et : type ≡ get 1 s (base + 29)) where
+  pub content-no : (f : Fault) → infoTable base type s (base + 32) ≡ stop f → content base s i ≡ stop f
+  content-no f e =
+      let d : infoTable base (get 1 s (base + 29)) s (base + 32) ≡ stop f = rw et at e in
+      content-there base s i h ∙ rest-stop base s i (get 1 s (base + 28)) (get 1 s (base + 29)) f d
+
+  content-on : (q : ℕ) → infoTable base type s (base + 32) ≡ ok q q → content base s i ≡ contentTable base s i n type q
+  content-on q e =
+      let d : infoTable base (get 1 s (base + 29)) s (base + 32) ≡ ok q q = rw et at e in
+      rw (en, et) (content-there base s i h ∙ rest-at base s i (get 1 s (base + 28)) (get 1 s (base + 29)) q d)
+
+  pub content-cut : (q o k : ℕ) → infoTable base type s (base + 32) ≡ ok q q → numbersOf n s q ≡ Cut o k → content base s i ≡ stop (PastEnd o k)
+  content-cut q o k e d = content-on q e ∙ table-cut base s i n type q o k d
+
+  pub content-rest : (q p : ℕ) → infoTable base type s (base + 32) ≡ ok q q → numbersOf n s q ≡ Next p
+      → content base s i ≡ andThen (visit base info (numbersAt n s q) s p) (λ is. ret (text base (nameSize s base) ∷ word (typeOf type) ∷ word n ∷ is)) s
+  content-rest q p e d =
+      content-on q e ∙ table-on base s i n type q p d ∙ sym (put-before (text base (nameSize s base) ∷ word (typeOf type) ∷ word n ∷ []) (visit base info (numbersAt n s q) s p) s)
+
+-- the name and the two words of a content, stored, and what follows them
+pub run-content : (s : List ℕ) (t : Tally) (w x : List ℕ) (base kind n : ℕ) (r : Res (List Item)) {len type : ℕ} {u v : Tally} {w₁ w₂ x₁ : List ℕ} → length w ≤ 18446744073709551615 → length x ≤ 18446744073709551615
+    → len ≡ nameSize s base → type ≡ typeOf kind → u ≡ withText t base len (length (shownAt s base len)) → w₁ ≡ set w (t .words) (length (shownAt s base len)) → x₁ ≡ sets x (t .bytes) (shownAt s base len)
+    → v ≡ withWords u 2 → w₂ ≡ sets w₁ (u .words) (type ∷ n ∷ [])
+    → walkOf s v w₂ x₁ r ≡ walkOf s t w x (andThen r (λ is. ret (text base (nameSize s base) ∷ word (typeOf kind) ∷ word n ∷ is)) s)
+run-content s t w x base kind n r {len} {type} {u} {v} {w₁} {w₂} {x₁} hw hx el et eu e₁ ex ev e₂ =
+    let h : length w₁ ≤ 18446744073709551615 = rw (e₁, length-set w (t .words) (length (shownAt s base len))) hw in
+    let k : length x₁ ≤ 18446744073709551615 = rw (ex, length-sets x (t .bytes) (shownAt s base len)) hx in
+    let two = run-put2 s u w₁ x₁ type n r v w₂ h k ev e₂ in
+    let one = run-named s t w x base len (before (word type ∷ word n ∷ []) r) u w₁ x₁ hw hx eu e₁ ex in
+    let all = before-before (text base len ∷ []) (word type ∷ word n ∷ []) r in
+    let last : walkOf s t w x (before (text base len ∷ word type ∷ word n ∷ []) r) ≡ walkOf s t w x (andThen r (λ is. ret (text base (nameSize s base) ∷ word (typeOf kind) ∷ word n ∷ is)) s) =
+    rw (el, et) (ap (walkOf s t w x) (sym (put-before (text base (nameSize s base) ∷ word (typeOf kind) ∷ word n ∷ []) r s))) in
+    two ∙ one ∙ ap (walkOf s t w x) all ∙ last
+
+-- ---- the type's word
+
+pub type-low : (type : ℕ) → type ≤ 4 → type ≡ typeOf type
+unfolding typeOf
+type-low type h = rw (le-leb type 4 h)
+
+pub type-high : (type : ℕ) → 4 < type → 0 ≡ typeOf type
+unfolding typeOf
+type-high type h = rw (lt-leb type 4 h)

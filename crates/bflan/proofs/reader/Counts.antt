@@ -1,0 +1,151 @@
+-- Items as counts: how many words and text bytes they have, and what a tally says of them while its counts fit.
+-- A section of at most 16,777,216 bytes is read whole with counts that fit. Assumes nothing.
+use Prim.Native.Nat.{ℕ, zero, suc, _+_, _*_, _<_, _≤_}
+use mathlib.Core.Path.{_≡_, refl, ap, _∙_}
+use mathlib.Core.List.{List, [], _∷_}
+use native.Mathlib.Omega.{arith}
+use borrow.Author.Tests.{eq-eqb, ne-eqb}
+use lib.ListN.{length, getD, take, length-append, length-take, length-drop}
+use lib.Seq.{slice}
+use Rattle.core.proofs.Numbers.{Bytes}
+use Rattle.core.proofs.utf8.Laws.{decode-bound}
+use Rattle.bflan.specs.declared.reader.tally.Tally.{Tally}
+use Rattle.bflan.specs.Items.{textsIn}
+use Rattle.bflan.specs.Reader.{ok, Item, word, text}
+use Rattle.bflan.specs.pai1.Reading.{section}
+use Rattle.bflan.specs.Items.{shownAt, wordsOf, textsOf}
+use Rattle.bflan.specs.inner.Walk.{withWords, withText, tallied}
+use Rattle.bflan.proofs.reader.Bounds.{section-most, section-inside}
+
+-- ---- words and text bytes
+
+module _ (s : List ℕ) where
+  -- each item is one word
+  pub words-length : (is : List Item) → length (wordsOf s is) ≡ length is
+  unfolding wordsOf
+  words-length [] = refl
+  words-length (word v ∷ is) = ap suc (words-length is)
+  words-length (text a n ∷ is) = ap suc (words-length is)
+
+  -- a text is shown with at most three bytes for each of the section's
+  shown-most : length s ≤ 16777216 → (a n : ℕ) → length (shownAt s a n) ≤ 50331648
+  shown-most h a n = omega (arith, decode-bound (slice a (a + n) s), length-drop a (take (a + n) s), length-take (a + n) s)
+
+  pub texts-most : length s ≤ 16777216 → (is : List Item) → length (textsOf s is) ≤ 50331648 * length (textsIn is)
+  unfolding textsOf textsIn
+  texts-most h [] = omega arith
+  texts-most h (word v ∷ is) = texts-most h is
+  texts-most h (text a n ∷ is) = omega (arith, length-append (shownAt s a n) (textsOf s is), shown-most h a n, texts-most h is)
+
+-- ---- a tally whose counts fit
+
+module _ (s : List ℕ) where
+  -- room for items behind what was counted
+  pub record Room (t : Tally) (is : List Item) : Type 0 where
+    pub words : t .words + length is ≤ 18446744073709551615
+    pub bytes : t .bytes + length (textsOf s is) ≤ 18446744073709551615
+    pub texts : t .texts + length (textsIn is) ≤ 18446744073709551615
+
+  pub record Counted (t : Tally) (is : List Item) : Type 0 where
+    pub words : tallied s t is .words ≡ t .words + length is
+    pub bytes : tallied s t is .bytes ≡ t .bytes + length (textsOf s is)
+    pub texts : tallied s t is .texts ≡ t .texts + length (textsIn is)
+
+  pub counted : (t : Tally) (is : List Item) → Room t is → Counted t is
+  unfolding tallied withWords withText textsOf textsIn
+  counted t [] r = record { words = omega arith; bytes = omega arith; texts = omega arith }
+  counted t (word v ∷ is) r =
+      let k = counted (withWords t 1) is (record { words = omega (arith, r .words); bytes = r .bytes; texts = r .texts }) in
+      record { words = omega (arith, k .words, r .words); bytes = k .bytes; texts = k .texts }
+  counted t (text a n ∷ is) r =
+      let e = length-append (shownAt s a n) (textsOf s is) in
+      let k = counted (withText t a n (length (shownAt s a n))) is (record { words = omega (arith, r .words); bytes = omega (arith, r .bytes, e); texts = omega (arith, r .texts) }) in
+      record { words = omega (arith, k .words, r .words); bytes = omega (arith, k .bytes, r .bytes, e); texts = omega (arith, k .texts, r .texts) }
+
+-- ---- the text that is wanted
+
+-- where it stands and its length, as the tally has them
+abbrev pub placeOf : Tally → ℕ × ℕ
+placeOf t = (t .start, t .len)
+
+module _ (s : List ℕ) where
+  -- behind it nothing changes
+  place-kept : (t : Tally) (is : List Item) → t .want < t .texts → t .texts + length (textsIn is) ≤ 18446744073709551615 → placeOf (tallied s t is) ≡ placeOf t
+  unfolding tallied withWords withText textsIn
+  place-kept t [] h r = refl
+  place-kept t (word v ∷ is) h r = place-kept (withWords t 1) is h r
+  place-kept t (text a n ∷ is) h r =
+      place-kept (withText t a n (length (shownAt s a n))) is (omega arith) (omega arith) ∙ rw (ne-eqb (t .texts) (t .want) (λ e. omega arith))
+
+  -- k texts before it
+  pub place-met : (t : Tally) (is : List Item) (k : ℕ) → t .want ≡ t .texts + k → k < length (textsIn is) → t .texts + length (textsIn is) ≤ 18446744073709551615
+      → placeOf (tallied s t is) ≡ getD (textsIn is) k (0, 0)
+  unfolding tallied withWords withText textsIn
+  place-met t [] k e h r = absurd (omega arith)
+  place-met t (word v ∷ is) k e h r = place-met (withWords t 1) is k e h r
+  place-met t (text a n ∷ is) zero e h r =
+      place-kept (withText t a n (length (shownAt s a n))) is (omega arith) (omega arith) ∙ rw (eq-eqb (t .texts) (t .want) (omega arith))
+  place-met t (text a n ∷ is) (suc k) e h r = place-met (withText t a n (length (shownAt s a n))) is k (omega arith) (omega arith) (omega arith)
+
+-- ---- a tally as it is made, which wants text k
+
+abbrev pub Fresh : ℕ → Tally → Type 0
+Fresh k t = (t .words ≡ 0) × (t .bytes ≡ 0) × (t .texts ≡ 0) × (t .want ≡ k)
+
+-- it has room for as much as a section can hold
+pub fresh-room : (s : List ℕ) (is : List Item) (t : Tally) (k : ℕ) → Fresh k t → length s ≤ 16777216 → length is ≤ 144115188075855872 → length (textsIn is) ≤ 8589934592 → Room s t is
+fresh-room s is t k new fits m n =
+    record {
+      words = omega (arith, new .0);
+      bytes = omega (arith, new .1, texts-most s fits is);
+      texts = omega (arith, new .2);
+    }
+
+module _ (s : List ℕ) (is : List Item) (t : Tally) (k : ℕ) (new : Fresh k t) (room : Room s t is) where
+  pub fresh-words : tallied s t is .words ≡ length (wordsOf s is)
+  fresh-words = omega (arith, counted s t is room .words, new .0, words-length s is)
+
+  pub fresh-bytes : tallied s t is .bytes ≡ length (textsOf s is)
+  fresh-bytes = omega (arith, counted s t is room .bytes, new .1)
+
+  pub fresh-texts : tallied s t is .texts ≡ length (textsIn is)
+  fresh-texts = omega (arith, counted s t is room .texts, new .2)
+
+  pub fresh-place : k < length (textsIn is) → placeOf (tallied s t is) ≡ getD (textsIn is) k (0, 0)
+  fresh-place h = place-met s t is k (omega (arith, new .2, new .3)) h (room .texts)
+
+-- ---- the same of a section that was read whole
+
+module _ (s : List ℕ) (bytes : Bytes s) (fits : length s ≤ 16777216) (is : List Item) (p : ℕ) (e : section s 0 ≡ ok is p) where
+  -- what the tables need
+  pub needs-bound : (length (wordsOf s is) ≤ 144115188075855872) × (length (textsOf s is) ≤ 576460752303423488)
+  needs-bound =
+      let m = section-most s bytes fits is p e in
+      (omega (arith, m .0, words-length s is), omega (arith, m .1, texts-most s fits is))
+
+  module _ (t : Tally) (k : ℕ) (new : Fresh k t) where
+    whole-room : Room s t is
+    whole-room = let m = section-most s bytes fits is p e in fresh-room s is t k new fits (m .0) (m .1)
+
+    pub whole-words : tallied s t is .words ≡ length (wordsOf s is)
+    whole-words = fresh-words s is t k new whole-room
+
+    pub whole-bytes : tallied s t is .bytes ≡ length (textsOf s is)
+    whole-bytes = fresh-bytes s is t k new whole-room
+
+    pub whole-texts : tallied s t is .texts ≡ length (textsIn is)
+    whole-texts = fresh-texts s is t k new whole-room
+
+    module _ (h : k < length (textsIn is)) where
+      pub whole-place : placeOf (tallied s t is) ≡ getD (textsIn is) k (0, 0)
+      whole-place = fresh-place s is t k new whole-room h
+
+      pub whole-start : tallied s t is .start ≡ getD (textsIn is) k (0, 0) .0
+      whole-start = ap (λ (z : ℕ × ℕ). z .0) whole-place
+
+      pub whole-len : tallied s t is .len ≡ getD (textsIn is) k (0, 0) .1
+      whole-len = ap (λ (z : ℕ × ℕ). z .1) whole-place
+
+      -- and that text lies in the section
+      pub whole-inside : tallied s t is .start + tallied s t is .len ≤ length s
+      whole-inside = rw (whole-start, whole-len) (section-inside s bytes fits is p e k)

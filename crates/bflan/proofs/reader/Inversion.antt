@@ -1,0 +1,265 @@
+-- What the judging walk's answer says of the parts: the words that a part's fields are, and the answer of each part within it.
+-- Assumes nothing.
+use Prim.Native.Nat.{ℕ, zero, suc, _+_, _*_, _-_, _≤_, _<_}
+use mathlib.Core.Path.{_≡_, refl, sym, ap, _∙_}
+use mathlib.Core.Bool.{Bool, true, false, _&&_}
+use mathlib.Core.List.{List, [], _∷_}
+use native.Mathlib.Numerals.{add-one}
+use native.Mathlib.Omega.{arith}
+use borrow.Author.Tests.{ltb-true, leb-true, eq-eqb, ne-eqb}
+use lib.Dec.{eqb, ltb, leb}
+use lib.ListN.{length, getD, take, drop, length-take, length-drop}
+use lib.Seq.{drop-cons}
+use Rattle.core.specs.Choice.{pick}
+use Rattle.core.specs.Text.{firstFault}
+use Rattle.bflan.specs.Judge.{Judged, fine, badWord, badText, J, andThen, _>>=_, ret, given, nextWord, nextChars, nextText, times, wide, row, ends}
+use Rattle.bflan.specs.pai1.Judge.{target, datum, info, content, section}
+use Rattle.bflan.specs.pai1.Letters.{fleu, lettersFit, targetFits}
+use Rattle.bflan.specs.pai1.Record.{AnimTarget, ExtendedUserDataAnim, AnimInfo, Standard, ExtendedUserData, AnimContent, PaneAnimInfo, keyWidths}
+use Rattle.bflan.proofs.judge.Judging.{fine-to, no-word, no-text}
+
+-- ---- a walk of two parts
+
+module _ {Y C : Type 0} (w x : List ℕ) (i j : ℕ) {y : Y} {k l : ℕ} where
+  pub opened : {X : Type 0} (p : J X) (q : X → J Y) → _>>=_ p q w x i j ≡ fine y k l
+      → ((v : X) (m n : ℕ) → p w x i j ≡ fine v m n → q v w x m n ≡ fine y k l → C)
+      → C
+  opened {X} p q e f = go (p w x i j) refl e
+    where
+      go : (r : Judged X) → p w x i j ≡ r → andThen r q w x ≡ fine y k l → C
+      go (fine v m n) c d = f v m n c d
+      go (badWord m) c d = no-word d
+      go (badText m) c d = no-text d
+
+  -- the first part a word
+  pub opened-word : (test : ℕ → Bool) (q : ℕ → J Y) → _>>=_ (nextWord test) q w x i j ≡ fine y k l
+      → (i < length w → test (getD w i 0) ≡ true → q (getD w i 0) w x (i + 1) j ≡ fine y k l → C)
+      → C
+  unfolding nextWord
+  opened-word test q e f = go (ltb i (length w)) (test (getD w i 0)) refl refl e
+    where
+      go : (s t : Bool) → ltb i (length w) ≡ s → test (getD w i 0) ≡ t
+          → andThen (pick (s && t) (fine (getD w i 0) (i + 1) j) (badWord i)) q w x ≡ fine y k l
+          → C
+      go true true a b d = f (ltb-true i (length w) a) b d
+      go true false a b d = no-word d
+      go false t a b d = no-word d
+
+-- ---- texts
+
+pub record TextAt (test : ℕ → Bool) (w x : List ℕ) (i j : ℕ) (t : List ℕ) (k l : ℕ) : Type 0 where
+  pub there : i < length w
+  pub good : test (getD w i 0) ≡ true
+  pub inside : j + getD w i 0 ≤ length x
+  pub bytes : t ≡ take (getD w i 0) (drop j x)
+  pub size : length t ≡ getD w i 0
+  pub word : k ≡ i + 1
+  pub byte : l ≡ j + getD w i 0
+
+pub text-at : (test : ℕ → Bool) (w x : List ℕ) (i j : ℕ) {t : List ℕ} {k l : ℕ} → nextText test w x i j ≡ fine t k l → TextAt test w x i j t k l
+unfolding nextText nextChars
+text-at test w x i j {t} {k} {l} e =
+    opened-word w x i j test nextChars e λ h g d.
+    go h g (take (getD w i 0) (drop j x)) refl (leb (j + getD w i 0) (length x)) (ltb (firstFault (take (getD w i 0) (drop j x))) (getD w i 0)) refl d
+  where
+    go : i < length w → test (getD w i 0) ≡ true → (u : List ℕ) → take (getD w i 0) (drop j x) ≡ u → (c d : Bool) → leb (j + getD w i 0) (length x) ≡ c
+        → pick c (pick d (badText (j + firstFault u)) (fine u (i + 1) (j + getD w i 0))) (badText (length x)) ≡ fine t k l
+        → TextAt test w x i j t k l
+    go h g u s true true c f = no-text f
+    go h g u s true false c f =
+        let m : j + getD w i 0 ≤ length x = leb-true (j + getD w i 0) (length x) c in
+        let z : length (take (getD w i 0) (drop j x)) ≡ getD w i 0 = simp (length-take, length-drop) (omega arith) in
+        fine-to (λ (t : List ℕ) (k l : ℕ). TextAt test w x i j t k l) f
+        (record { there = h; good = g; inside = m; bytes = sym s; size = ap length (sym s) ∙ z; word = refl; byte = refl })
+    go h g u s false d c f = no-text f
+
+-- ---- runs
+
+module _ {X : Type 0} (p : J X) (w x : List ℕ) where
+  pub times-none : (i j : ℕ) {ys : List X} {k l : ℕ} → times 0 p w x i j ≡ fine ys k l → (ys ≡ []) × (k ≡ i) × (l ≡ j)
+  unfolding times
+  times-none i j e = fine-to (λ (ys : List X) (k l : ℕ). (ys ≡ []) × (k ≡ i) × (l ≡ j)) e (refl, refl, refl)
+
+  pub times-more : {C : Type 0} (n i j : ℕ) {ys : List X} {k l : ℕ} → times (suc n) p w x i j ≡ fine ys k l
+      → ((y : X) (zs : List X) (m o : ℕ) → p w x i j ≡ fine y m o → times n p w x m o ≡ fine zs k l → ys ≡ y ∷ zs → C)
+      → C
+  unfolding times
+  times-more {C} n i j e f =
+      opened w x i j p _ e λ y m o a e.
+      opened w x m o (times n p) _ e λ zs g h b e.
+      fine-to (λ (ys : List X) (k l : ℕ). ((zs : List X) → times n p w x m o ≡ fine zs k l → ys ≡ y ∷ zs → C) → C) e
+      (λ r. r zs b refl) (λ zs b q. f y zs m o a b q)
+
+  pub times-length : (n i j : ℕ) {ys : List X} {k l : ℕ} → times n p w x i j ≡ fine ys k l → length ys ≡ n
+  times-length zero i j e = ap length (times-none i j e .0)
+  times-length (suc n) i j e = times-more n i j e λ y zs m o a b q. ap length q ∙ ap suc (times-length n m o b)
+
+-- n words as they are
+pub record WordsAt (n : ℕ) (w : List ℕ) (i j : ℕ) (vs : List ℕ) (k l : ℕ) : Type 0 where
+  pub same : vs ≡ take n (drop i w)
+  pub count : length vs ≡ n
+  pub word : k ≡ i + n
+  pub byte : l ≡ j
+  pub there : (most : ℕ) → i ≤ most → length w ≤ most → k ≤ most
+
+no-words : {w : List ℕ} {i j : ℕ} → WordsAt 0 w i j [] i j
+no-words = record { same = refl; count = refl; word = omega arith; byte = refl; there = λ most a b. a }
+
+more-words : {n : ℕ} {w : List ℕ} {i j : ℕ} {vs : List ℕ} {k l : ℕ} → i < length w → WordsAt n w (i + 1) j vs k l → WordsAt (suc n) w i j (getD w i 0 ∷ vs) k l
+more-words {n} {w} {i} h r =
+    let d : drop (i + 1) w ≡ drop (suc i) w = ap (λ (q : ℕ). drop q w) (add-one i) in
+    record {
+      same = rw (drop-cons w i 0 h, ← d) (ap (λ (z : List ℕ). getD w i 0 ∷ z) (r .same));
+      count = ap suc (r .count);
+      word = omega (arith, r .word);
+      byte = r .byte;
+      there = λ most a b. r .there most (omega (arith, h, b)) b;
+    }
+
+pub row-at : (ks : List ℕ) (w x : List ℕ) (i j : ℕ) {vs : List ℕ} {k l : ℕ} → row ks w x i j ≡ fine vs k l → WordsAt (length ks) w i j vs k l
+unfolding row
+row-at [] w x i j e = fine-to (λ (vs : List ℕ) (k l : ℕ). WordsAt 0 w i j vs k l) e no-words
+row-at (c ∷ ks) w x i j e =
+    opened-word w x i j (wide c) _ e λ h g e.
+    opened w x (i + 1) j (row ks) _ e λ us m o a e.
+    fine-to (λ (vs : List ℕ) (k l : ℕ). WordsAt (suc (length ks)) w i j vs k l) e (more-words h (row-at ks w x (i + 1) j a))
+
+pub values-at : (n : ℕ) (w x : List ℕ) (i j : ℕ) {vs : List ℕ} {k l : ℕ} → times n (nextWord (wide 4)) w x i j ≡ fine vs k l → WordsAt n w i j vs k l
+unfolding times
+values-at zero w x i j e = fine-to (λ (vs : List ℕ) (k l : ℕ). WordsAt 0 w i j vs k l) e no-words
+values-at (suc n) w x i j e =
+    opened-word w x i j (wide 4) _ e λ h g e.
+    opened w x (i + 1) j (times n (nextWord (wide 4))) _ e λ us m o a e.
+    fine-to (λ (vs : List ℕ) (k l : ℕ). WordsAt (suc n) w i j vs k l) e (more-words h (values-at n w x (i + 1) j a))
+
+-- ---- the parts
+
+pub record TargetAt (w x : List ℕ) (i j : ℕ) (t : AnimTarget) (k l : ℕ) : Type 0 where
+  pub there : i + 4 ≤ length w
+  pub layer : t .layer ≡ getD w i 0
+  pub number : t .target ≡ getD w (i + 1) 0
+  pub curve : t .curve ≡ getD w (i + 2) 0
+  pub low : getD w (i + 2) 0 < 3
+  pub keys : times (getD w (i + 3) 0) (row (keyWidths (getD w (i + 2) 0))) w x (i + 4) j ≡ fine (t .keys) k l
+
+pub target-at : (letters : ℕ) (w x : List ℕ) (i j : ℕ) {t : AnimTarget} {k l : ℕ} → target letters w x i j ≡ fine t k l → TargetAt w x i j t k l
+unfolding target
+target-at letters w x i j e =
+    let p2 : i + 1 + 1 ≡ i + 2 = omega arith in
+    let p3 : i + 2 + 1 ≡ i + 3 = omega arith in
+    let p4 : i + 3 + 1 ≡ i + 4 = omega arith in
+    opened-word w x i j (wide 1) _ e λ h q e.
+    opened-word w x (i + 1) j (targetFits letters) _ e λ h q e.
+    opened-word w x (i + 2) j (λ c. ltb c 3) _ (rw p2 at e) λ h q e.
+    opened-word w x (i + 3) j (wide 2) _ (rw p3 at e) λ g r e.
+    opened w x (i + 4) j (times (getD w (i + 3) 0) (row (keyWidths (getD w (i + 2) 0)))) _ (rw p4 at e) λ ks m n a e.
+    fine-to (λ (t : AnimTarget) (k l : ℕ). TargetAt w x i j t k l) e
+    (record { there = omega (arith, g); layer = refl; number = refl; curve = refl; low = ltb-true (getD w (i + 2) 0) 3 q; keys = a })
+
+pub record DatumAt (w x : List ℕ) (i j : ℕ) (d : ExtendedUserDataAnim) (k l : ℕ) : Type 0 where
+  pub headerSize : d .headerSize ≡ getD w i 0
+  pub unk1 : d .unk1 ≡ getD w (i + 1) 0
+  pub unk2 : d .unk2 ≡ getD w (i + 2) 0
+  pub baseCount : d .baseCount ≡ getD w (i + 3) 0
+  pub unk3 : d .unk3 ≡ getD w (i + 4) 0
+  pub values : d .values ≡ take (3 * getD w (i + 3) 0) (drop (i + 5) w)
+  pub count : length (d .values) ≡ 3 * getD w (i + 3) 0
+  pub key : nextText (wide 4) w x (i + 5 + 3 * getD w (i + 3) 0) j ≡ fine (d .key) k l
+
+pub datum-at : (w x : List ℕ) (i j : ℕ) {d : ExtendedUserDataAnim} {k l : ℕ} → datum w x i j ≡ fine d k l → DatumAt w x i j d k l
+unfolding datum
+datum-at w x i j e =
+    let p2 : i + 1 + 1 ≡ i + 2 = omega arith in
+    let p3 : i + 2 + 1 ≡ i + 3 = omega arith in
+    let p4 : i + 3 + 1 ≡ i + 4 = omega arith in
+    let p5 : i + 4 + 1 ≡ i + 5 = omega arith in
+    opened-word w x i j (wide 4) _ e λ h q e.
+    opened-word w x (i + 1) j (wide 2) _ e λ h q e.
+    opened-word w x (i + 2) j (wide 2) _ (rw p2 at e) λ h q e.
+    opened-word w x (i + 3) j (wide 4) _ (rw p3 at e) λ h q e.
+    opened-word w x (i + 4) j (wide 4) _ (rw p4 at e) λ h q e.
+    opened w x (i + 5) j (times (3 * getD w (i + 3) 0) (nextWord (wide 4))) _ (rw p5 at e) λ vs m n a e.
+    let v = values-at (3 * getD w (i + 3) 0) w x (i + 5) j a in
+    opened w x (i + 5 + 3 * getD w (i + 3) 0) j (nextText (wide 4)) _ (rw (v .word, v .byte) at e) λ key m n b e.
+    fine-to (λ (d : ExtendedUserDataAnim) (k l : ℕ). DatumAt w x i j d k l) e
+    (record { headerSize = refl; unk1 = refl; unk2 = refl; baseCount = refl; unk3 = refl; values = v .same; count = v .count; key = b })
+
+-- an info of either kind
+pub record InfoAt (w x : List ℕ) (i j : ℕ) (a : AnimInfo) (k l : ℕ) : Type 0 where
+  pub there : i + 2 ≤ length w
+  pub body : given (eqb (getD w i 0) fleu) (_>>=_ (times (getD w (i + 1) 0) datum) (λ ds. ret (ExtendedUserData ds)))
+      (_>>=_ (times (getD w (i + 1) 0) (target (getD w i 0))) (λ ts. ret (Standard (getD w i 0) ts))) w x (i + 2) j ≡ fine a k l
+
+pub info-at : (w x : List ℕ) (i j : ℕ) {a : AnimInfo} {k l : ℕ} → info w x i j ≡ fine a k l → InfoAt w x i j a k l
+unfolding info
+info-at w x i j e =
+    let p2 : i + 1 + 1 ≡ i + 2 = omega arith in
+    opened-word w x i j lettersFit _ e λ h q e.
+    opened-word w x (i + 1) j (wide 1) _ e λ h q e.
+    record { there = omega (arith, h); body = rw p2 at e }
+
+module _ {C : Type 0} (w x : List ℕ) (i j : ℕ) {a : AnimInfo} {k l : ℕ} (e : info w x i j ≡ fine a k l) where
+  pub info-extended : getD w i 0 ≡ fleu
+      → ((ds : List ExtendedUserDataAnim) → a ≡ ExtendedUserData ds → times (getD w (i + 1) 0) datum w x (i + 2) j ≡ fine ds k l → C) → C
+  info-extended h f =
+      opened w x (i + 2) j (times (getD w (i + 1) 0) datum) _ (rw (eq-eqb (getD w i 0) fleu h) at (info-at w x i j e .body)) λ ds m n b e.
+      fine-to (λ (a : AnimInfo) (k l : ℕ). ((ds : List ExtendedUserDataAnim) → a ≡ ExtendedUserData ds → times (getD w (i + 1) 0) datum w x (i + 2) j ≡ fine ds k l → C) → C)
+      e (λ g. g ds refl b) f
+
+  pub info-standard : (getD w i 0 ≡ fleu → ⊥)
+      → ((ts : List AnimTarget) → a ≡ Standard (getD w i 0) ts → times (getD w (i + 1) 0) (target (getD w i 0)) w x (i + 2) j ≡ fine ts k l → C) → C
+  info-standard h f =
+      opened w x (i + 2) j (times (getD w (i + 1) 0) (target (getD w i 0))) _ (rw (ne-eqb (getD w i 0) fleu h) at (info-at w x i j e .body)) λ ts m n b e.
+      fine-to (λ (a : AnimInfo) (k l : ℕ). ((ts : List AnimTarget) → a ≡ Standard (getD w i 0) ts → times (getD w (i + 1) 0) (target (getD w i 0)) w x (i + 2) j ≡ fine ts k l → C) → C)
+      e (λ g. g ts refl b) f
+
+pub record ContentAt (w x : List ℕ) (i j : ℕ) (c : AnimContent) (k l : ℕ) : Type 0 where
+  pub word : ℕ
+  pub byte : ℕ
+  pub name : nextText (λ n. leb n 28) w x i j ≡ fine (c .name) word byte
+  pub there : word + 2 ≤ length w
+  pub type : c .type ≡ getD w word 0
+  pub infos : times (getD w (word + 1) 0) info w x (word + 2) byte ≡ fine (c .infos) k l
+
+pub content-at : (w x : List ℕ) (i j : ℕ) {c : AnimContent} {k l : ℕ} → content w x i j ≡ fine c k l → ContentAt w x i j c k l
+unfolding content
+content-at w x i j e =
+    opened w x i j (nextText (λ n. leb n 28)) _ e λ name m n a e.
+    let p2 : m + 1 + 1 ≡ m + 2 = omega arith in
+    opened-word w x m n (λ t. leb t 4) _ e λ h q e.
+    opened-word w x (m + 1) n (wide 1) _ e λ h q e.
+    opened w x (m + 2) n (times (getD w (m + 1) 0) info) _ (rw p2 at e) λ is o r b e.
+    fine-to (λ (c : AnimContent) (k l : ℕ). ContentAt w x i j c k l) e
+    (record { word = m; byte = n; name = a; there = omega (arith, h); type = refl; infos = b })
+
+pub record SectionAt (w x : List ℕ) (r : PaneAnimInfo) (k l : ℕ) : Type 0 where
+  pub word : ℕ
+  pub byte : ℕ
+  pub there : 4 ≤ length w
+  pub frames : r .frames ≡ getD w 0 0
+  pub looping : r .looping ≡ getD w 1 0
+  pub textures : times (getD w 2 0) (nextText (wide 4)) w x 4 0 ≡ fine (r .textures) word byte
+  pub contents : times (getD w 3 0) content w x word byte ≡ fine (r .contents) k l
+
+ends-at : (w x : List ℕ) (i j : ℕ) {u k l : ℕ} → ends w x i j ≡ fine u k l → (k ≡ i) × (l ≡ j)
+unfolding ends
+ends-at w x i j {u} {k} {l} e = go (ltb i (length w)) (ltb j (length x)) e
+  where
+    go : (s t : Bool) → pick s (badWord i) (pick t (badText j) (fine 0 i j)) ≡ fine u k l → (k ≡ i) × (l ≡ j)
+    go true t e = no-word e
+    go false true e = no-text e
+    go false false e = fine-to (λ (u k l : ℕ). (k ≡ i) × (l ≡ j)) e (refl, refl)
+
+pub section-at : (w x : List ℕ) {r : PaneAnimInfo} {k l : ℕ} → section w x 0 0 ≡ fine r k l → SectionAt w x r k l
+unfolding section
+section-at w x e =
+    opened-word w x 0 0 (wide 2) _ e λ h q e.
+    opened-word w x 1 0 (λ b. leb b 1) _ e λ h q e.
+    opened-word w x 2 0 (wide 2) _ e λ h q e.
+    opened-word w x 3 0 (wide 2) _ e λ h q e.
+    opened w x 4 0 (times (getD w 2 0) (nextText (wide 4))) _ e λ ts m n a e.
+    opened w x m n (times (getD w 3 0) content) _ e λ cs o p b e.
+    opened w x o p ends _ e λ u y z c e.
+    let f = ends-at w x o p c in
+    fine-to (λ (r : PaneAnimInfo) (k l : ℕ). SectionAt w x r k l) e
+    (record { word = m; byte = n; there = omega (arith, h); frames = refl; looping = refl; textures = a; contents = rw (f .0, f .1) b })

@@ -1,0 +1,40 @@
+-- `datum::put_head` meets its contract.
+-- Assumes nothing.
+use native.Mathlib.Omega.{arith}
+use denote.Ref.{now}
+use Rattle.bflan.proofs.reader.DatumParts.{head-stores, head-tally}
+use borrow.Author.Needs.{needs}
+use Rattle.bflan.proofs.reader.datum.put_head.Statement.{statement}
+use Rattle.bflan.proofs.reader.datum.put_head.Tie as tie
+
+put2-requires : tie.Need-put2-requires
+put2-requires c κs = search needs
+
+put2-requires-2 : tie.Need-put2-requires-2
+put2-requires-2 c κs = search needs
+
+put-word-requires : tie.Need-put-word-requires
+put-word-requires c κs = search needs
+
+more-words-requires : tie.Need-more-words-requires
+more-words-requires c κs = search needs
+
+same-length : tie.Need-same-length
+same-length c = search needs
+
+returns : tie.Need-returns
+returns c = (
+  head-tally (c .before .before .before .before .before .before .before .before .before .before .before .before .before .before .args .t) (c .before .before .before .before .before .before .before .before .before .before .before .put2 .result) (c .before .before .before .before .before .before .before .put22 .result) _ (c .before .before .before .before .before .before .before .before .before .before .before .put2 .ensures .0) (c .before .before .before .before .before .before .before .put22 .ensures .0) (c .more-words .ensures),
+  head-stores (now (c .before .before .before .before .before .before .before .before .before .before .before .before .before .before .args .words)) (c .before .before .before .before .before .before .before .before .before .before .before .before .before .before .args .t) (c .before .before .before .before .before .before .before .before .before .before .before .put2 .result) (c .before .before .before .before .before .before .before .put22 .result) (c .before .before .before .before .before .before .before .before .before .before .before .before .before .before .args .h .size) (c .before .before .before .before .before .before .before .before .before .before .before .before .before .before .args .h .one) (c .before .before .before .before .before .before .before .before .before .before .before .before .before .before .args .h .two) (c .before .before .before .before .before .before .before .before .before .before .before .before .before .before .args .h .base) (c .before .before .before .before .before .before .before .before .before .before .before .before .before .before .args .h .three) (omega (arith, c .before .before .before .before .before .before .before .before .before .before .before .before .before .before .good)) (c .before .before .before .before .before .before .before .before .before .before .before .put2 .ensures .0) (c .before .before .before .before .before .before .before .put22 .ensures .0) (c .before .before .before .before .before .before .before .before .before .before .before .put2 .ensures .1) (c .before .before .before .before .before .before .before .put22 .ensures .1) (c .before .before .before .put-word .ensures),
+)
+
+pub put-head-spec : {M : Type 1} → statement M
+put-head-spec =
+    tie.close
+    (tie.spec
+    put2-requires
+    put2-requires-2
+    put-word-requires
+    more-words-requires
+    same-length
+    returns)

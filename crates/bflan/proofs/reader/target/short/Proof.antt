@@ -1,0 +1,132 @@
+-- `target::short` meets its contract.
+-- Assumes nothing.
+use mathlib.Core.Path.{sym, _∙_}
+use native.Mathlib.Omega.{arith}
+use Rattle.core.proofs.Numbers.{read-value}
+use Rattle.core.proofs.Seeks.{seek-at}
+use Rattle.bflan.proofs.reader.Rows.{row-here, row-next, row-short}
+use Rattle.bflan.proofs.reader.TargetParts.{target-out, target-row}
+use borrow.Author.Needs.{needs}
+use Rattle.bflan.proofs.reader.target.short.Statement.{statement}
+use Rattle.bflan.proofs.reader.target.short.Tie as tie
+
+seek-to-requires : tie.Need-seek-to-requires
+seek-to-requires c κs = search needs
+
+enum-known-o : tie.Need-enum-known-o
+enum-known-o c = search needs
+
+enum-known-p : tie.Need-enum-known-p
+enum-known-p c = search needs
+
+u8-at-requires : tie.Need-u8-at-requires
+u8-at-requires c κs = search needs
+
+enum-known-o-2 : tie.Need-enum-known-o-2
+enum-known-o-2 c = search needs
+
+enum-known--layer : tie.Need-enum-known--layer
+enum-known--layer c = search needs
+
+u8-at-requires-2 : tie.Need-u8-at-requires-2
+u8-at-requires-2 c κs = search needs
+
+enum-known-o-3 : tie.Need-enum-known-o-3
+enum-known-o-3 c = search needs
+
+enum-known--raw : tie.Need-enum-known--raw
+enum-known--raw c = search needs
+
+u8-at-requires-3 : tie.Need-u8-at-requires-3
+u8-at-requires-3 c κs = search needs
+
+enum-known-o-4 : tie.Need-enum-known-o-4
+enum-known-o-4 c = search needs
+
+enum-known--curve : tie.Need-enum-known--curve
+enum-known--curve c = search needs
+
+u8-at-requires-4 : tie.Need-u8-at-requires-4
+u8-at-requires-4 c κs = search needs
+
+enum-known-o-5 : tie.Need-enum-known-o-5
+enum-known-o-5 c = search needs
+
+enum-known--reserve : tie.Need-enum-known--reserve
+enum-known--reserve c = search needs
+
+u16-at-requires : tie.Need-u16-at-requires
+u16-at-requires c κs = search needs
+
+enum-known-o-6 : tie.Need-enum-known-o-6
+enum-known-o-6 c = search needs
+
+enum-known--n : tie.Need-enum-known--n
+enum-known--n c = search needs
+
+u16-at-requires-2 : tie.Need-u16-at-requires-2
+u16-at-requires-2 c κs = search needs
+
+enum-known-o-7 : tie.Need-enum-known-o-7
+enum-known-o-7 c = search needs
+
+enum-known--padding : tie.Need-enum-known--padding
+enum-known--padding c = search needs
+
+returns : tie.Need-returns
+returns c = λ letters i. target-out letters _ _ i _ _ (sym (c .before .before .before .seek-to .ensures) ∙ c .before .o .given .1)
+
+returns-2 : tie.Need-returns-2
+returns-2 c = λ letters i. target-row letters _ _ i (sym (c .before .before .before .before .before .before .before .seek-to .ensures) ∙ c .before .before .before .before .before .p .given .1) (row-here (sym (c .before .before .before .u8-at .ensures) ∙ c .before .o2 .given .1))
+
+returns-3 : tie.Need-returns-3
+returns-3 c = λ letters i. target-row letters _ _ i (sym (c .before .before .before .before .before .before .before .before .before .before .before .seek-to .ensures) ∙ c .before .before .before .before .before .before .before .before .before .p .given .1) (row-next (sym (c .before .before .before .before .before .before .before .u8-at .ensures) ∙ c .before .before .before .before .before .-layer .given .1) (row-here (sym (c .before .before .before .u8-at2 .ensures) ∙ c .before .o3 .given .1)))
+
+returns-4 : tie.Need-returns-4
+returns-4 c = λ letters i. target-row letters _ _ i (sym (c .before .before .before .before .before .before .before .before .before .before .before .before .before .before .before .seek-to .ensures) ∙ c .before .before .before .before .before .before .before .before .before .before .before .before .before .p .given .1) (row-next (sym (c .before .before .before .before .before .before .before .before .before .before .before .u8-at .ensures) ∙ c .before .before .before .before .before .before .before .before .before .-layer .given .1) (row-next (sym (c .before .before .before .before .before .before .before .u8-at2 .ensures) ∙ c .before .before .before .before .before .-raw .given .1) (row-here (sym (c .before .before .before .u8-at3 .ensures) ∙ c .before .o4 .given .1))))
+
+returns-5 : tie.Need-returns-5
+returns-5 c = λ letters i. target-row letters _ _ i (sym (c .before .before .before .before .before .before .before .before .before .before .before .before .before .before .before .before .before .before .before .seek-to .ensures) ∙ c .before .before .before .before .before .before .before .before .before .before .before .before .before .before .before .before .before .p .given .1) (row-next (sym (c .before .before .before .before .before .before .before .before .before .before .before .before .before .before .before .u8-at .ensures) ∙ c .before .before .before .before .before .before .before .before .before .before .before .before .before .-layer .given .1) (row-next (sym (c .before .before .before .before .before .before .before .before .before .before .before .u8-at2 .ensures) ∙ c .before .before .before .before .before .before .before .before .before .-raw .given .1) (row-next (sym (c .before .before .before .before .before .before .before .u8-at3 .ensures) ∙ c .before .before .before .before .before .-curve .given .1) (row-here (sym (c .before .before .before .u8-at4 .ensures) ∙ c .before .o5 .given .1)))))
+
+returns-6 : tie.Need-returns-6
+returns-6 c = λ letters i. target-row letters _ _ i (sym (c .before .before .before .before .before .before .before .before .before .before .before .before .before .before .before .before .before .before .before .before .before .before .before .seek-to .ensures) ∙ c .before .before .before .before .before .before .before .before .before .before .before .before .before .before .before .before .before .before .before .before .before .p .given .1) (row-next (sym (c .before .before .before .before .before .before .before .before .before .before .before .before .before .before .before .before .before .before .before .u8-at .ensures) ∙ c .before .before .before .before .before .before .before .before .before .before .before .before .before .before .before .before .before .-layer .given .1) (row-next (sym (c .before .before .before .before .before .before .before .before .before .before .before .before .before .before .before .u8-at2 .ensures) ∙ c .before .before .before .before .before .before .before .before .before .before .before .before .before .-raw .given .1) (row-next (sym (c .before .before .before .before .before .before .before .before .before .before .before .u8-at3 .ensures) ∙ c .before .before .before .before .before .before .before .before .before .-curve .given .1) (row-next (sym (c .before .before .before .before .before .before .before .u8-at4 .ensures) ∙ c .before .before .before .before .before .-reserve .given .1) (row-here (sym (c .before .before .before .u16-at .ensures) ∙ c .before .o6 .given .1))))))
+
+returns-7 : tie.Need-returns-7
+returns-7 c = λ letters i. target-row letters _ _ i (sym (c .before .before .before .before .before .before .before .before .before .before .before .before .before .before .before .before .before .before .before .before .before .before .before .before .before .before .before .seek-to .ensures) ∙ c .before .before .before .before .before .before .before .before .before .before .before .before .before .before .before .before .before .before .before .before .before .before .before .before .before .p .given .1) (row-next (sym (c .before .before .before .before .before .before .before .before .before .before .before .before .before .before .before .before .before .before .before .before .before .before .before .u8-at .ensures) ∙ c .before .before .before .before .before .before .before .before .before .before .before .before .before .before .before .before .before .before .before .before .before .-layer .given .1) (row-next (sym (c .before .before .before .before .before .before .before .before .before .before .before .before .before .before .before .before .before .before .before .u8-at2 .ensures) ∙ c .before .before .before .before .before .before .before .before .before .before .before .before .before .before .before .before .before .-raw .given .1) (row-next (sym (c .before .before .before .before .before .before .before .before .before .before .before .before .before .before .before .u8-at3 .ensures) ∙ c .before .before .before .before .before .before .before .before .before .before .before .before .before .-curve .given .1) (row-next (sym (c .before .before .before .before .before .before .before .before .before .before .before .u8-at4 .ensures) ∙ c .before .before .before .before .before .before .before .before .before .-reserve .given .1) (row-next (sym (c .before .before .before .before .before .before .before .u16-at .ensures) ∙ c .before .before .before .before .before .-n .given .1) (row-here (sym (c .before .before .before .u16-at2 .ensures) ∙ c .before .o7 .given .1)))))))
+
+returns-8 : tie.Need-returns-8
+returns-8 c = λ letters i. target-row letters _ _ i (sym (c .before .before .before .before .before .before .before .before .before .before .before .before .before .before .before .before .before .before .before .before .before .before .before .before .before .before .before .seek-to .ensures) ∙ c .before .before .before .before .before .before .before .before .before .before .before .before .before .before .before .before .before .before .before .before .before .before .before .before .before .p .given .1) (row-next (sym (c .before .before .before .before .before .before .before .before .before .before .before .before .before .before .before .before .before .before .before .before .before .before .before .u8-at .ensures) ∙ c .before .before .before .before .before .before .before .before .before .before .before .before .before .before .before .before .before .before .before .before .before .-layer .given .1) (row-next (sym (c .before .before .before .before .before .before .before .before .before .before .before .before .before .before .before .before .before .before .before .u8-at2 .ensures) ∙ c .before .before .before .before .before .before .before .before .before .before .before .before .before .before .before .before .before .-raw .given .1) (row-next (sym (c .before .before .before .before .before .before .before .before .before .before .before .before .before .before .before .u8-at3 .ensures) ∙ c .before .before .before .before .before .before .before .before .before .before .before .before .before .-curve .given .1) (row-next (sym (c .before .before .before .before .before .before .before .before .before .before .before .u8-at4 .ensures) ∙ c .before .before .before .before .before .before .before .before .before .-reserve .given .1) (row-next (sym (c .before .before .before .before .before .before .before .u16-at .ensures) ∙ c .before .before .before .before .before .-n .given .1) (row-next (sym (c .before .before .before .u16-at2 .ensures) ∙ c .before .-padding .given .1) (row-short (omega (arith, seek-at _ _ _ (sym (c .before .before .before .before .before .before .before .before .before .before .before .before .before .before .before .before .before .before .before .before .before .before .before .before .before .before .before .seek-to .ensures) ∙ c .before .before .before .before .before .before .before .before .before .before .before .before .before .before .before .before .before .before .before .before .before .before .before .before .before .p .given .1) .place, read-value _ _ _ _ _ (sym (c .before .before .before .u16-at2 .ensures) ∙ c .before .-padding .given .1) .next, read-value _ _ _ _ _ (sym (c .before .before .before .before .before .before .before .u16-at .ensures) ∙ c .before .before .before .before .before .-n .given .1) .next, read-value _ _ _ _ _ (sym (c .before .before .before .before .before .before .before .before .before .before .before .u8-at4 .ensures) ∙ c .before .before .before .before .before .before .before .before .before .-reserve .given .1) .next, read-value _ _ _ _ _ (sym (c .before .before .before .before .before .before .before .before .before .before .before .before .before .before .before .u8-at3 .ensures) ∙ c .before .before .before .before .before .before .before .before .before .before .before .before .before .-curve .given .1) .next, read-value _ _ _ _ _ (sym (c .before .before .before .before .before .before .before .before .before .before .before .before .before .before .before .before .before .before .before .u8-at2 .ensures) ∙ c .before .before .before .before .before .before .before .before .before .before .before .before .before .before .before .before .before .-raw .given .1) .next, read-value _ _ _ _ _ (sym (c .before .before .before .before .before .before .before .before .before .before .before .before .before .before .before .before .before .before .before .before .before .before .before .u8-at .ensures) ∙ c .before .before .before .before .before .before .before .before .before .before .before .before .before .before .before .before .before .before .before .before .before .-layer .given .1) .next, c .before .before .before .before .before .before .before .before .before .before .before .before .before .before .before .before .before .before .before .before .before .before .before .before .before .before .before .before .before .pre)))))))))
+
+pub short-spec : {M : Type 1} → statement M
+short-spec =
+    tie.close
+    (tie.spec
+    seek-to-requires
+    enum-known-o
+    enum-known-p
+    u8-at-requires
+    enum-known-o-2
+    enum-known--layer
+    u8-at-requires-2
+    enum-known-o-3
+    enum-known--raw
+    u8-at-requires-3
+    enum-known-o-4
+    enum-known--curve
+    u8-at-requires-4
+    enum-known-o-5
+    enum-known--reserve
+    u16-at-requires
+    enum-known-o-6
+    enum-known--n
+    u16-at-requires-2
+    enum-known-o-7
+    enum-known--padding
+    returns
+    returns-2
+    returns-3
+    returns-4
+    returns-5
+    returns-6
+    returns-7
+    returns-8)

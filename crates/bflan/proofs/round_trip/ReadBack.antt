@@ -1,0 +1,149 @@
+-- Reading what is written gives the record's cells back: the laws of single parts.
+-- Assumes nothing.
+use Prim.Native.Nat.{ℕ, zero, suc, _+_, _-_, _<_}
+use mathlib.Core.Path.{_≡_, refl, ap, ap₂, sym, _∙_}
+use mathlib.Core.List.{List, [], _∷_, _++_, map}
+use native.Mathlib.Omega.{arith}
+use lib.ListN.{length}
+use Rattle.bflan.specs.Layout.{Layout, size, row, parts}
+use Rattle.bflan.specs.pai1.Layout.{keySkip, keyLay}
+use Rattle.bflan.specs.Limits.{All, Fits}
+use Rattle.bflan.specs.Reader.{Res, ok, P, Item, word, text, many, visit, skip}
+use Rattle.bflan.specs.pai1.Reading.{keyOf}
+use Rattle.bflan.specs.Cells.{Cell, word as wordCell, chars, wordsIn, bytesIn, each}
+use Rattle.bflan.specs.pai1.Record.{keyWidths}
+use Rattle.bflan.specs.Items.{shownAt, wordsOf, textsOf}
+use Rattle.bflan.proofs.Layouts.{Stands, stands-left, stands-right, stands-to, stands-num, offsets}
+use Rattle.bflan.proofs.reader.Walks.{before, joined, many-suc, visit-cons, visit-nil}
+
+-- ---- items as cells
+
+unfoldable pub shownIn : List ℕ → List Item → List Cell
+shownIn s [] = []
+shownIn s (word v ∷ is) = wordCell v ∷ shownIn s is
+shownIn s (text a n ∷ is) = chars (shownAt s a n) ∷ shownIn s is
+
+module _ (s : List ℕ) where
+  pub shown-append : (is js : List Item) → shownIn s (is ++ js) ≡ shownIn s is ++ shownIn s js
+  unfolding shownIn
+  shown-append [] js = refl
+  shown-append (word v ∷ is) js = ap (λ (l : List Cell). wordCell v ∷ l) (shown-append is js)
+  shown-append (text a n ∷ is) js = ap (λ (l : List Cell). chars (shownAt s a n) ∷ l) (shown-append is js)
+
+  pub shown-words : (vs : List ℕ) → shownIn s (map word vs) ≡ map wordCell vs
+  unfolding shownIn
+  shown-words [] = refl
+  shown-words (v ∷ vs) = ap (λ (l : List Cell). wordCell v ∷ l) (shown-words vs)
+
+  -- the words and the text bytes of items are those of their cells
+  pub words-shown : (is : List Item) → wordsOf s is ≡ wordsIn (shownIn s is)
+  unfolding shownIn wordsOf wordsIn
+  words-shown [] = refl
+  words-shown (word v ∷ is) = ap (λ (l : List ℕ). v ∷ l) (words-shown is)
+  words-shown (text a n ∷ is) = ap (λ (l : List ℕ). length (shownAt s a n) ∷ l) (words-shown is)
+
+  pub texts-shown : (is : List Item) → textsOf s is ≡ bytesIn (shownIn s is)
+  unfolding shownIn textsOf bytesIn
+  texts-shown [] = refl
+  texts-shown (word v ∷ is) = texts-shown is
+  texts-shown (text a n ∷ is) = ap (λ (l : List ℕ). shownAt s a n ++ l) (texts-shown is)
+
+-- ---- a reading that gives these cells, and the position after them
+
+pub record Reads (s : List ℕ) (r : Res (List Item)) (cs : List Cell) (q : ℕ) : Type 0 where
+  pub items : List Item
+  pub reads : r ≡ ok items q
+  pub shows : shownIn s items ≡ cs
+
+-- wherever it ends
+pub record ReadsOn (s : List ℕ) (r : Res (List Item)) (cs : List Cell) : Type 0 where
+  pub next : ℕ
+  pub here : Reads s r cs next
+
+module _ {s : List ℕ} where
+  pub reads-as : {r r′ : Res (List Item)} {cs cs′ : List Cell} {q q′ : ℕ} → r ≡ r′ → cs ≡ cs′ → q ≡ q′ → Reads s r cs q → Reads s r′ cs′ q′
+  reads-as er ec eq h = record { items = h .items; reads = sym er ∙ h .reads ∙ ap (ok (h .items)) eq; shows = h .shows ∙ ec }
+
+  pub reads-none : (q : ℕ) → Reads s (ok [] q) [] q
+  unfolding shownIn
+  reads-none q = record { items = []; reads = refl; shows = refl }
+
+  pub reads-before : (is : List Item) {r : Res (List Item)} {cs : List Cell} {q : ℕ} → Reads s r cs q → Reads s (before is r) (shownIn s is ++ cs) q
+  reads-before is h =
+      record {
+        items = is ++ h .items;
+        reads = ap (before is) (h .reads);
+        shows = shown-append s is (h .items) ∙ ap (λ (l : List Cell). shownIn s is ++ l) (h .shows);
+      }
+
+  pub reads-joined : {r : Res (List Item)} (g : ℕ → Res (List Item)) {cs ds : List Cell} {p q : ℕ} → Reads s r cs p → Reads s (g p) ds q → Reads s (joined r g) (cs ++ ds) q
+  reads-joined {r} g {cs} {ds} {p} {q} h k =
+      record {
+        items = h .items ++ k .items;
+        reads = ap (λ (z : Res (List Item)). joined z g) (h .reads) ∙ ap (before (h .items)) (k .reads);
+        shows = shown-append s (h .items) (k .items) ∙ ap₂ (λ (a b : List Cell). a ++ b) (h .shows) (k .shows);
+      }
+
+  pub reads-words : (vs : List ℕ) (q : ℕ) → Reads s (ok (map word vs) q) (map wordCell vs) q
+  reads-words vs q = record { items = map word vs; reads = refl; shows = shown-words s vs }
+
+-- ---- parts one after another, and parts at offsets
+
+module _ {X : Type 0} (lay : X → Layout) (cells : X → List Cell) (Q : X → Type 0) (s : List ℕ) where
+  abbrev pub ReadsPart : P (List Item) → Type 0
+  ReadsPart p = (i : ℕ) (x : X) → Q x → Stands s i (lay x) → Reads s (p s i) (cells x) (i + size (lay x))
+
+  abbrev pub ReadsAt : (ℕ → P (List Item)) → Type 0
+  ReadsAt p = (b i : ℕ) (x : X) → Q x → Stands s b (lay x) → ReadsOn s (p b s i) (cells x)
+
+  pub many-reads : (p : P (List Item)) → ReadsPart p → (i : ℕ) (xs : List X) → All Q xs → Stands s i (parts lay xs)
+      → Reads s (many (length xs) p s i) (each cells xs) (i + size (parts lay xs))
+  unfolding parts each size
+  many-reads p law i [] q h = unfold many in reads-as refl refl (omega arith) (reads-none i)
+  many-reads p law i (x ∷ xs) q h =
+      let a = law i x (q .0) (stands-left h) in
+      let b = many-reads p law (i + size (lay x)) xs (q .1) (stands-right h) in
+      reads-as (sym (many-suc (length xs) p s i)) refl (omega arith) (reads-joined (λ j. many (length xs) p s j) a b)
+
+  pub visit-reads : (p : ℕ → P (List Item)) → ReadsAt p → (base from i : ℕ) (xs : List X) → All Q xs → Stands s (base + from) (parts lay xs)
+      → ReadsOn s (visit base p (offsets lay from xs) s i) (each cells xs)
+  unfolding parts each size
+  visit-reads p law base from i [] q h = record { next = i; here = reads-as (sym (visit-nil base p s i)) refl refl (reads-none i) }
+  visit-reads p law base from i (x ∷ xs) q h =
+      let a = law (base + from) i x (q .0) (stands-left h) in
+      let b = visit-reads p law base (from + size (lay x)) (a .next) xs (q .1) (stands-to (stands-right h) (omega arith)) in
+      record { next = b .next; here = reads-as (sym (visit-cons base p from (offsets lay (from + size (lay x)) xs) s i)) refl refl (reads-joined (λ j. visit base p (offsets lay (from + size (lay x)) xs) s j) (a .here) (b .here)) }
+
+-- ---- keys
+
+key-constant : (s : List ℕ) (i : ℕ) (k : List ℕ) → Fits (keyWidths 0) k → Stands s i (keyLay 0 k) → Reads s (keyOf 0 s i) (map wordCell k) (i + size (keyLay 0 k))
+unfolding keyWidths keyLay row keySkip size
+key-constant s i [] f h = absurd f
+key-constant s i (v ∷ []) f h = reads-as (rw (stands-num (stands-left (stands-left h)) (f .0))) refl (omega arith) (reads-words (v ∷ []) (i + 4))
+key-constant s i (v ∷ w ∷ vs) f h = absurd (f .1)
+
+key-step : (s : List ℕ) (i : ℕ) (k : List ℕ) → Fits (keyWidths 1) k → Stands s i (keyLay 1 k) → Reads s (keyOf 1 s i) (map wordCell k) (i + size (keyLay 1 k))
+unfolding keyWidths keyLay row keySkip size skip
+key-step s i [] f h = absurd f
+key-step s i (v ∷ []) f h = absurd (f .1)
+key-step s i (v ∷ w ∷ []) f h =
+    reads-as (rw (stands-num (stands-left (stands-left h)) (f .0), stands-num (stands-left (stands-right (stands-left h))) (f .1 .0))) refl (omega arith) (reads-words (v ∷ w ∷ []) (i + 4 + 2 + 2))
+key-step s i (v ∷ w ∷ u ∷ vs) f h = absurd (f .1 .1)
+
+key-hermite : (s : List ℕ) (i : ℕ) (k : List ℕ) → Fits (keyWidths 2) k → Stands s i (keyLay 2 k) → Reads s (keyOf 2 s i) (map wordCell k) (i + size (keyLay 2 k))
+unfolding keyWidths keyLay row keySkip size
+key-hermite s i [] f h = absurd f
+key-hermite s i (v ∷ []) f h = absurd (f .1)
+key-hermite s i (v ∷ w ∷ []) f h = absurd (f .1 .1)
+key-hermite s i (v ∷ w ∷ u ∷ []) f h =
+    let g = stands-left h in
+    let g1 = stands-right g in
+    let g2 = stands-right g1 in
+    reads-as (rw (stands-num (stands-left g) (f .0), stands-num (stands-left g1) (f .1 .0), stands-num (stands-left g2) (f .1 .1 .0))) refl (omega arith) (reads-words (v ∷ w ∷ u ∷ []) (i + 4 + 4 + 4))
+key-hermite s i (v ∷ w ∷ u ∷ x ∷ vs) f h = absurd (f .1 .1 .1)
+
+pub key-reads : (curve : ℕ) → curve < 3 → (s : List ℕ) → ReadsPart (keyLay curve) (map wordCell) (Fits (keyWidths curve)) s (keyOf curve)
+key-reads zero l s i k f h = key-constant s i k f h
+key-reads (suc zero) l s i k f h = key-step s i k f h
+key-reads (suc (suc zero)) l s i k f h = key-hermite s i k f h
+key-reads (suc (suc (suc c))) l s i k f h = absurd (omega arith)

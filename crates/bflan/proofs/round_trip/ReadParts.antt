@@ -1,0 +1,305 @@
+-- The parts of a record as functions of the section's bytes and the place where the part starts: what reading gives where it is not stopped.
+-- Assumes nothing.
+use Prim.Native.Nat.{ℕ, zero, suc, _+_, _*_, _≤_}
+use mathlib.Core.Path.{_≡_, refl, ap, ap₂, sym, _∙_}
+use mathlib.Core.Bool.{Bool, true, false}
+use mathlib.Core.List.{List, [], _∷_, _++_, map}
+use native.Mathlib.Omega.{arith}
+use lib.Dec.{eqb}
+use lib.ListN.{length, drop}
+use Rattle.core.specs.Choice.{pick}
+use Rattle.core.specs.Number.{get}
+use Rattle.core.specs.Run.{numbersAt}
+use Rattle.core.specs.Text.{beforeZero, endedOf}
+use Rattle.core.specs.declared.text.TextAt.{TextAt}
+use Rattle.core.specs.declared.text.TextAt.the-variants.{Text, Past as TextPast, Unended}
+use Rattle.core.proofs.Zeros.{ended-text}
+use Rattle.bflan.specs.declared.fault.Fault.the-variants.{NotPai1}
+use Rattle.bflan.specs.pai1.FieldValues.{numbersIn}
+use Rattle.bflan.specs.pai1.Letters.{fleu, lettersOf, targetOf}
+use Rattle.bflan.specs.pai1.Layout.{keySkip}
+use Rattle.bflan.specs.pai1.Places.{total, stride, infoTableIn}
+use Rattle.bflan.specs.Reader.{Res, ok, stop, P, andThen, _>>=_, ret, given, fail, Item, word, text, asText, skip, endedText, oneEnded, numbers, many, visit}
+use Rattle.bflan.specs.pai1.Reading.{keyOf, curveOf, countOf, keys, target, datum, info, typeOf, infoTable, content, texture, pai1, flagOf, contents, body, section}
+use Rattle.bflan.specs.pai1.Record.{AnimTarget, ExtendedUserDataAnim, AnimInfo, Standard, ExtendedUserData, AnimContent, PaneAnimInfo, keyWidths, targetCells, datumCells, infoCells, contentCells, textureCells, cells}
+use Rattle.bflan.specs.Cells.{Cell, word as wordCell, chars, each}
+use Rattle.bflan.specs.Items.{shownAt}
+use Rattle.bflan.proofs.reader.ContentParts.{nameSize}
+use Rattle.bflan.proofs.place.Locating.{If, if-ok, yes, next, after, number, sought, table, name, stride-three, table-at}
+use Rattle.bflan.proofs.round_trip.ReadBack.{shownIn, shown-append, shown-words}
+
+-- what follows where a reading ends, or `none` where it is stopped
+abbrev pub reached : {A : Type 0} → Res (List Item) → A → (ℕ → A) → A
+reached (ok is q) none f = f q
+reached (stop g) none f = none
+
+module _ (s : List ℕ) where
+  -- n parts at the offsets of the table at `at`, which count from base
+  unfoldable pub partsAt : {X : Type 0} → (ℕ → X) → ℕ → ℕ → ℕ → List X
+  partsAt part base zero at = []
+  partsAt part base (suc n) at = part (base + get 4 s at) ∷ partsAt part base n (at + 4)
+
+  -- a text that ends at a zero
+  unfoldable pub endedAt : ℕ → List ℕ
+  endedAt i = shownAt s i (beforeZero (drop i s))
+
+  -- n keys, one after another
+  unfoldable pub keysAt : ℕ → ℕ → ℕ → List (List ℕ)
+  keysAt curve zero p = []
+  keysAt curve (suc n) p = numbersIn (keyWidths curve) s p ∷ keysAt curve n (p + stride curve)
+
+  unfoldable pub targetAt : ℕ → ℕ → AnimTarget
+  targetAt letters b =
+      record {
+        layer = get 1 s b;
+        target = targetOf letters (get 1 s (b + 1));
+        curve = curveOf (get 1 s (b + 2));
+        keys = keysAt (curveOf (get 1 s (b + 2))) (countOf (get 1 s (b + 2)) (get 2 s (b + 4))) (b + get 4 s (b + 8));
+      }
+
+  -- the key text's offset stands behind the three lists, and counts from its own place
+  unfoldable pub datumAt : ℕ → ExtendedUserDataAnim
+  datumAt p =
+      record {
+        headerSize = get 4 s p;
+        unk1 = get 2 s (p + 4);
+        unk2 = get 2 s (p + 6);
+        baseCount = get 4 s (p + 8);
+        unk3 = get 4 s (p + 12);
+        values = numbersAt (3 * get 4 s (p + 8)) s (p + 16);
+        key = endedAt (p + 16 + 4 * (3 * get 4 s (p + 8)) + get 4 s (p + 16 + 4 * (3 * get 4 s (p + 8))));
+      }
+
+  -- n data, each of which starts where reading the one before ends
+  unfoldable pub dataAt : ℕ → ℕ → List ExtendedUserDataAnim
+  dataAt zero p = []
+  dataAt (suc n) p = datumAt p ∷ reached (datum s p) [] (λ q. dataAt n q)
+
+  unfoldable pub infoAt : ℕ → AnimInfo
+  infoAt b =
+      pick (eqb (get 4 s b) fleu) (ExtendedUserData (dataAt (get 1 s (b + 4)) (b + 8)))
+      (Standard (lettersOf (get 4 s b)) (partsAt (targetAt (get 4 s b)) b (get 1 s (b + 4)) (b + 8)))
+
+  unfoldable pub contentAt : ℕ → AnimContent
+  contentAt b =
+      record {
+        name = shownAt s b (nameSize s b);
+        type = typeOf (get 1 s (b + 29));
+        infos = partsAt infoAt b (get 1 s (b + 28)) (infoTableIn s b);
+      }
+
+  unfoldable pub recordAt : PaneAnimInfo
+  recordAt =
+      record {
+        frames = get 2 s 8;
+        looping = flagOf (get 1 s 10);
+        textures = partsAt endedAt 20 (get 2 s 12) 20;
+        contents = partsAt contentAt 0 (get 2 s 14) (get 4 s 16);
+      }
+
+  pub length-parts : {X : Type 0} (part : ℕ → X) (base n at : ℕ) → length (partsAt part base n at) ≡ n
+  unfolding partsAt
+  length-parts part base zero at = refl
+  length-parts part base (suc n) at = ap suc (length-parts part base n (at + 4))
+
+  pub length-keys : (curve n p : ℕ) → length (keysAt curve n p) ≡ n
+  unfolding keysAt
+  length-keys curve zero p = refl
+  length-keys curve (suc n) p = ap suc (length-keys curve n (p + stride curve))
+
+-- ---- reading gives them: what it shows are their cells
+
+module _ (s : List ℕ) where
+  abbrev Shows : {X : Type 0} → (X → List Cell) → X → List Item → ℕ → Type 0
+  Shows cellsOf x is j = shownIn s is ≡ cellsOf x
+
+  -- one part more
+  shows-more : {X : Type 0} (cellsOf : X → List Cell) (x : X) (xs : List X) (is js : List Item)
+      → shownIn s is ≡ cellsOf x → shownIn s js ≡ each cellsOf xs → shownIn s (is ++ js) ≡ each cellsOf (x ∷ xs)
+  unfolding each
+  shows-more cellsOf x xs is js h k = shown-append s is js ∙ ap₂ (λ (a b : List Cell). a ++ b) h k
+
+  shows-none : {X : Type 0} (cellsOf : X → List Cell) → shownIn s [] ≡ each cellsOf []
+  unfolding each shownIn
+  shows-none cellsOf = refl
+
+  -- parts at offsets
+  parts-shown : {X : Type 0} (cellsOf : X → List Cell) (part : ℕ → X) (base : ℕ) (p : ℕ → P (List Item))
+      → ((b i : ℕ) → If (Shows cellsOf (part b)) (p b s i))
+      → (n at i : ℕ) → If (Shows (each cellsOf) (partsAt s part base n at)) (visit base p (numbersAt n s at) s i)
+  unfolding visit numbersAt partsAt
+  parts-shown cellsOf part base p h zero at i = yes (shows-none cellsOf)
+  parts-shown cellsOf part base p h (suc n) at i =
+      after s (p (base + get 4 s at) s i) _ (h (base + get 4 s at) i) (λ x j hx.
+      after s (visit base p (numbersAt n s (at + 4)) s j) _ (parts-shown cellsOf part base p h n (at + 4) j) (λ xs j′ hs.
+      yes (shows-more cellsOf (part (base + get 4 s at)) (partsAt s part base n (at + 4)) x xs hx hs)))
+
+  -- a text that ends at a zero, and a texture
+  ended-shown : (i : ℕ) → If (Shows textureCells (endedAt s i)) (oneEnded s i)
+  unfolding oneEnded endedText textureCells shownIn endedAt
+  ended-shown i = go (endedOf s i) refl
+    where
+      go : (r : TextAt) → endedOf s i ≡ r → If (Shows textureCells (endedAt s i)) (andThen (asText i r) (λ t. ret (t ∷ [])) s)
+      go (Text n q) e = yes (rw (ended-text s i n q e .text))
+      go (TextPast o k) e = record { holds = tt }
+      go (Unended a) e = record { holds = tt }
+
+  texture-shown : (b i : ℕ) → If (Shows textureCells (endedAt s b)) (texture b s i)
+  unfolding texture
+  texture-shown b i = sought s b i _ (λ l. ended-shown b)
+
+  -- keys
+  key-shown : (c p : ℕ) → If (λ is j. (shownIn s is ≡ map wordCell (numbersIn (keyWidths c) s p)) × (j ≡ p + stride c)) (keyOf c s p)
+  unfolding stride total keyWidths keySkip skip numbersIn shownIn
+  key-shown zero p = number s 4 p (p + 4) _ refl (λ h. yes (refl, refl))
+  key-shown (suc zero) p = number s 4 p (p + 4) _ refl (λ h. number s 2 (p + 4) (p + 6) _ (omega arith) (λ l. yes (refl, omega arith)))
+  key-shown (suc (suc c)) p =
+      number s 4 p (p + 4) _ refl (λ h. number s 4 (p + 4) (p + 8) _ (omega arith) (λ l. number s 4 (p + 8) (p + 12) _ (omega arith) (λ m.
+      yes (let e : p + 4 + 4 ≡ p + 8 = omega arith in rw e, ap (λ (n : ℕ). p + n) (sym (stride-three c))))))
+
+  keys-shown : (c n p : ℕ) → If (Shows (each (map wordCell)) (keysAt s c n p)) (many n (keyOf c) s p)
+  unfolding many keysAt
+  keys-shown c zero p = yes (shows-none (map wordCell))
+  keys-shown c (suc n) p =
+      after s (keyOf c s p) _ (key-shown c p) (λ x j h. after s (many n (keyOf c) s j) _ (keys-shown c n j) (λ xs j′ hs.
+      yes (shows-more (map wordCell) (numbersIn (keyWidths c) s p) (keysAt s c n (p + stride c)) x xs (h .0) (hs ∙ rw (h .1)))))
+
+  -- a target
+  target-cells : (letters b : ℕ) (ks : List Item) → shownIn s ks ≡ each (map wordCell) (targetAt s letters b .keys)
+      → shownIn s (word (get 1 s b) ∷ word (targetOf letters (get 1 s (b + 1))) ∷ word (curveOf (get 1 s (b + 2))) ∷ word (countOf (get 1 s (b + 2)) (get 2 s (b + 4))) ∷ ks)
+      ≡ targetCells (targetAt s letters b)
+  unfolding targetCells targetAt shownIn
+  target-cells letters b ks h =
+      ap₂ (λ (m : ℕ) (cs : List Cell). wordCell (get 1 s b) ∷ wordCell (targetOf letters (get 1 s (b + 1))) ∷ wordCell (curveOf (get 1 s (b + 2))) ∷ wordCell m ∷ cs)
+      (sym (length-keys s (curveOf (get 1 s (b + 2))) (countOf (get 1 s (b + 2)) (get 2 s (b + 4))) (b + get 4 s (b + 8)))) h
+
+  target-shown : (letters b i : ℕ) → If (Shows targetCells (targetAt s letters b)) (target letters b s i)
+  unfolding target keys
+  target-shown letters b i =
+      sought s b i _ (λ l0.
+      number s 1 b (b + 1) _ refl (λ l1. number s 1 (b + 1) (b + 2) _ (omega arith) (λ l2. number s 1 (b + 2) (b + 3) _ (omega arith) (λ l3. number s 1 (b + 3) (b + 4) _ (omega arith) (λ l4.
+      number s 2 (b + 4) (b + 6) _ (omega arith) (λ l6. number s 2 (b + 6) (b + 8) _ (omega arith) (λ l8. number s 4 (b + 8) (b + 12) _ (omega arith) (λ l12.
+      sought s (b + get 4 s (b + 8)) (b + 12) _ (λ m.
+      after s (many (countOf (get 1 s (b + 2)) (get 2 s (b + 4))) (keyOf (curveOf (get 1 s (b + 2)))) s (b + get 4 s (b + 8))) _
+      (keys-shown (curveOf (get 1 s (b + 2))) (countOf (get 1 s (b + 2)) (get 2 s (b + 4))) (b + get 4 s (b + 8)))
+      (λ ks j h. yes (target-cells letters b ks (unfold targetAt in h))))))))))))
+
+  -- data
+  datum-cells : (p : ℕ) (key : List Item) → shownIn s key ≡ textureCells (datumAt s p .key)
+      → shownIn s (word (get 4 s p) ∷ word (get 2 s (p + 4)) ∷ word (get 2 s (p + 6)) ∷ word (get 4 s (p + 8)) ∷ word (get 4 s (p + 12)) ∷ (map word (numbersAt (3 * get 4 s (p + 8)) s (p + 16)) ++ key))
+      ≡ datumCells (datumAt s p)
+  unfolding datumCells textureCells datumAt shownIn
+  datum-cells p key h =
+      ap (λ (cs : List Cell). wordCell (get 4 s p) ∷ wordCell (get 2 s (p + 4)) ∷ wordCell (get 2 s (p + 6)) ∷ wordCell (get 4 s (p + 8)) ∷ wordCell (get 4 s (p + 12)) ∷ cs)
+      (shown-append s (map word (numbersAt (3 * get 4 s (p + 8)) s (p + 16))) key ∙ ap₂ (λ (a b : List Cell). a ++ b) (shown-words s (numbersAt (3 * get 4 s (p + 8)) s (p + 16))) h)
+
+  datum-shown : (p : ℕ) → If (Shows datumCells (datumAt s p)) (datum s p)
+  unfolding datum
+  datum-shown p =
+      number s 4 p (p + 4) _ refl (λ l4. number s 2 (p + 4) (p + 6) _ (omega arith) (λ l6. number s 2 (p + 6) (p + 8) _ (omega arith) (λ l8.
+      number s 4 (p + 8) (p + 12) _ (omega arith) (λ l12. number s 4 (p + 12) (p + 16) _ (omega arith) (λ l16.
+      table s (3 * get 4 s (p + 8)) (p + 16) _ l16 (λ l.
+      number s 4 (p + 16 + 4 * (3 * get 4 s (p + 8))) (p + 16 + 4 * (3 * get 4 s (p + 8)) + 4) _ refl (λ m.
+      sought s (p + 16 + 4 * (3 * get 4 s (p + 8)) + get 4 s (p + 16 + 4 * (3 * get 4 s (p + 8)))) (p + 16 + 4 * (3 * get 4 s (p + 8)) + 4) _ (λ k.
+      after s (oneEnded s (p + 16 + 4 * (3 * get 4 s (p + 8)) + get 4 s (p + 16 + 4 * (3 * get 4 s (p + 8))))) _
+      (ended-shown (p + 16 + 4 * (3 * get 4 s (p + 8)) + get 4 s (p + 16 + 4 * (3 * get 4 s (p + 8)))))
+      (λ key j h. yes (datum-cells p key (unfold datumAt in h)))))))))))
+
+  data-shown : (n p : ℕ) → If (Shows (each datumCells) (dataAt s n p)) (many n datum s p)
+  unfolding many dataAt
+  data-shown zero p = yes (shows-none datumCells)
+  data-shown (suc n) p =
+      next s (datum s p) _ (λ x j e. after s (many n datum s j) _ (data-shown n j) (λ xs j′ hs.
+      yes (shows-more datumCells (datumAt s p) (reached (datum s p) [] (λ q. dataAt s n q)) x xs (if-ok (Shows datumCells (datumAt s p)) (datum s p) (datum-shown p) e) (rw e hs))))
+
+  length-data : (n p : ℕ) → If (λ is j. length (dataAt s n p) ≡ n) (many n datum s p)
+  unfolding many dataAt
+  length-data zero p = yes refl
+  length-data (suc n) p =
+      next s (datum s p) _ (λ x j e. after s (many n datum s j) _ (length-data n j) (λ xs j′ h. yes (rw e (ap suc h))))
+
+  -- infos
+  info-shown : (b i : ℕ) → If (Shows infoCells (infoAt s b)) (info b s i)
+  unfolding info infoAt infoCells shownIn
+  info-shown b i =
+      sought s b i _ (λ l0. number s 4 b (b + 4) _ refl (λ l4. number s 1 (b + 4) (b + 5) _ (omega arith) (λ l5. number s 1 (b + 5) (b + 6) _ (omega arith) (λ l6.
+      number s 2 (b + 6) (b + 8) _ (omega arith) (λ l8. kind l8 (eqb (get 4 s b) fleu))))))
+    where
+      n : ℕ
+      n = get 1 s (b + 4)
+
+      kind : b + 8 ≤ length s → (t : Bool)
+          → If (Shows infoCells (pick t (ExtendedUserData (dataAt s n (b + 8))) (Standard (lettersOf (get 4 s b)) (partsAt s (targetAt s (get 4 s b)) b n (b + 8)))))
+          (given t (_>>=_ (many n datum) (λ ds. ret (word fleu ∷ word n ∷ ds)))
+          (_>>=_ (numbers n) (λ offsets. _>>=_ (visit b (target (get 4 s b)) offsets) (λ ts. ret (word (lettersOf (get 4 s b)) ∷ word n ∷ ts)))) s (b + 8))
+      kind h true =
+          next s (many n datum s (b + 8)) _ (λ ds j e.
+          yes (ap₂ (λ (m : ℕ) (cs : List Cell). wordCell fleu ∷ wordCell m ∷ cs)
+          (sym (if-ok (λ is j. length (dataAt s n (b + 8)) ≡ n) (many n datum s (b + 8)) (length-data n (b + 8)) e))
+          (if-ok (Shows (each datumCells) (dataAt s n (b + 8))) (many n datum s (b + 8)) (data-shown n (b + 8)) e)))
+      kind h false =
+          table s n (b + 8) _ h (λ l.
+          after s (visit b (target (get 4 s b)) (numbersAt n s (b + 8)) s (b + 8 + 4 * n)) _
+          (parts-shown targetCells (targetAt s (get 4 s b)) b (target (get 4 s b)) (target-shown (get 4 s b)) n (b + 8) (b + 8 + 4 * n)) (λ ts j hs.
+          yes (ap₂ (λ (m : ℕ) (cs : List Cell). wordCell (lettersOf (get 4 s b)) ∷ wordCell m ∷ cs) (sym (length-parts s (targetAt s (get 4 s b)) b n (b + 8))) hs)))
+
+  -- contents
+  content-cells : (b : ℕ) (is : List Item) → shownIn s is ≡ each infoCells (contentAt s b .infos)
+      → shownIn s (text b (nameSize s b) ∷ word (typeOf (get 1 s (b + 29))) ∷ word (get 1 s (b + 28)) ∷ is) ≡ contentCells (contentAt s b)
+  unfolding contentCells contentAt shownIn
+  content-cells b is h =
+      ap₂ (λ (m : ℕ) (cs : List Cell). chars (shownAt s b (nameSize s b)) ∷ wordCell (typeOf (get 1 s (b + 29))) ∷ wordCell m ∷ cs)
+      (sym (length-parts s (infoAt s) b (get 1 s (b + 28)) (infoTableIn s b))) h
+
+  content-shown : (b i : ℕ) → If (Shows contentCells (contentAt s b)) (content b s i)
+  unfolding content
+  content-shown b i =
+      sought s b i _ (λ l0. name s b _
+      (λ l28. number s 1 (b + 28) (b + 29) _ (omega arith) (λ l29. number s 1 (b + 29) (b + 30) _ (omega arith) (λ l30. number s 2 (b + 30) (b + 32) _ (omega arith) (λ l32.
+      after s (infoTable b (get 1 s (b + 29)) s (b + 32)) _ (table-at s b l32) (λ at j h. infos j (h .0) (h .1))))))
+      (λ t. number s 1 (length s) (length s + 1) _ refl (λ l. absurd (omega arith))))
+    where
+      infos : (j : ℕ) → j ≡ infoTableIn s b → infoTableIn s b ≤ length s
+          → If (Shows contentCells (contentAt s b))
+          (_>>=_ (numbers (get 1 s (b + 28))) (λ offsets. _>>=_ (visit b info offsets) (λ is. ret (text b (nameSize s b) ∷ word (typeOf (get 1 s (b + 29))) ∷ word (get 1 s (b + 28)) ∷ is))) s j)
+      infos j e h =
+          rw e
+          (table s (get 1 s (b + 28)) (infoTableIn s b) _ h (λ l.
+          after s (visit b info (numbersAt (get 1 s (b + 28)) s (infoTableIn s b)) s (infoTableIn s b + 4 * get 1 s (b + 28))) _
+          (parts-shown infoCells (infoAt s) b info info-shown (get 1 s (b + 28)) (infoTableIn s b) (infoTableIn s b + 4 * get 1 s (b + 28))) (λ is k hs.
+          yes (content-cells b is (unfold contentAt in hs)))))
+
+  contents-shown : (to n i : ℕ) → If (Shows (each contentCells) (partsAt s (contentAt s) 0 n to)) (contents to n s i)
+  unfolding contents
+  contents-shown to n i = sought s to i _ (λ l. table s n to _ l (λ m. parts-shown contentCells (contentAt s) 0 content content-shown n to (to + 4 * n)))
+
+  -- the section
+  section-cells : (ts cs : List Item) → shownIn s ts ≡ each textureCells (recordAt s .textures) → shownIn s cs ≡ each contentCells (recordAt s .contents)
+      → shownIn s (word (get 2 s 8) ∷ word (flagOf (get 1 s 10)) ∷ word (get 2 s 12) ∷ word (get 2 s 14) ∷ (ts ++ cs)) ≡ cells (recordAt s)
+  unfolding cells recordAt shownIn
+  section-cells ts cs h k =
+      ap₂ (λ (m n : ℕ). wordCell (get 2 s 8) ∷ wordCell (flagOf (get 1 s 10)) ∷ wordCell m ∷ wordCell n ∷ shownIn s (ts ++ cs))
+      (sym (length-parts s (endedAt s) 20 (get 2 s 12) 20)) (sym (length-parts s (contentAt s) 0 (get 2 s 14) (get 4 s 16)))
+      ∙ ap (λ (z : List Cell). wordCell (get 2 s 8) ∷ wordCell (flagOf (get 1 s 10)) ∷ wordCell (length (recordAt s .textures)) ∷ wordCell (length (recordAt s .contents)) ∷ z)
+      (shown-append s ts cs ∙ ap₂ (λ (a b : List Cell). a ++ b) h k)
+
+  body-shown : (size : ℕ) → If (Shows cells (recordAt s)) (body size s 8)
+  unfolding body
+  body-shown size =
+      number s 2 8 10 _ refl (λ l10. number s 1 10 11 _ refl (λ l11. number s 1 11 12 _ refl (λ l12. number s 2 12 14 _ refl (λ l14. number s 2 14 16 _ refl (λ l16. number s 4 16 20 _ refl (λ l20.
+      table s (get 2 s 12) 20 _ l20 (λ l.
+      after s (visit 20 texture (numbersAt (get 2 s 12) s 20) s (20 + 4 * get 2 s 12)) _ (parts-shown textureCells (endedAt s) 20 texture texture-shown (get 2 s 12) 20 (20 + 4 * get 2 s 12)) (λ ts k ht.
+      after s (contents (get 4 s 16) (get 2 s 14) s k) _ (contents-shown (get 4 s 16) (get 2 s 14) k) (λ cs m hc.
+      sought s size m _ (λ z. yes (section-cells ts cs (unfold recordAt in ht) (unfold recordAt in hc))))))))))))
+
+  section-shows : If (Shows cells (recordAt s)) (section s 0)
+  unfolding section
+  section-shows = number s 4 0 4 _ refl (λ l4. number s 4 4 8 _ refl (λ l8. kind (eqb (get 4 s 0) pai1)))
+    where
+      kind : (t : Bool) → If (Shows cells (recordAt s)) (given t (body (get 4 s 4)) (fail (NotPai1 (get 4 s 0))) s 8)
+      kind true = body-shown (get 4 s 4)
+      kind false = record { holds = tt }
+
+  -- what reads is the record that the bytes are
+  pub section-shown : (is : List Item) (end : ℕ) → section s 0 ≡ ok is end → shownIn s is ≡ cells (recordAt s)
+  section-shown is end e = if-ok (Shows cells (recordAt s)) (section s 0) section-shows e

@@ -1,0 +1,139 @@
+-- Writing what was read: a call of writing finds no fault in the words and the texts that a call of reading filled, unless decoding made a
+-- name longer than 28 bytes.
+-- Assumes nothing.
+use Prim.Native.Nat.{ℕ, _≤_}
+use mathlib.Core.Path.{_≡_, refl, sym, ap₂, _∙_}
+use mathlib.Core.Bool.{Bool, true, false, _&&_}
+use mathlib.Core.List.{List, [], _∷_}
+use native.Mathlib.Omega.{arith}
+use borrow.Author.Tests.{leb-true}
+use lib.Dec.{leb}
+use lib.ListN.{length, take, replicate}
+use lib.Seq.{sets}
+use Rattle.core.specs.Choice.{pick}
+use Rattle.core.specs.Number.{val, get, readOf}
+use Rattle.core.specs.Outcome.{Outcome, accepted}
+use Rattle.core.specs.Seek.{seekOf}
+use Rattle.core.specs.Text.{beforeZero, fixedOf}
+use Rattle.core.specs.Utf8.{rows, within, classOf, laterOf, matched, more, good, pieceOf, piecesAfter, pieces, shown, decoded, decode}
+use Rattle.core.proofs.Numbers.{Bytes, sets-read}
+use Rattle.bflan.specs.declared.fault.Fault.{Fault}
+use Rattle.bflan.specs.declared.fault.Fault.the-variants.{PastEnd, NoZero, NotPai1}
+use Rattle.bflan.specs.Answer.{refused, tooLong, tooShort, ofFault, filled, reading}
+use Rattle.bflan.specs.pai1.Judge.{section as judge, content as judgeContent}
+use Rattle.bflan.specs.Judge.{nextWord as judgeWord, nextText as judgeText, times}
+use Rattle.bflan.specs.Limits.{limit}
+use Rattle.bflan.specs.pai1.Limits.{Readable}
+use Rattle.bflan.specs.Reader.{Res, ok, stop, Item, num, seekTo, fixedText, numbers, visit}
+use Rattle.bflan.specs.pai1.Reading.{typeOf, infoTable, content, contents, flagOf, body, section}
+use Rattle.bflan.specs.pai1.Record.{PaneAnimInfo, words, texts}
+use Rattle.bflan.specs.pai1.Rewriting.{readWords, readTexts, namesFit, rewritten}
+use Rattle.bflan.specs.Items.{wordsOf, textsOf}
+use Rattle.bflan.specs.Writing.{judged, writing}
+use Rattle.bflan.proofs.judge.Judging.{names-within, judge-flat, judge-long}
+use Rattle.bflan.proofs.round_trip.ReadTree.{read-tree}
+
+-- ---- a call of reading that is accepted
+
+-- the items that it read; there is room for their words and texts, and it fills them in
+record Filled (s w x : List ℕ) : Type 0 where
+  short : length s ≤ limit
+  items : List Item
+  end : ℕ
+  reads : section s 0 ≡ ok items end
+  roomWords : length (wordsOf s items) ≤ length w
+  roomTexts : length (textsOf s items) ≤ length x
+  answer : reading s w x ≡ (accepted (length (wordsOf s items) ∷ length (textsOf s items) ∷ []), sets w 0 (wordsOf s items), sets x 0 (textsOf s items))
+
+-- a fault is never accepted
+fault-number : (f : Fault) → ofFault f .number ≡ 0 → ⊥
+unfolding ofFault
+fault-number (PastEnd offset requested) e = omega arith
+fault-number (NoZero start) e = omega arith
+fault-number (NotPai1 letters) e = omega arith
+
+-- what is accepted was filled in
+accepted-filled : (s w x : List ℕ) → reading s w x .0 .number ≡ 0 → Filled s w x
+unfolding reading filled
+accepted-filled s w x e = go (leb (length s) limit) refl (section s 0) refl e
+  where
+    on : length s ≤ limit → leb (length s) limit ≡ true → (is : List Item) (end : ℕ) → section s 0 ≡ ok is end → (a b : Bool) → leb (length (wordsOf s is)) (length w) ≡ a → leb (length (textsOf s is)) (length x) ≡ b
+        → pick {A = Outcome × List ℕ × List ℕ} (a && b) (accepted (length (wordsOf s is) ∷ length (textsOf s is) ∷ []), sets w 0 (wordsOf s is), sets x 0 (textsOf s is))
+        (tooShort (length (wordsOf s is)) (length (textsOf s is)), w, x) .0 .number ≡ 0
+        → Filled s w x
+    on h l is end r true true a b e =
+        record {
+          short = h;
+          items = is;
+          end = end;
+          reads = r;
+          roomWords = leb-true (length (wordsOf s is)) (length w) a;
+          roomTexts = leb-true (length (textsOf s is)) (length x) b;
+          answer = rw (l, r, a, b);
+        }
+    on h l is end r true false a b e = absurd (omega arith)
+    on h l is end r false b a c e = absurd (omega arith)
+
+    go : (t : Bool) → leb (length s) limit ≡ t → (r : Res (List Item)) → section s 0 ≡ r
+        → pick {A = Outcome × List ℕ × List ℕ} t (filled s w x r) (tooLong (length s), w, x) .0 .number ≡ 0
+        → Filled s w x
+    go true l (ok is end) r e = on (leb-true (length s) limit l) l is end r (leb (length (wordsOf s is)) (length w)) (leb (length (textsOf s is)) (length x)) refl refl e
+    go true l (stop f) r e = absurd (fault-number f e)
+    go false l r q e = absurd (omega arith)
+
+-- ---- how writing judges what was read
+
+-- the two lists of a record within the limits but for the length of names: it is stored where they fit, else refused at the first that does not
+pub write-readable : (r : PaneAnimInfo) → Readable r → (out : List ℕ) → writing (words r) (texts r) out ≡ rewritten out r
+unfolding writing judged rewritten
+write-readable r q out = go (namesFit (r .contents)) refl
+  where
+    go : (t : Bool) → namesFit (r .contents) ≡ t → judged out (judge (words r) (texts r) 0 0) ≡ rewritten out r
+    go true e = rw (e, judge-flat r (names-within 84 r q e))
+    go false e = rw (e, judge-long 84 r q e)
+
+-- the record that a call of reading gave: the two values of its answer, the words and texts that it filled, and what a call of writing with
+-- any output answers for them
+pub record ReadJudged (s w x : List ℕ) : Type 0 where
+  pub tree : PaneAnimInfo
+  pub readable : Readable tree
+  pub answer : reading s w x .0 ≡ accepted (length (words tree) ∷ length (texts tree) ∷ [])
+  pub words : readWords s w x ≡ words tree
+  pub texts : readTexts s w x ≡ texts tree
+  pub judged : (out : List ℕ) → writing (readWords s w x) (readTexts s w x) out ≡ rewritten out tree
+
+-- what was stored from the start on stands there
+front : (l v : List ℕ) → length v ≤ length l → take (length v) (sets l 0 v) ≡ v
+front l v h = sets-read l 0 v (omega arith)
+
+-- of every slice of bytes that is read
+pub read-judged : (s w x : List ℕ) → Bytes s → reading s w x .0 .number ≡ 0 → ReadJudged s w x
+unfolding readWords readTexts
+read-judged s w x b e =
+    let f = accepted-filled s w x e in
+    let t = read-tree s b (f .short) (f .items) (f .end) (f .reads) in
+    let ew : readWords s w x ≡ words (t .tree) = rw (f .answer) (front w (wordsOf s (f .items)) (f .roomWords) ∙ sym (t .words)) in
+    let ex : readTexts s w x ≡ texts (t .tree) = rw (f .answer) (front x (textsOf s (f .items)) (f .roomTexts) ∙ sym (t .texts)) in
+    record {
+      tree = t .tree;
+      readable = t .readable;
+      answer = rw (f .answer, t .words, t .texts);
+      words = ew;
+      texts = ex;
+      judged = λ out. ap₂ (λ (u v : List ℕ). writing u v out) ew ex ∙ write-readable (t .tree) (t .readable) out;
+    }
+
+-- ---- an example
+
+-- a content whose name is ten bytes FF, each of which is shown as three
+abbrev pub illNamed : List ℕ
+illNamed =
+    0x70 ∷ 0x61 ∷ 0x69 ∷ 0x31 ∷ 0x38 ∷ 0x00 ∷ 0x00 ∷ 0x00 ∷ 0x00 ∷ 0x00 ∷ 0x00 ∷ 0x00 ∷ 0x00 ∷ 0x00 ∷ 0x01 ∷ 0x00 ∷ 0x14 ∷ 0x00 ∷ 0x00 ∷ 0x00 ∷ 0x18 ∷ 0x00 ∷ 0x00 ∷ 0x00
+    ∷ 0xFF ∷ 0xFF ∷ 0xFF ∷ 0xFF ∷ 0xFF ∷ 0xFF ∷ 0xFF ∷ 0xFF ∷ 0xFF ∷ 0xFF ∷ replicate 22 0
+
+-- it is read into 7 words and 30 text bytes; these are refused at the name's length, and the output stays
+pub ill-named : (out : List ℕ)
+    → (reading illNamed (replicate 7 0) (replicate 30 0) .0 ≡ accepted (7 ∷ 30 ∷ []))
+    × (writing (readWords illNamed (replicate 7 0) (replicate 30 0)) (readTexts illNamed (replicate 7 0) (replicate 30 0)) out ≡ (refused 6 (4 ∷ []), out))
+unfolding readWords readTexts reading filled wordsOf textsOf writing judged judge judgeWord judgeText judgeContent times section body contents content visit numbers num seekTo fixedText infoTable typeOf flagOf readOf get val seekOf fixedOf beforeZero rows within classOf laterOf matched more good pieceOf piecesAfter pieces shown decoded decode
+ill-named out = (refl, refl)

@@ -1,0 +1,4 @@
+pub mod LayoutParts
+pub mod Pens
+pub mod WriteAnswers
+pub mod WrittenBytes

@@ -1,0 +1,8 @@
+pub mod DatumParts
+pub mod JudgeParts
+pub mod LayoutParts
+pub mod Measure
+pub mod Path
+pub mod Pen
+pub mod SectionParts
+pub mod Walk

@@ -1,0 +1,97 @@
+-- What a walk over a section leaves behind: its tally, and the two tables, by the items that it met.
+use Prim.Native.Nat.{ℕ, min, _+_, _-_}
+use mathlib.Core.Path.{_≡_}
+use mathlib.Core.Bool.{true}
+use mathlib.Core.List.{List, [], _∷_, map}
+use lib.Dec.{eqb, ltb}
+use lib.ListN.{length}
+use lib.Seq.{slice, sets}
+use Rattle.core.specs.Choice.{pick}
+use Rattle.core.specs.Number.{get}
+use Rattle.core.specs.declared.run.Run.{Run}
+use Rattle.core.specs.declared.run.Run.the-variants.{Next, Cut}
+use Rattle.bflan.specs.declared.fault.Fault.the-variants.{PastEnd}
+use Rattle.bflan.specs.declared.reader.texture.Name.{Name}
+use Rattle.bflan.specs.declared.reader.texture.Name.the-variants.{Found, Missing}
+use Rattle.bflan.specs.declared.reader.content.TableAt.{TableAt}
+use Rattle.bflan.specs.declared.reader.content.TableAt.the-variants.{There, Stop}
+use Rattle.bflan.specs.declared.reader.tally.Tally.{Tally}
+use Rattle.bflan.specs.declared.reader.tally.Walk.{Walk}
+use Rattle.bflan.specs.declared.reader.tally.Walk.the-variants.{Went, Stopped}
+use Rattle.bflan.specs.Reader.{Res, ok, stop, Item, word, text}
+use Rattle.bflan.specs.Items.{shownAt, wordsOf, textsOf}
+
+-- numbers as items: a word each
+abbrev pub asItems : Res (List ℕ) → Res (List Item)
+asItems (ok vs p) = ok (map word vs) p
+asItems (stop f) = stop f
+
+-- ---- the tally
+
+-- a count as a usize
+abbrev pub sat : ℕ → ℕ
+sat n = min n 18446744073709551615
+
+-- before anything was met; text k is wanted
+abbrev pub emptyTally : ℕ → Tally
+emptyTally k = record { words = 0; bytes = 0; texts = 0; want = k; start = 0; len = 0 }
+
+unfoldable pub withWords : Tally → ℕ → Tally
+withWords t n =
+    record { words = sat (t .words + n); bytes = t .bytes; texts = t .texts; want = t .want; start = t .start; len = t .len }
+
+unfoldable pub withText : Tally → ℕ → ℕ → ℕ → Tally
+withText t a n size =
+    record {
+      words = sat (t .words + 1);
+      bytes = sat (t .bytes + size);
+      texts = sat (t .texts + 1);
+      want = t .want;
+      start = pick (eqb (t .texts) (t .want)) a (t .start);
+      len = pick (eqb (t .texts) (t .want)) n (t .len);
+    }
+
+unfoldable pub tallied : List ℕ → Tally → List Item → Tally
+tallied s t [] = t
+tallied s t (word v ∷ is) = tallied s (withWords t 1) is
+tallied s t (text a n ∷ is) = tallied s (withText t a n (length (shownAt s a n))) is
+
+-- a walk after a run of n words
+unfoldable pub afterRun : Run → Tally → ℕ → Walk
+afterRun (Next next) t n = Went (withWords t n) next
+afterRun (Cut at k) t n = Stopped (PastEnd at k)
+
+-- ---- a walk over two tables: its answer and, where it goes on, the tables then
+
+unfoldable pub walkOf : List ℕ → Tally → List ℕ → List ℕ → Res (List Item) → Walk × List ℕ × List ℕ
+walkOf s t w x (ok is p) = (Went (tallied s t is) p, sets w (t .words) (wordsOf s is), sets x (t .bytes) (textsOf s is))
+walkOf s t w x (stop f) = (Stopped f, [], [])
+
+-- the same as the code has it: of a walk that was stopped the tables don't count
+unfoldable pub walked : Walk → List ℕ → List ℕ → Walk × List ℕ × List ℕ
+walked (Went t p) w x = (Went t p, w, x)
+walked (Stopped f) w x = (Stopped f, [], [])
+
+-- an info table that was looked for
+abbrev pub asTable : TableAt → Res ℕ
+asTable (There p) = ok p p
+asTable (Stop f) = stop f
+
+-- a name that was looked for, and where it ends
+abbrev pub asName : Name → Res (List Item)
+asName (Found a n q plain) = ok (text a n ∷ []) q
+asName (Missing f) = stop f
+
+abbrev pub nameEnd : Name → ℕ
+nameEnd (Found a n q plain) = a + n
+nameEnd (Missing f) = 0
+
+-- the length that the next entry of an offset table suggests for a name whose own entry, the first of `left` ones, stands at `at`: names stand
+-- one behind another, each with its zero. The last one has no suggestion. No answer depends on it
+unfoldable pub guessOf : List ℕ → ℕ → ℕ → ℕ → ℕ
+guessOf s at left off = pick (ltb left 2) 0 (get 4 s (at + 4) - off - 1)
+
+-- a name that is said to be plain is shown as it is
+abbrev pub asIs : List ℕ → Name → Type 0
+asIs s (Found a n q plain) = plain ≡ true → shownAt s a n ≡ slice a (a + n) s
+asIs s (Missing f) = Unit {0}

@@ -1,0 +1,10 @@
+pub mod FieldValues
+pub mod Judge
+pub mod Layout
+pub mod Letters
+pub mod Limits
+pub mod Locating
+pub mod Places
+pub mod Reading
+pub mod Record
+pub mod Rewriting

@@ -1,0 +1,86 @@
+// What a walk over a section has counted, and where it stands.
+ghost use mathlib.Core.Path.{_≡_};
+ghost use Prim.Native.Nat.{_+_, min};
+ghost use Rattle.bflan.specs.inner.Walk.{sat, emptyTally, withWords, withText};
+use crate::fault::Fault;
+
+// Words and text bytes so far, which are also the places of the next ones; texts so far; and the place and the length of the text
+// whose number is wanted, once it was met. A count that a usize does not hold stays at the largest one.
+pub struct Tally {
+    pub words: usize,
+    pub bytes: usize,
+    pub texts: usize,
+    pub want: usize,
+    pub start: usize,
+    pub len: usize,
+}
+
+// A walk goes on at a position, or is stopped.
+pub enum Walk {
+    Went(Tally, usize),
+    Stopped(Fault),
+}
+
+pub(crate) fn add(a: usize, b: usize) -> usize
+    ensures { λ r. ⌜ r ≡ sat (a + b) ⌝ }
+{
+    if b <= 18446744073709551615 - a {
+        return a + b;
+    }
+    18446744073709551615
+}
+
+pub(crate) fn fresh(want: usize) -> Tally
+    ensures { λ r. ⌜ r ≡ emptyTally want ⌝ }
+{
+    Tally {
+        words: 0,
+        bytes: 0,
+        texts: 0,
+        want,
+        start: 0,
+        len: 0,
+    }
+}
+
+// `n` words more.
+pub(crate) fn more_words(t: Tally, n: usize) -> Tally
+    ensures { λ r. ⌜ r ≡ withWords t n ⌝ }
+{
+    Tally {
+        words: add(t.words, n),
+        bytes: t.bytes,
+        texts: t.texts,
+        want: t.want,
+        start: t.start,
+        len: t.len,
+    }
+}
+
+// A text more, at `start` with `len` bytes in the section and `size` bytes decoded.
+pub(crate) fn more_text(t: Tally, start: usize, len: usize, size: usize) -> Tally
+    ensures { λ r. ⌜ r ≡ withText t start len size ⌝ }
+{
+    let texts = t.texts;
+    let words = add(t.words, 1);
+    let bytes = add(t.bytes, size);
+    let next = add(texts, 1);
+    if texts == t.want {
+        return Tally {
+            words,
+            bytes,
+            texts: next,
+            want: t.want,
+            start,
+            len,
+        };
+    }
+    Tally {
+        words,
+        bytes,
+        texts: next,
+        want: t.want,
+        start: t.start,
+        len: t.len,
+    }
+}
