@@ -202,41 +202,57 @@ module _ {A : Type 0} (p : J A) (w x : List ℕ) where
   times-turn zero i j h = absurd (omega arith)
   times-turn (suc n) i j h = let e : suc n - 1 ≡ n = omega arith in rw e
 
--- after it; and at the end
+-- ---- a loop over n parts from i₀ and j₀ on, which stands at i and j, with `left` parts to come and k bytes behind it: what is left, with
+-- these bytes, is the whole
 
-module _ {A : Type 0} (p : J A) (lay : A → Layout) (w x : List ℕ) (left i j k : ℕ) (whole : Verdict) (e : grown k (verdictOf (λ ps. size (parts lay ps)) (times left p w x i j)) ≡ whole) where
-  turn : 0 < left → whole ≡ grown k (verdictOf (λ ps. size (parts lay ps)) (andThen (p w x i j) (λ a w x i j. andThen (times (left - 1) p w x i j) (λ ps. ret (a ∷ ps)) w x) w x))
-  turn l = sym e ∙ ap (λ (r : Judged (List A)). grown k (verdictOf (λ ps. size (parts lay ps)) r)) (times-turn p w x left i j l)
+module _ {A : Type 0} (p : J A) (lay : A → Layout) (w x : List ℕ) where
+  abbrev pub measured : ℕ → ℕ → ℕ → Verdict
+  measured n i j = verdictOf (λ ps. size (parts lay ps)) (times n p w x i j)
 
-  pub loop-word : 0 < left → (u : ℕ) → verdictOf (λ a. size (lay a)) (p w x i j) ≡ BadWord u → BadWord u ≡ whole
-  loop-word l u d = let b = was-word (λ a. size (lay a)) (p w x i j) u d in (rw (turn l, b) (unfold verdictOf grown in refl))
+  pub record Measuring (n i₀ j₀ left i j k : ℕ) : Type 0 where
+    pub small : k ≤ 18446744073709551615
+    pub same : grown k (measured left i j) ≡ measured n i₀ j₀
 
-  pub loop-text : 0 < left → (u : ℕ) → verdictOf (λ a. size (lay a)) (p w x i j) ≡ BadText u → BadText u ≡ whole
-  loop-text l u d = let b = was-text (λ a. size (lay a)) (p w x i j) u d in (rw (turn l, b) (unfold verdictOf grown in refl))
-
-  pub loop-on : 0 < left → (m : Mark) (n : ℕ) → verdictOf (λ a. size (lay a)) (p w x i j) ≡ Fine m → n ≡ sat (k + m .size)
-      → grown n (verdictOf (λ ps. size (parts lay ps)) (times (left - 1) p w x (m .word) (m .byte))) ≡ whole
-  loop-on l m n d en =
-      let b = was-fine (λ a. size (lay a)) (p w x i j) m d in
-      let a : A = b .value in
-      let rest : Judged (List A) = times (left - 1) p w x (m .word) (m .byte) in
-      let g : grown (size (lay a)) (verdictOf (λ ps. size (parts lay ps)) rest) ≡ verdictOf (λ ps. size (parts lay ps)) (andThen rest (λ ps. ret (a ∷ ps)) w x) =
-      then-grown (λ ps. size (parts lay ps)) (λ ps. size (parts lay ps)) rest w x (size (lay a)) _ (λ ps. a ∷ ps) refl (λ ps u v z. unfold parts size in refl) in
-      let z : ℕ = size (lay a) in
-      let en′ : n ≡ sat (k + z) = en ∙ ap (λ (q : ℕ). sat (k + q)) (b .sized) ∙ sat-right k z in
-      ap (λ (q : ℕ). grown q (verdictOf (λ ps. size (parts lay ps)) rest)) en′ ∙ grown-sat (k + z) _ ∙ sym (grown-grown k z _) ∙ ap (grown k) g
-      ∙ ap (λ (r : Judged A). grown k (verdictOf (λ ps. size (parts lay ps)) (andThen r (λ a w x i j. andThen (times (left - 1) p w x i j) (λ ps. ret (a ∷ ps)) w x) w x))) (sym (b .is))
-      ∙ sym (turn l)
-
-  pub loop-end : left ≤ 0 → k ≤ 18446744073709551615 → marked i j k ≡ whole
-  loop-end l h = rw (sym e, times-none p w x left i j l) (unfold verdictOf grown parts size in ap (marked i j) (omega arith))
-
--- the start of such a loop
-pub loop-start : {A : Type 0} (s : A → ℕ) (r : Judged A) → grown 0 (verdictOf s r) ≡ verdictOf s r
+grown-none : {A : Type 0} (s : A → ℕ) (r : Judged A) → grown 0 (verdictOf s r) ≡ verdictOf s r
 unfolding verdictOf grown
-loop-start s (fine a i j) = ap (marked i j) (omega arith)
-loop-start s (badWord i) = refl
-loop-start s (badText j) = refl
+grown-none s (fine a i j) = ap (marked i j) (omega arith)
+grown-none s (badWord i) = refl
+grown-none s (badText j) = refl
+
+module _ {A : Type 0} {p : J A} {lay : A → Layout} {w x : List ℕ} {n i₀ j₀ : ℕ} where
+  pub measuring-start : Measuring p lay w x n i₀ j₀ n i₀ j₀ 0
+  measuring-start = record { small = omega arith; same = grown-none (λ ps. size (parts lay ps)) (times n p w x i₀ j₀) }
+
+  module _ {left i j k : ℕ} (h : Measuring p lay w x n i₀ j₀ left i j k) where
+    -- by what the judge of the next part said
+    module _ (l : 0 < left) {v : Verdict} (e : v ≡ verdictOf (λ a. size (lay a)) (p w x i j)) where
+      turn : measured p lay w x n i₀ j₀ ≡ grown k (verdictOf (λ ps. size (parts lay ps)) (andThen (p w x i j) (λ a w x i j. andThen (times (left - 1) p w x i j) (λ ps. ret (a ∷ ps)) w x) w x))
+      turn = sym (h .same) ∙ ap (λ (r : Judged (List A)). grown k (verdictOf (λ ps. size (parts lay ps)) r)) (times-turn p w x left i j l)
+
+      pub measuring-word : {u : ℕ} → v ≡ BadWord u → BadWord u ≡ measured p lay w x n i₀ j₀
+      measuring-word {u} d = let b = was-word (λ a. size (lay a)) (p w x i j) u (sym e ∙ d) in (rw (turn, b) (unfold verdictOf grown in refl))
+
+      pub measuring-text : {u : ℕ} → v ≡ BadText u → BadText u ≡ measured p lay w x n i₀ j₀
+      measuring-text {u} d = let b = was-text (λ a. size (lay a)) (p w x i j) u (sym e ∙ d) in (rw (turn, b) (unfold verdictOf grown in refl))
+
+      pub measuring-turn : {m : Mark} → v ≡ Fine m → {k′ : ℕ} → k′ ≡ sat (k + m .size) → Measuring p lay w x n i₀ j₀ (left - 1) (m .word) (m .byte) k′
+      measuring-turn {m} d {k′} ek =
+          let b = was-fine (λ a. size (lay a)) (p w x i j) m (sym e ∙ d) in
+          let a : A = b .value in
+          let rest : Judged (List A) = times (left - 1) p w x (m .word) (m .byte) in
+          let g : grown (size (lay a)) (verdictOf (λ ps. size (parts lay ps)) rest) ≡ verdictOf (λ ps. size (parts lay ps)) (andThen rest (λ ps. ret (a ∷ ps)) w x) =
+          then-grown (λ ps. size (parts lay ps)) (λ ps. size (parts lay ps)) rest w x (size (lay a)) _ (λ ps. a ∷ ps) refl (λ ps u v z. unfold parts size in refl) in
+          let z : ℕ = size (lay a) in
+          let ez : k′ ≡ sat (k + z) = ek ∙ ap (λ (q : ℕ). sat (k + q)) (b .sized) ∙ sat-right k z in
+          record {
+            small = omega (arith, ek);
+            same = ap (λ (q : ℕ). grown q (verdictOf (λ ps. size (parts lay ps)) rest)) ez ∙ grown-sat (k + z) _ ∙ sym (grown-grown k z _) ∙ ap (grown k) g
+                ∙ ap (λ (r : Judged A). grown k (verdictOf (λ ps. size (parts lay ps)) (andThen r (λ a w x i j. andThen (times (left - 1) p w x i j) (λ ps. ret (a ∷ ps)) w x) w x))) (sym (b .is))
+                ∙ sym turn;
+          }
+
+    pub measuring-end : left ≤ 0 → marked i j k ≡ measured p lay w x n i₀ j₀
+    measuring-end l = rw (sym (h .same), times-none p w x left i j l) (unfold verdictOf grown parts size in ap (marked i j) (omega (arith, h .small)))
 
 -- ---- parts of k words that are fine wherever their words are there, and else bad where the words end
 

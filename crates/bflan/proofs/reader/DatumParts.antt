@@ -1,6 +1,6 @@
--- A datum by its parts: the arms of the reads, what a head's words leave, and data one after another.
+-- A datum by its parts: the arms of the reads, and what a head's words leave.
 -- Assumes nothing.
-use Prim.Native.Nat.{ℕ, zero, suc, _+_, _-_, _*_, _<_, _≤_}
+use Prim.Native.Nat.{ℕ, _+_, _*_, _≤_}
 use mathlib.Core.Path.{_≡_, refl, ap, sym, _∙_}
 use mathlib.Core.List.{List, [], _∷_, _++_, map}
 use native.Mathlib.Omega.{arith}
@@ -13,16 +13,14 @@ use Rattle.bflan.specs.declared.reader.datum.Fields.{Fields}
 use Rattle.bflan.specs.declared.fault.Fault.{Fault}
 use Rattle.bflan.specs.declared.fault.Fault.the-variants.{PastEnd}
 use Rattle.bflan.specs.declared.reader.tally.Tally.{Tally}
-use Rattle.bflan.specs.declared.reader.tally.Walk.{Walk}
-use Rattle.bflan.specs.declared.reader.tally.Walk.the-variants.{Went, Stopped}
 use Rattle.bflan.specs.inner.DatumParts.{head, fieldsOf, keyText, valuesAndKeyText}
-use Rattle.bflan.specs.Reader.{Res, ok, stop, P, andThen, _>>=_, ret, here, Item, word, num, seekTo, oneEnded, numbers, many}
+use Rattle.bflan.specs.Reader.{Res, ok, stop, P, andThen, _>>=_, ret, here, Item, word, num, seekTo, oneEnded, numbers}
 use Rattle.bflan.specs.pai1.Reading.{texture, datum}
-use Rattle.bflan.specs.inner.Walk.{asItems, sat, withWords, walkOf, walked}
+use Rattle.bflan.specs.inner.Walk.{asItems, sat, withWords, walkOf}
 use Rattle.bflan.proofs.reader.Emits.{num-on, num-past}
 use Rattle.bflan.proofs.reader.KeyRuns.{words-words, texts-words, tallied-words, moved-more}
 use Rattle.bflan.proofs.reader.Rows.{rowThen, Row, row-bind}
-use Rattle.bflan.proofs.reader.Walks.{before, joined, put-before, many-suc, sets-sat, run-before, turn-on, turn-no, told-ok}
+use Rattle.bflan.proofs.reader.Walks.{before, joined, put-before, sets-sat, run-before}
 
 -- ---- the head: the reads of the code are a row
 
@@ -144,30 +142,3 @@ pub run-head : (s : List ℕ) (t u : Tally) (w w′ x : List ℕ) (h : Fields) (
 run-head s t u w w′ x h r hw hx ht eu ew =
     rw (eu, ew)
     (sym (rw (tallied-words s t (fieldsOf h) ht, words-words s (fieldsOf h), texts-words s (fieldsOf h)) at (run-before s t w x (map word (fieldsOf h)) r hw hx)))
-
--- ---- data one after another: `left` are still to come
-
-many-turn : (p : P (List Item)) (s : List ℕ) (left i : ℕ) → 0 < left → many left p s i ≡ joined (p s i) (λ j. many (left - 1) p s j)
-many-turn p s zero i h = absurd (omega arith)
-many-turn p s (suc n) i h = let e : suc n - 1 ≡ n = omega arith in rw e (many-suc n p s i)
-
-many-end : (p : P (List Item)) (s : List ℕ) (left i : ℕ) → left ≤ 0 → many left p s i ≡ ok [] i
-unfolding many
-many-end p s zero i h = refl
-many-end p s (suc n) i h = absurd (omega arith)
-
--- the loop over them: what is left is the whole before a turn, so it is after it; and at the end
-module _ (p : P (List Item)) (s : List ℕ) (t : Tally) (w x : List ℕ) (left i : ℕ) (whole : Walk × List ℕ × List ℕ) (e : walkOf s t w x (many left p s i) ≡ whole) where
-  turned : 0 < left → walkOf s t w x (joined (p s i) (λ j. many (left - 1) p s j)) ≡ whole
-  turned l = ap (walkOf s t w x) (sym (many-turn p s left i l)) ∙ e
-
-  pub loop-on : 0 < left → length w ≤ 18446744073709551615 → length x ≤ 18446744073709551615 → (r : Walk) (u : Tally) (q : ℕ) (w′ x′ : List ℕ)
-      → walked r w′ x′ ≡ walkOf s t w x (p s i) → r ≡ Went u q → walkOf s u w′ x′ (many (left - 1) p s q) ≡ whole
-  loop-on l hw hx r u q w′ x′ er eo = turn-on s t w x (p s i) hw hx r u q w′ x′ (λ j. many (left - 1) p s j) er eo ∙ turned l
-
-  pub loop-no : 0 < left → length w ≤ 18446744073709551615 → length x ≤ 18446744073709551615 → (r : Walk) (f : Fault) (w′ x′ w″ x″ : List ℕ)
-      → walked r w′ x′ ≡ walkOf s t w x (p s i) → r ≡ Stopped f → walked (Stopped f) w″ x″ ≡ whole
-  loop-no l hw hx r f w′ x′ w″ x″ er en = turn-no s t w x (p s i) hw hx r f w′ x′ w″ x″ (λ j. many (left - 1) p s j) er en ∙ turned l
-
-  pub loop-over : left ≤ 0 → walked (Went t i) w x ≡ whole
-  loop-over l = told-ok s t w x i ∙ ap (walkOf s t w x) (sym (many-end p s left i l)) ∙ e

@@ -124,18 +124,18 @@ module _ (s : List ℕ) (base i : ℕ) where
 
 -- ---- a name that was looked for
 
-pub stored-name : (s : List ℕ) (t : Tally) (w x : List ℕ) (r : Name) (g : Res (List Item)) (a n q : ℕ) (plain : Bool) (t′ : Tally) (w′ x′ : List ℕ) → asName r ≡ g → r ≡ Found a n q plain
-    → t′ ≡ withText t a n (length (shownAt s a n)) → w′ ≡ set w (t .words) (length (shownAt s a n)) → x′ ≡ sets x (t .bytes) (shownAt s a n) → walked (Went t′ q) w′ x′ ≡ walkOf s t w x g
-stored-name s t w x r g a n q plain t′ w′ x′ eg er et ew ex = run-text s t w x a n q t′ w′ x′ et ew ex ∙ ap (walkOf s t w x) (sym (ap asName er) ∙ eg)
+pub stored-name : (s : List ℕ) (t : Tally) (w x : List ℕ) {r : Name} {g : Res (List Item)} {a n q : ℕ} {plain : Bool} {t′ : Tally} {w′ x′ : List ℕ} → asName r ≡ g → r ≡ Found a n q plain
+    → (t′ ≡ withText t a n (length (shownAt s a n))) × (w′ ≡ set w (t .words) (length (shownAt s a n))) × (x′ ≡ sets x (t .bytes) (shownAt s a n)) → walked (Went t′ q) w′ x′ ≡ walkOf s t w x g
+stored-name s t w x eg er e = run-text s t w x _ _ _ _ _ _ (e .0) (e .1) (e .2) ∙ ap (walkOf s t w x) (sym (ap asName er) ∙ eg)
 
-pub no-name : (s : List ℕ) (t : Tally) (w x : List ℕ) (r : Name) (g : Res (List Item)) (f : Fault) (w′ x′ : List ℕ) → asName r ≡ g → r ≡ Missing f → walked (Stopped f) w′ x′ ≡ walkOf s t w x g
-no-name s t w x r g f w′ x′ eg er = told-stop s t w x w′ x′ f ∙ ap (walkOf s t w x) (sym (ap asName er) ∙ eg)
+pub no-name : (s : List ℕ) (t : Tally) (w x : List ℕ) {r : Name} {g : Res (List Item)} {f : Fault} (w′ x′ : List ℕ) → asName r ≡ g → r ≡ Missing f → walked (Stopped f) w′ x′ ≡ walkOf s t w x g
+no-name s t w x w′ x′ eg er = told-stop s t w x w′ x′ _ ∙ ap (walkOf s t w x) (sym (ap asName er) ∙ eg)
 
-pub name-fits : (r : Name) (a n q m : ℕ) (plain : Bool) → nameEnd r ≤ m → r ≡ Found a n q plain → a + n ≤ m
-name-fits r a n q m plain h e = let k : nameEnd r ≡ a + n = ap nameEnd e in omega (arith, h, k)
+pub name-fits : {r : Name} {a n q m : ℕ} {plain : Bool} → nameEnd r ≤ m → r ≡ Found a n q plain → a + n ≤ m
+name-fits {r} {a} {n} h e = let k : nameEnd r ≡ a + n = ap nameEnd e in omega (arith, h, k)
 
-pub name-plain : (s : List ℕ) (r : Name) (a n q : ℕ) (plain : Bool) → asIs s r → r ≡ Found a n q plain → plain ≡ true → shownAt s a n ≡ slice a (a + n) s
-name-plain s r a n q plain h e = subst (asIs s) e h
+pub name-plain : (s : List ℕ) {r : Name} {a n q : ℕ} {plain : Bool} → asIs s r → r ≡ Found a n q plain → plain ≡ true → shownAt s a n ≡ slice a (a + n) s
+name-plain s h e = subst (asIs s) e h
 
 -- a name that was guessed
 pub texture-plain : (base : ℕ) (s : List ℕ) (i n : ℕ) → base + n < length s → endedOf s base ≡ Text n (base + n + 1) → texture base s i ≡ ok (text base n ∷ []) (base + n + 1)

@@ -64,17 +64,32 @@ pub visit-nil : (base : ℕ) (p : ℕ → P (List Item)) (s : List ℕ) (i : ℕ
 unfolding visit
 visit-nil base p s i = refl
 
--- the same for the loops: `left` offsets are still to come, from `at` on
-pub visits-turn : (base : ℕ) (p : ℕ → P (List Item)) (s : List ℕ) (at left i : ℕ) → 0 < left
-    → visit base p (numbersAt left s at) s i ≡ joined (p (base + get 4 s at) s i) (λ j. visit base p (numbersAt (left - 1) s (at + 4)) s j)
-unfolding numbersAt
-visits-turn base p s at zero i h = absurd (omega arith)
-visits-turn base p s at (suc n) i h = let e : suc n - 1 ≡ n = omega arith in rw e (visit-cons base p (get 4 s at) (numbersAt n s (at + 4)) s i)
+-- ---- a reading that is one reading and then what is left, as a loop's turn takes it
 
-pub visits-end : (base : ℕ) (p : ℕ → P (List Item)) (s : List ℕ) (at left i : ℕ) → left ≤ 0 → visit base p (numbersAt left s at) s i ≡ ok [] i
+pub record Next (whole one : Res (List Item)) (rest : ℕ → Res (List Item)) : Type 0 where
+  pub is : whole ≡ joined one rest
+
+-- of `left` in a row
+pub many-next : (p : P (List Item)) (s : List ℕ) (left i : ℕ) → 0 < left → Next (many left p s i) (p s i) (λ j. many (left - 1) p s j)
+many-next p s zero i h = absurd (omega arith)
+many-next p s (suc n) i h = let e : suc n - 1 ≡ n = omega arith in record { is = rw e (many-suc n p s i) }
+
+pub many-end : (p : P (List Item)) (s : List ℕ) (left i : ℕ) → left ≤ 0 → many left p s i ≡ ok [] i
+unfolding many
+many-end p s zero i h = refl
+many-end p s (suc n) i h = absurd (omega arith)
+
+-- of those at `left` offsets from `at` on
+pub visit-next : (base : ℕ) (p : ℕ → P (List Item)) (s : List ℕ) (at left i : ℕ) → 0 < left → {to : ℕ} → to ≡ base + get 4 s at
+    → Next (visit base p (numbersAt left s at) s i) (p to s i) (λ j. visit base p (numbersAt (left - 1) s (at + 4)) s j)
 unfolding numbersAt
-visits-end base p s at zero i h = visit-nil base p s i
-visits-end base p s at (suc n) i h = absurd (omega arith)
+visit-next base p s at zero i h e = absurd (omega arith)
+visit-next base p s at (suc n) i h eo = let e : suc n - 1 ≡ n = omega arith in record { is = rw (e, eo) (visit-cons base p (get 4 s at) (numbersAt n s (at + 4)) s i) }
+
+pub visit-end : (base : ℕ) (p : ℕ → P (List Item)) (s : List ℕ) (at left i : ℕ) → left ≤ 0 → visit base p (numbersAt left s at) s i ≡ ok [] i
+unfolding numbersAt
+visit-end base p s at zero i h = visit-nil base p s i
+visit-end base p s at (suc n) i h = absurd (omega arith)
 
 -- ---- items one after another
 
@@ -207,22 +222,34 @@ pub told-ok : (s : List ℕ) (t : Tally) (w x : List ℕ) (p : ℕ) → walked (
 unfolding walked walkOf tallied wordsOf textsOf
 told-ok s t w x p = refl
 
--- ---- a loop over an offset table, `left` of whose offsets are still to come, from `at` on: what is left is the whole before a turn, so it
--- is after it; and at the end
+-- ---- a loop over readings, which began with `whole` to read, the tally t₀ and the lists w₀ and x₀, and has `rest` to read, the tally t and
+-- the lists w and x: what is left, from here, is the whole, from the start
 
-module _ (base : ℕ) (p : ℕ → P (List Item)) (s : List ℕ) (t : Tally) (w x : List ℕ) (at left i : ℕ) (whole : Walk × List ℕ × List ℕ) (e : walkOf s t w x (visit base p (numbersAt left s at) s i) ≡ whole) where
-  turned : 0 < left → (to : ℕ) → to ≡ base + get 4 s at → walkOf s t w x (joined (p to s i) (λ j. visit base p (numbersAt (left - 1) s (at + 4)) s j)) ≡ whole
-  turned l to eo = rw eo (ap (walkOf s t w x) (sym (visits-turn base p s at left i l)) ∙ e)
+pub record Walking (s : List ℕ) (whole : Res (List Item)) (t₀ : Tally) (w₀ x₀ : List ℕ) (rest : Res (List Item)) (t : Tally) (w x : List ℕ) : Type 0 where
+  pub same : walkOf s t w x rest ≡ walkOf s t₀ w₀ x₀ whole
+  pub words-long : length w ≡ length w₀
+  pub texts-long : length x ≡ length x₀
+  pub words-small : length w ≤ 18446744073709551615
+  pub texts-small : length x ≤ 18446744073709551615
 
-  pub visited-on : 0 < left → length w ≤ 18446744073709551615 → length x ≤ 18446744073709551615 → (r : Walk) (to : ℕ) (u : Tally) (q : ℕ) (w′ x′ : List ℕ)
-      → to ≡ base + get 4 s at → walked r w′ x′ ≡ walkOf s t w x (p to s i) → r ≡ Went u q → walkOf s u w′ x′ (visit base p (numbersAt (left - 1) s (at + 4)) s q) ≡ whole
-  visited-on l hw hx r to u q w′ x′ eo er ed =
-      turn-on s t w x (p to s i) hw hx r u q w′ x′ (λ j. visit base p (numbersAt (left - 1) s (at + 4)) s j) er ed ∙ turned l to eo
+pub walking-start : {s w x : List ℕ} {t : Tally} {r : Res (List Item)} → length w ≤ 18446744073709551615 → length x ≤ 18446744073709551615 → Walking s r t w x r t w x
+walking-start h k = record { same = refl; words-long = refl; texts-long = refl; words-small = h; texts-small = k }
 
-  pub visited-no : 0 < left → length w ≤ 18446744073709551615 → length x ≤ 18446744073709551615 → (r : Walk) (to : ℕ) (f : Fault) (w′ x′ u v : List ℕ)
-      → to ≡ base + get 4 s at → walked r w′ x′ ≡ walkOf s t w x (p to s i) → r ≡ Stopped f → walked (Stopped f) u v ≡ whole
-  visited-no l hw hx r to f w′ x′ u v eo er ed =
-      turn-no s t w x (p to s i) hw hx r f w′ x′ u v (λ j. visit base p (numbersAt (left - 1) s (at + 4)) s j) er ed ∙ turned l to eo
+module _ {s w₀ x₀ w x : List ℕ} {t₀ t : Tally} {whole rest : Res (List Item)} (h : Walking s whole t₀ w₀ x₀ rest t w x) where
+  -- by what the reader of the next one said
+  module _ {one : Res (List Item)} {r : Walk} (w′ x′ : List ℕ) (d : walked r w′ x′ ≡ walkOf s t w x one) {g : ℕ → Res (List Item)} (e : Next rest one g) where
+    pub walking-turn : {u : Tally} {q : ℕ} → r ≡ Went u q → length w′ ≡ length w → length x′ ≡ length x → Walking s whole t₀ w₀ x₀ (g q) u w′ x′
+    walking-turn {u} {q} v kw kx =
+        record {
+          same = turn-on s t w x one (h .words-small) (h .texts-small) r u q w′ x′ g d v ∙ ap (walkOf s t w x) (sym (e .is)) ∙ h .same;
+          words-long = kw ∙ h .words-long;
+          texts-long = kx ∙ h .texts-long;
+          words-small = rw kw (h .words-small);
+          texts-small = rw kx (h .texts-small);
+        }
 
-  pub visited-end : left ≤ 0 → walked (Went t i) w x ≡ whole
-  visited-end l = told-ok s t w x i ∙ ap (walkOf s t w x) (sym (visits-end base p s at left i l)) ∙ e
+    pub walking-stop : {f : Fault} → r ≡ Stopped f → (u v : List ℕ) → walked (Stopped f) u v ≡ walkOf s t₀ w₀ x₀ whole
+    walking-stop {f} v y z = turn-no s t w x one (h .words-small) (h .texts-small) r f w′ x′ y z g d v ∙ ap (walkOf s t w x) (sym (e .is)) ∙ h .same
+
+  pub walking-end : {i : ℕ} → rest ≡ ok [] i → walked (Went t i) w x ≡ walkOf s t₀ w₀ x₀ whole
+  walking-end {i} e = told-ok s t w x i ∙ ap (walkOf s t w x) (sym e) ∙ h .same

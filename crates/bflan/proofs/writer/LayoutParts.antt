@@ -597,10 +597,10 @@ module _ (w x : List ℕ) where
       let s : n - (k + 1) ≡ n - k - 1 = omega arith in
       rw s (out-more (n - k) i j at (omega (arith, l)) h u e)
 
-  pub out-none : (n i j : ℕ) → n ≤ 0 → outOf (times n info w x i j) ≡ 0
+  pub out-end : (n i j : ℕ) {gone all : ℕ} → gone + outOf (times n info w x i j) ≡ all → n ≤ 0 → gone ≡ all
   unfolding times outOf infosOut
-  out-none zero i j l = refl
-  out-none (suc n) i j l = absurd (omega arith)
+  out-end zero i j e l = omega (arith, e)
+  out-end (suc n) i j e l = absurd (omega arith)
 
   pub out-fits : (from n i j at : ℕ) {most : ℕ} (h : Ready (listed infoLay from) (times n info w x i j) at most) → outOf (times n info w x i j) ≤ limit
   out-fits from n i j at h = rw (out-fine (h .judged)) (omega (arith, listed-size infoLay from (h .value), infos-most (h .value), h .short))

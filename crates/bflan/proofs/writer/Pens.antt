@@ -220,27 +220,36 @@ module _ {X : Type 0} (p : J X) (lay : X → Layout) (w x : List ℕ) where
   none-laid zero i j at out l = refl
   none-laid (suc n) i j at out l = absurd (omega arith)
 
--- a loop over a run: what is left, from here, is what all of it is, from the start
-module _ {X : Type 0} (p : J X) (lay : X → Layout) (w x : List ℕ) where
-  pub record Running (end : Pen) (done : List ℕ) (left : ℕ) (q : Pen) (out : List ℕ) : Type 0 where
-    pub ready : Ready (parts lay) (times left p w x (q .word) (q .byte)) (q .at) (length out)
-    pub ends : penBehind (parts lay) (times left p w x (q .word) (q .byte)) (q .at) ≡ end
-    pub same : laid (parts lay) (times left p w x (q .word) (q .byte)) (q .at) out ≡ done
+-- a loop over a run of n, from q₀ and out₀ on: what is left, from here, is what all of it is, from the start
+pub record Running {X : Type 0} (p : J X) (lay : X → Layout) (w x : List ℕ) (n : ℕ) (q₀ : Pen) (out₀ : List ℕ) (left : ℕ) (q : Pen) (out : List ℕ) : Type 0 where
+  pub ready : Ready (parts lay) (times left p w x (q .word) (q .byte)) (q .at) (length out)
+  pub long : length out ≡ length out₀
+  pub ends : penBehind (parts lay) (times left p w x (q .word) (q .byte)) (q .at) ≡ penBehind (parts lay) (times n p w x (q₀ .word) (q₀ .byte)) (q₀ .at)
+  pub same : laid (parts lay) (times left p w x (q .word) (q .byte)) (q .at) out ≡ laid (parts lay) (times n p w x (q₀ .word) (q₀ .byte)) (q₀ .at) out₀
 
-  pub running-turn : {end : Pen} {done : List ℕ} {left : ℕ} {q : Pen} {out : List ℕ} → Running end done left q out → 0 < left
-      → (u : Pen) → u ≡ penBehind lay (p w x (q .word) (q .byte)) (q .at) → (m : List ℕ) → m ≡ laid lay (p w x (q .word) (q .byte)) (q .at) out
-      → length m ≡ length out → Running end done (left - 1) u m
-  running-turn {end} {done} {left} {q} {out} h l u e m f g =
-      let s = times-splits p lay w x left (q .word) (q .byte) (q .at) l (h .ready) u e in
-      record {
-        ready = rw g (rest-ready s (q .at) (h .ready) u e);
-        ends = split-behind s (q .at) u e ∙ h .ends;
-        same = rw f (split-laid s (q .at) u e out) ∙ h .same;
-      }
+module _ {X : Type 0} {p : J X} {lay : X → Layout} {w x : List ℕ} {n : ℕ} {q₀ : Pen} {out₀ : List ℕ} where
+  pub running-start : Ready (parts lay) (times n p w x (q₀ .word) (q₀ .byte)) (q₀ .at) (length out₀) → Running p lay w x n q₀ out₀ n q₀ out₀
+  running-start h = record { ready = h; long = refl; ends = refl; same = refl }
 
-  pub running-end : {end : Pen} {done : List ℕ} {left : ℕ} {q : Pen} {out : List ℕ} → Running end done left q out → left ≤ 0 → (q ≡ end) × (out ≡ done)
-  running-end {left = left} {q = q} {out = out} h l =
-      (sym (none-behind p lay w x left (q .word) (q .byte) (q .at) l) ∙ h .ends, sym (none-laid p lay w x left (q .word) (q .byte) (q .at) out l) ∙ h .same)
+  module _ {left : ℕ} {q : Pen} {out : List ℕ} (h : Running p lay w x n q₀ out₀ left q out) where
+    pub running-first : 0 < left → Ready lay (p w x (q .word) (q .byte)) (q .at) (length out)
+    running-first l = first-of p lay w x left (q .word) (q .byte) (q .at) l (h .ready)
+
+    pub running-turn : 0 < left → {u : Pen} {m : List ℕ} → (u ≡ penBehind lay (p w x (q .word) (q .byte)) (q .at)) × (m ≡ laid lay (p w x (q .word) (q .byte)) (q .at) out)
+        → length m ≡ length out → Running p lay w x n q₀ out₀ (left - 1) u m
+    running-turn l {u} (e, f) g =
+        let s = times-splits p lay w x left (q .word) (q .byte) (q .at) l (h .ready) u e in
+        record {
+          ready = rw g (rest-ready s (q .at) (h .ready) u e);
+          long = g ∙ h .long;
+          ends = split-behind s (q .at) u e ∙ h .ends;
+          same = rw f (split-laid s (q .at) u e out) ∙ h .same;
+        }
+
+    pub running-end : left ≤ 0
+        → (q ≡ penBehind (parts lay) (times n p w x (q₀ .word) (q₀ .byte)) (q₀ .at)) × (out ≡ laid (parts lay) (times n p w x (q₀ .word) (q₀ .byte)) (q₀ .at) out₀)
+    running-end l =
+        (sym (none-behind p lay w x left (q .word) (q .byte) (q .at) l) ∙ h .ends, sym (none-laid p lay w x left (q .word) (q .byte) (q .at) out l) ∙ h .same)
 
 -- ---- behind a table of offsets
 
@@ -305,10 +314,6 @@ module _ {X : Type 0} (p : J X) (lay : X → Layout) (w x : List ℕ) (base : �
     pub same : tabled lay base (times (n - i) p w x (q .word) (q .byte)) (tab + 4 * i) (q .at) out
         ≡ laid (listed lay (tab + 4 * n - base)) (times n p w x (q₀ .word) (q₀ .byte)) tab out₀
 
-  pub going-first : {n tab i : ℕ} {q₀ q : Pen} {out₀ out : List ℕ} → Going n tab q₀ out₀ i q out → i < n
-      → Ready lay (p w x (q .word) (q .byte)) (q .at) (length out)
-  going-first {n = n} {i = i} {q = q} h l = first-of p lay w x (n - i) (q .word) (q .byte) (q .at) (omega arith) (h .ready)
-
   turned : (left tab : ℕ) (q u : Pen) {most : ℕ} (out v m : List ℕ) → 0 < left → base ≤ q .at → tab + 4 * left ≤ q .at
       → Ready (parts lay) (times left p w x (q .word) (q .byte)) (q .at) most
       → v ≡ put 4 out tab (q .at - base) → u ≡ penBehind lay (p w x (q .word) (q .byte)) (q .at) → m ≡ laid lay (p w x (q .word) (q .byte)) (q .at) v
@@ -329,10 +334,20 @@ module _ {X : Type 0} (p : J X) (lay : X → Layout) (w x : List ℕ) (base : �
       )
       (tabled-more lay base y zs tab (q .at) (u .at) out b (omega (arith, z, g)) (ap (λ (z : Pen). z .at) d))
 
-  pub going-turn : {n tab i : ℕ} {q₀ q : Pen} {out₀ out : List ℕ} → Going n tab q₀ out₀ i q out → i < n
-      → (c : ℕ) → c ≡ n → (v m : List ℕ) (u : Pen) → v ≡ put 4 out (entryAt tab c i) (q .at - base) → u ≡ penBehind lay (p w x (q .word) (q .byte)) (q .at)
-      → m ≡ laid lay (p w x (q .word) (q .byte)) (q .at) v → length m ≡ length out → Going n tab q₀ out₀ (i + 1) u m
-  going-turn {n} {tab} {i} {q₀} {q} {out₀} {out} h l c ec v m u d e f g =
+  stopped : (n i j tab at : ℕ) (out : List ℕ) → n ≤ 0 → tabled lay base (times n p w x i j) tab at out ≡ out
+  unfolding times tabled table parts written
+  stopped zero i j tab at out l = refl
+  stopped (suc n) i j tab at out l = absurd (omega arith)
+
+-- from where the writing stands, behind the table, to where it is after a turn
+module _ {X : Type 0} {p : J X} {lay : X → Layout} {w x : List ℕ} {base n tab i : ℕ} {q₀ q : Pen} {out₀ out : List ℕ} (h : Going p lay w x base n tab q₀ out₀ i q out) (l : i < n) where
+  pub going-first : {most : ℕ} → most ≡ length out → Ready lay (p w x (q .word) (q .byte)) (q .at) most
+  going-first e = ready-in e (first-of p lay w x (n - i) (q .word) (q .byte) (q .at) (omega arith) (h .ready))
+
+  pub going-turn : {c : ℕ} → c ≡ n → {v m : List ℕ} {u : Pen} → v ≡ put 4 out (entryAt tab c i) (q .at - base)
+      → (u ≡ penBehind lay (p w x (q .word) (q .byte)) (q .at)) × (m ≡ laid lay (p w x (q .word) (q .byte)) (q .at) v) → length m ≡ length out
+      → Going p lay w x base n tab q₀ out₀ (i + 1) u m
+  going-turn {c} ec {v} {m} {u} d (e, f) g =
       let k : 0 < n - i = omega (arith, l) in
       let s = times-splits p lay w x (n - i) (q .word) (q .byte) (q .at) k (h .ready) u e in
       let a : u .at ≡ q .at + size (lay (s .first)) = ap (λ (z : Pen). z .at) (e ∙ behind-fine lay (s .starts) (q .at)) in
@@ -345,71 +360,60 @@ module _ {X : Type 0} (p : J X) (lay : X → Layout) (w x : List ℕ) (base : �
         above = omega (arith, h .above, a);
         long = g ∙ h .long;
         ends = rw one (split-behind s (q .at) u e ∙ h .ends);
-        same = rw (one, next) (turned (n - i) (tab + 4 * i) q u out v m k (h .above) (omega (arith, h .apart, l)) (h .ready) (rw there at d) e f ∙ h .same);
+        same = rw (one, next) (turned p lay w x base (n - i) (tab + 4 * i) q u out v m k (h .above) (omega (arith, h .apart, l)) (h .ready) (rw there at d) e f ∙ h .same);
       }
 
-  stopped : (n i j tab at : ℕ) (out : List ℕ) → n ≤ 0 → tabled lay base (times n p w x i j) tab at out ≡ out
-  unfolding times tabled table parts written
-  stopped zero i j tab at out l = refl
-  stopped (suc n) i j tab at out l = absurd (omega arith)
+-- behind a table of n entries
+abbrev pub behindTable : Pen → ℕ → Pen
+behindTable s n = record { word = s .word; byte = s .byte; at = s .at + 4 * n }
 
-  -- from where the writing stands before the table, whose places are held by zeros
-  module _ (n : ℕ) (s : Pen) (out m : List ℕ) (h : Ready (listed lay (s .at + 4 * n - base)) (times n p w x (s .word) (s .byte)) (s .at) (length out))
-      (tab : ℕ) (e : tab ≡ s .at) where
-    count : length (h .value) ≡ n
-    count = times-length p w x n (s .word) (s .byte) (h .judged)
+-- from where the writing stands before the table, whose places are held by zeros
+module _ {X : Type 0} {p : J X} {lay : X → Layout} {w x : List ℕ} {base n tab : ℕ} {m : List ℕ} (s : Pen) {most : ℕ}
+    (h : Ready (listed lay (s .at + 4 * n - base)) (times n p w x (s .word) (s .byte)) (s .at) most) (e : tab ≡ s .at) where
+  pub going-start : base ≤ s .at → length m ≡ most → Going p lay w x base n tab (behindTable s n) m 0 (behindTable s n) m
+  going-start b g =
+      let k = listed-size lay (s .at + 4 * n - base) (h .value) in
+      let c = times-length p w x n (s .word) (s .byte) (h .judged) in
+      let a : s .at + 4 * n + size (parts lay (h .value)) ≡ s .at + size (listed lay (s .at + 4 * n - base) (h .value)) = omega (arith, k, c) in
+      let z : n - 0 ≡ n = omega arith in
+      let t : tab + 4 * 0 ≡ s .at = omega (arith, e) in
+      record {
+        ready = rw z (record { value = h .value; word = h .word; byte = h .byte; judged = h .judged; room = rw (a, g) (h .room); short = rw a (h .short) });
+        apart = omega (arith, e);
+        above = omega (arith, b);
+        long = refl;
+        ends = rw (z, e)
+            (behind-fine (parts lay) (h .judged) (s .at + 4 * n)
+            ∙ ap (λ (g : ℕ). record { word = h .word; byte = h .byte; at = g }) a
+            ∙ sym (behind-fine (listed lay (s .at + 4 * n - base)) (h .judged) (s .at)));
+        same = rw (z, t, e)
+            (tabled-fine lay base (h .judged) (s .at) (s .at + 4 * n) m
+            ∙ listed-stored lay (s .at + 4 * n - base) (h .value) m (s .at) (s .at + 4 * n) (rw c refl)
+            ∙ sym (laid-fine (listed lay (s .at + 4 * n - base)) (h .judged) (s .at) m));
+      }
 
-    -- and behind it
-    abbrev s₀ : Pen
-    s₀ = record { word = s .word; byte = s .byte; at = s .at + 4 * n }
+  -- at the end the zeros are all stored over
+  pub going-end : (out : List ℕ) → m ≡ sets out (s .at) (replicate (4 * n) 0) → {i : ℕ} {q : Pen} {o : List ℕ} → Going p lay w x base n tab (behindTable s n) m i q o → n ≤ i
+      → (q ≡ penBehind (listed lay (s .at + 4 * n - base)) (times n p w x (s .word) (s .byte)) (s .at))
+      × (o ≡ laid (listed lay (s .at + 4 * n - base)) (times n p w x (s .word) (s .byte)) (s .at) out)
+  going-end out f {i} {q} {o} k l =
+      let z : n - i ≤ 0 = omega (arith, l) in
+      let g = length-replicate {A = ℕ} (4 * n) 0 in
+      let y = listed-size lay (s .at + 4 * n - base) (h .value) in
+      let b = size-written (listed lay (s .at + 4 * n - base) (h .value)) in
+      let c = times-length p w x n (s .word) (s .byte) (h .judged) in
+      let over : laid (listed lay (s .at + 4 * n - base)) (times n p w x (s .word) (s .byte)) (s .at) m
+      ≡ laid (listed lay (s .at + 4 * n - base)) (times n p w x (s .word) (s .byte)) (s .at) out =
+      rw (
+        laid-fine (listed lay (s .at + 4 * n - base)) (h .judged) (s .at) m,
+        laid-fine (listed lay (s .at + 4 * n - base)) (h .judged) (s .at) out,
+        f,
+      )
+      (sets-over out (s .at) (replicate (4 * n) 0) (written (listed lay (s .at + 4 * n - base) (h .value))) (omega (arith, g, y, b, c))) in (
+        rw (← e) (sym (none-behind p lay w x (n - i) (q .word) (q .byte) (q .at) z) ∙ k .ends),
+        sym (stopped p lay w x base (n - i) (q .word) (q .byte) (tab + 4 * i) (q .at) o z) ∙ k .same ∙ rw e over,
+      )
 
-    pub going-start : base ≤ s .at → length m ≡ length out → Going n tab s₀ m 0 s₀ m
-    going-start b g =
-        let k = listed-size lay (s .at + 4 * n - base) (h .value) in
-        let c = count in
-        let a : s .at + 4 * n + size (parts lay (h .value)) ≡ s .at + size (listed lay (s .at + 4 * n - base) (h .value)) = omega (arith, k, c) in
-        let z : n - 0 ≡ n = omega arith in
-        let t : tab + 4 * 0 ≡ s .at = omega (arith, e) in
-        record {
-          ready = rw z (record { value = h .value; word = h .word; byte = h .byte; judged = h .judged; room = rw (a, g) (h .room); short = rw a (h .short) });
-          apart = omega (arith, e);
-          above = omega (arith, b);
-          long = refl;
-          ends = rw (z, e)
-              (behind-fine (parts lay) (h .judged) (s .at + 4 * n)
-              ∙ ap (λ (g : ℕ). record { word = h .word; byte = h .byte; at = g }) a
-              ∙ sym (behind-fine (listed lay (s .at + 4 * n - base)) (h .judged) (s .at)));
-          same = rw (z, t, e)
-              (tabled-fine lay base (h .judged) (s .at) (s .at + 4 * n) m
-              ∙ listed-stored lay (s .at + 4 * n - base) (h .value) m (s .at) (s .at + 4 * n) (rw c refl)
-              ∙ sym (laid-fine (listed lay (s .at + 4 * n - base)) (h .judged) (s .at) m));
-        }
-
-    -- the zeros are all stored over
-    gaps-over : m ≡ sets out (s .at) (replicate (4 * n) 0)
-        → laid (listed lay (s .at + 4 * n - base)) (times n p w x (s .word) (s .byte)) (s .at) m
-        ≡ laid (listed lay (s .at + 4 * n - base)) (times n p w x (s .word) (s .byte)) (s .at) out
-    gaps-over f =
-        let g = length-replicate {A = ℕ} (4 * n) 0 in
-        let k = listed-size lay (s .at + 4 * n - base) (h .value) in
-        let b = size-written (listed lay (s .at + 4 * n - base) (h .value)) in
-        let c = count in
-        rw (
-          laid-fine (listed lay (s .at + 4 * n - base)) (h .judged) (s .at) m,
-          laid-fine (listed lay (s .at + 4 * n - base)) (h .judged) (s .at) out,
-          f,
-        )
-        (sets-over out (s .at) (replicate (4 * n) 0) (written (listed lay (s .at + 4 * n - base) (h .value))) (omega (arith, g, k, b, c)))
-
-    pub going-end : m ≡ sets out (s .at) (replicate (4 * n) 0) → {i : ℕ} {q : Pen} {o : List ℕ} → Going n tab s₀ m i q o → n ≤ i
-        → (q ≡ penBehind (listed lay (s .at + 4 * n - base)) (times n p w x (s .word) (s .byte)) (s .at))
-        × (o ≡ laid (listed lay (s .at + 4 * n - base)) (times n p w x (s .word) (s .byte)) (s .at) out)
-    going-end f {i} {q} {o} k l =
-        let z : n - i ≤ 0 = omega (arith, l) in (
-          rw (← e) (sym (none-behind p lay w x (n - i) (q .word) (q .byte) (q .at) z) ∙ k .ends),
-          sym (stopped (n - i) (q .word) (q .byte) (tab + 4 * i) (q .at) o z) ∙ k .same ∙ rw e (gaps-over f),
-        )
-
-  -- where its parts start
-  pub listed-fits : (from n i j at : ℕ) {most : ℕ} → Ready (listed lay from) (times n p w x i j) at most → at + 4 * n ≤ limit
-  listed-fits from n i j at h = omega (arith, listed-size lay from (h .value), times-length p w x n i j (h .judged), h .short)
+-- where its parts start
+pub listed-fits : {X : Type 0} (p : J X) (lay : X → Layout) (w x : List ℕ) (from n i j : ℕ) {at most : ℕ} → Ready (listed lay from) (times n p w x i j) at most → at + 4 * n ≤ limit
+listed-fits p lay w x from n i j h = omega (arith, listed-size lay from (h .value), times-length p w x n i j (h .judged), h .short)

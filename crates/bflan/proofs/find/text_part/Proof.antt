@@ -8,35 +8,11 @@ use mathlib.Core.Logic.{⊎-elim}
 use native.Mathlib.Omega.{arith}
 use Rattle.bflan.proofs.read.Answers.{part-section, part-scratch, part-nowhere}
 
-part-requires : tie.Need-part-requires
-part-requires c κs = search needs
-
 returns : tie.Need-returns
 returns c = let z = part-section (c .before .before .before .before .args .section) (c .before .before .before .before .args .scratch) _ (c .before .before .before .before .args .start) (c .before .before .before .before .args .len) (c .before .if1 .taken) in (c .part .ensures .0 ∙ z .0, c .part .ensures .1 ∙ z .1)
 
-add-end : tie.Need-add-end
-add-end c = search needs
-
-sub-result : tie.Need-sub-result
-sub-result c = search needs
-
-part-result-start : tie.Need-part-result-start
-part-result-start c = search needs
-
-part-result-end : tie.Need-part-result-end
-part-result-end c = search needs
-
 returns-2 : tie.Need-returns-2
 returns-2 c = part-scratch (c .before .before .before .before .before .before .before .args .section) (c .before .before .before .before .before .before .before .args .scratch) _ _ _ (c .before .before .before .if2 .taken) (omega (arith, c .before .before .if3 .taken, c .before .if4 .taken))
-
-sub-result-2 : tie.Need-sub-result-2
-sub-result-2 c = search needs
-
-part-result-start-2 : tie.Need-part-result-start-2
-part-result-start-2 c = search needs
-
-part-result-end-2 : tie.Need-part-result-end-2
-part-result-end-2 c = search needs
 
 returns-3 : tie.Need-returns-3
 returns-3 c = part-nowhere (c .before .before .before .before .before .args .section) (c .before .before .before .before .before .args .scratch) _ _ _ (c .before .before .if1 .left) (λ e. ⊎-elim (λ w. omega (arith, w .1 .taken, w .2 .left)) (⊎-elim (λ w. omega (arith, w .1 .left)) (λ w. absurd (w .left e))) (c .before .if2 .came))
@@ -44,15 +20,5 @@ returns-3 c = part-nowhere (c .before .before .before .before .before .args .sec
 pub text-part-spec : {M : Type 1} → statement M
 text-part-spec =
     tie.close
-    (tie.spec
-    part-requires
-    returns
-    add-end
-    sub-result
-    part-result-start
-    part-result-end
-    returns-2
-    sub-result-2
-    part-result-start-2
-    part-result-end-2
-    returns-3)
+    (tie.spec (search needs) returns (search needs) (search needs) (search needs) (search needs) returns-2 (search needs)
+    (search needs) (search needs) returns-3)

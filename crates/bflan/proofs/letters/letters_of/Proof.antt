@@ -4,18 +4,6 @@ use borrow.Author.Needs.{needs}
 use Rattle.bflan.proofs.letters.letters_of.Statement.{statement}
 use Rattle.bflan.proofs.letters.letters_of.Tie as tie
 
-kind-of-requires : tie.Need-kind-of-requires
-kind-of-requires c κs = search needs
-
-enum-known--count : tie.Need-enum-known--count
-enum-known--count c = search needs
-
-enum-told : tie.Need-enum-told
-enum-told c = search needs
-
-enum-told-2 : tie.Need-enum-told-2
-enum-told-2 c = search needs
-
 returns : tie.Need-returns
 returns c = sym (letters-by _ (sym (c .before .before .before .kind-of .ensures) ∙ c .before .-count .given .1))
 
@@ -26,6 +14,4 @@ returns-3 : tie.Need-returns-3
 returns-3 c = sym (letters-by _ (sym (c .before .before .kind-of .ensures) ∙ c .enum-told2 .given .1))
 
 pub letters-of-spec : {M : Type 1} → statement M
-letters-of-spec =
-    tie.close
-    (tie.spec kind-of-requires enum-known--count enum-told enum-told-2 returns returns-2 returns-3)
+letters-of-spec = tie.close (tie.spec (search needs) (search needs) (search needs) (search needs) returns returns-2 returns-3)

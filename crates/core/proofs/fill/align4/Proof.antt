@@ -3,19 +3,10 @@ use borrow.Author.Needs.{needs}
 use Rattle.core.proofs.fill.align4.Statement.{statement}
 use Rattle.core.proofs.fill.align4.Tie as tie
 
-padding-requires : tie.Need-padding-requires
-padding-requires c κs = search needs
-
-zeros-requires : tie.Need-zeros-requires
-zeros-requires c κs = search needs
-
-same-length : tie.Need-same-length
-same-length c = search needs
-
 returns : tie.Need-returns
 returns c =
     let e = c .before .before .before .before .padding .ensures in
     (e, rw e at (c .before .before .zeros .ensures))
 
 pub align4-spec : {M : Type 1} → statement M
-align4-spec = tie.close (tie.spec padding-requires zeros-requires same-length returns)
+align4-spec = tie.close (tie.spec (search needs) (search needs) (search needs) returns)

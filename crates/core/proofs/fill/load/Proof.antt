@@ -18,21 +18,6 @@ abbrev μ-loop : tie.MeasureT-loop
 loop-holds : tie.Need-loop-holds Inv-loop μ-loop
 loop-holds c = (omega arith, refl, refl)
 
-add-block : tie.Need-add-block Inv-loop μ-loop
-add-block c = omega arith
-
-shared-slice-read-block : tie.Need-shared-slice-read-block Inv-loop μ-loop
-shared-slice-read-block c = omega arith
-
-array-write-block : tie.Need-array-write-block Inv-loop μ-loop
-array-write-block c = omega arith
-
-add-k : tie.Need-add-k Inv-loop μ-loop
-add-k c = omega arith
-
-loop-less : tie.Need-loop-less Inv-loop μ-loop
-loop-less c = omega arith
-
 loop-again : tie.Need-loop-again Inv-loop μ-loop
 loop-again c = (omega arith, simp length-set (c .before .before .loop .inv .1), load-turn (now (c .before .before .before .args .src)) (c .before .before .loop .block) (c .before .before .before .args .at) (c .before .before .loop .k) (omega arith) (omega arith) (c .before .before .loop .inv .2))
 
@@ -42,14 +27,5 @@ returns c = let e : c .before .loop .k ≡ c .before .before .args .n = omega ar
 pub load-spec : {M : Type 1} → statement M
 load-spec =
     tie.close
-    (tie.spec
-    Inv-loop
-    μ-loop
-    loop-holds
-    add-block
-    shared-slice-read-block
-    array-write-block
-    add-k
-    loop-less
-    loop-again
-    returns)
+    (tie.spec Inv-loop μ-loop loop-holds (λ c. omega arith) (λ c. omega arith) (λ c. omega arith) (λ c. omega arith)
+    (λ c. omega arith) loop-again returns)

@@ -5,12 +5,9 @@ use borrow.Author.Needs.{needs}
 use Rattle.core.proofs.fill.padding.Statement.{statement}
 use Rattle.core.proofs.fill.padding.Tie as tie
 
-sub-result : tie.Need-sub-result
-sub-result c = search needs
-
 returns : tie.Need-returns
 unfolding paddingOf
 returns c = refl
 
 pub padding-spec : {M : Type 1} → statement M
-padding-spec = tie.close (tie.spec sub-result returns)
+padding-spec = tie.close (tie.spec (search needs) returns)

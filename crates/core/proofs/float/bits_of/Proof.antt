@@ -15,8 +15,5 @@ returns : tie.Need-returns
 unfolding Ieee.toBits
 returns c = sym (ap (toBits binary32) (only-nan _ (c .if1 .taken)))
 
-returns-2 : tie.Need-returns-2
-returns-2 c = search needs
-
 pub bits-of-spec : {M : Type 1} → statement M
-bits-of-spec = tie.close (tie.spec float-to-bits-result returns returns-2)
+bits-of-spec = tie.close (tie.spec float-to-bits-result returns (search needs))

@@ -7,9 +7,6 @@ use Rattle.core.proofs.Floats.{fails}
 use Rattle.core.proofs.float.from_bits.Statement.{statement}
 use Rattle.core.proofs.float.from_bits.Tie as tie
 
-is-nan-requires : tie.Need-is-nan-requires
-is-nan-requires c κs = search needs
-
 returns : tie.Need-returns
 unfolding floatOf
 returns c = rw (sym (c .before .is-nan .ensures) ∙ c .if1 .taken)
@@ -22,4 +19,4 @@ unfolding floatOf
 returns-2 c = rw (sym (c .before .is-nan .ensures) ∙ c .if1 .left)
 
 pub from-bits-spec : {M : Type 1} → statement M
-from-bits-spec = tie.close (tie.spec is-nan-requires returns float-from-bits-t3 returns-2)
+from-bits-spec = tie.close (tie.spec (search needs) returns float-from-bits-t3 returns-2)

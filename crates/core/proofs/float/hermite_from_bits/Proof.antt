@@ -25,15 +25,6 @@ module _ (b : HermiteBits) {p q r : Bool} (ep : p ≡ nanBits binary32 (b .0)) (
   none : p || q || r ≡ false → (nanBits binary32 (b .0) ≡ false) × (nanBits binary32 (b .1) ≡ false) × (nanBits binary32 (b .2) ≡ false)
   none e = none-of _ _ _ (joined false e)
 
-is-nan-requires : tie.Need-is-nan-requires
-is-nan-requires c κs = search needs
-
-is-nan-requires-2 : tie.Need-is-nan-requires-2
-is-nan-requires-2 c κs = search needs
-
-is-nan-requires-3 : tie.Need-is-nan-requires-3
-is-nan-requires-3 c κs = search needs
-
 returns : tie.Need-returns
 returns c = by-test (c .before .before .before .before .args .bits) (c .before .before .before .is-nan .ensures) (c .before .before .is-nan2 .ensures) (c .before .is-nan3 .ensures) true (c .if1 .taken)
 
@@ -52,12 +43,5 @@ returns-2 c = by-test (c .before .before .before .before .args .bits) (c .before
 pub hermite-from-bits-spec : {M : Type 1} → statement M
 hermite-from-bits-spec =
     tie.close
-    (tie.spec
-    is-nan-requires
-    is-nan-requires-2
-    is-nan-requires-3
-    returns
-    float-from-bits-t10
-    float-from-bits-t11
-    float-from-bits-t12
+    (tie.spec (search needs) (search needs) (search needs) returns float-from-bits-t10 float-from-bits-t11 float-from-bits-t12
     returns-2)

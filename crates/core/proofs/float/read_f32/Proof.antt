@@ -25,18 +25,6 @@ module _ (s : List ℕ) (at : ℕ) where
       let g = read-past 4 s at p m e in
       rw (g .place, g .asked) (sym (float-short s at (g .over)))
 
-read-u32-requires : tie.Need-read-u32-requires
-read-u32-requires c κs = search needs
-
-enum-known-n : tie.Need-enum-known-n
-enum-known-n c = search needs
-
-from-bits-requires : tie.Need-from-bits-requires
-from-bits-requires c κs = search needs
-
-enum-known-place : tie.Need-enum-known-place
-enum-known-place c = search needs
-
 returns : tie.Need-returns
 returns c = value _ _ (sym (c .before .before .before .before .read-u32 .ensures) ∙ c .before .before .n .given .1) (c .from-bits .ensures)
 
@@ -44,6 +32,4 @@ returns-2 : tie.Need-returns-2
 returns-2 c = past _ _ (sym (c .before .before .before .read-u32 .ensures) ∙ c .before .place .given .1)
 
 pub read-f32-spec : {M : Type 1} → statement M
-read-f32-spec =
-    tie.close
-    (tie.spec read-u32-requires enum-known-n from-bits-requires enum-known-place returns returns-2)
+read-f32-spec = tie.close (tie.spec (search needs) (search needs) (search needs) (search needs) returns returns-2)

@@ -51,36 +51,6 @@ module _ (s : List ℕ) (at : ℕ) where
           let en : n ≡ at + 12 = omega (arith, third, j .next) in
           rw (ek, h .number, i .number, j .number, h .next, third, en) (sym (hermite-there s at (omega (arith, third, j .fits))))
 
-read-u32-requires : tie.Need-read-u32-requires
-read-u32-requires c κs = search needs
-
-enum-known-place : tie.Need-enum-known-place
-enum-known-place c = search needs
-
-enum-known-frame : tie.Need-enum-known-frame
-enum-known-frame c = search needs
-
-read-u32-requires-2 : tie.Need-read-u32-requires-2
-read-u32-requires-2 c κs = search needs
-
-enum-known-place-2 : tie.Need-enum-known-place-2
-enum-known-place-2 c = search needs
-
-enum-known-value : tie.Need-enum-known-value
-enum-known-value c = search needs
-
-read-u32-requires-3 : tie.Need-read-u32-requires-3
-read-u32-requires-3 c κs = search needs
-
-enum-known-place-3 : tie.Need-enum-known-place-3
-enum-known-place-3 c = search needs
-
-enum-known-slope : tie.Need-enum-known-slope
-enum-known-slope c = search needs
-
-hermite-from-bits-requires : tie.Need-hermite-from-bits-requires
-hermite-from-bits-requires c κs = search needs
-
 returns : tie.Need-returns
 returns c = past-1 _ _ (sym (c .before .before .before .read-u32 .ensures) ∙ c .before .place .given .1)
 
@@ -96,18 +66,5 @@ returns-4 c = whole _ _ (sym (c .before .before .before .before .before .before 
 pub read-hermite-spec : {M : Type 1} → statement M
 read-hermite-spec =
     tie.close
-    (tie.spec
-    read-u32-requires
-    enum-known-place
-    enum-known-frame
-    read-u32-requires-2
-    enum-known-place-2
-    enum-known-value
-    read-u32-requires-3
-    enum-known-place-3
-    enum-known-slope
-    hermite-from-bits-requires
-    returns
-    returns-2
-    returns-3
-    returns-4)
+    (tie.spec (search needs) (search needs) (search needs) (search needs) (search needs) (search needs) (search needs)
+    (search needs) (search needs) (search needs) returns returns-2 returns-3 returns-4)

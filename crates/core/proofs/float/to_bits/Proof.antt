@@ -6,15 +6,6 @@ use Rattle.core.specs.Float.{patternOf}
 use Rattle.core.proofs.float.to_bits.Statement.{statement}
 use Rattle.core.proofs.float.to_bits.Tie as tie
 
-enum-known-x : tie.Need-enum-known-x
-enum-known-x c = search needs
-
-bits-of-requires : tie.Need-bits-of-requires
-bits-of-requires c κs = search needs
-
-enum-known-x-2 : tie.Need-enum-known-x-2
-enum-known-x-2 c = search needs
-
 returns : tie.Need-returns
 unfolding patternOf
 returns c = c .bits-of .ensures ∙ sym (ap patternOf (c .before .before .x .given .1))
@@ -24,4 +15,4 @@ unfolding patternOf
 returns-2 c = sym (ap patternOf (c .before .x2 .given .1))
 
 pub to-bits-spec : {M : Type 1} → statement M
-to-bits-spec = tie.close (tie.spec enum-known-x bits-of-requires enum-known-x-2 returns returns-2)
+to-bits-spec = tie.close (tie.spec (search needs) (search needs) (search needs) returns returns-2)

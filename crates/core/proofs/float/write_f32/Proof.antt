@@ -7,17 +7,8 @@ use Rattle.core.specs.Number.{put}
 use Rattle.core.proofs.float.write_f32.Statement.{statement}
 use Rattle.core.proofs.float.write_f32.Tie as tie
 
-to-bits-requires : tie.Need-to-bits-requires
-to-bits-requires c κs = search needs
-
-write-u32-requires : tie.Need-write-u32-requires
-write-u32-requires c κs = search needs
-
-same-length : tie.Need-same-length
-same-length c = search needs
-
 returns : tie.Need-returns
 returns c = c .before .before .write-u32 .ensures ∙ ap (put 4 (now (c .before .before .before .before .before .before .args .out)) (c .before .before .before .before .before .before .args .at)) (c .before .before .before .to-bits .ensures)
 
 pub write-f32-spec : {M : Type 1} → statement M
-write-f32-spec = tie.close (tie.spec to-bits-requires write-u32-requires same-length returns)
+write-f32-spec = tie.close (tie.spec (search needs) (search needs) (search needs) returns)

@@ -24,27 +24,6 @@ module _ (s : List ℕ) (at : ℕ) where
   unfolding putPatterns
   out-of b h = rw (put-out 4 s at (b .0) h, put-out 4 s (at + 4) (b .1) (omega arith)) (put-out 4 s (at + 8) (b .2) (omega arith))
 
-hermite-to-bits-requires : tie.Need-hermite-to-bits-requires
-hermite-to-bits-requires c κs = search needs
-
-write-u32-requires : tie.Need-write-u32-requires
-write-u32-requires c κs = search needs
-
-add-write-u32 : tie.Need-add-write-u32
-add-write-u32 c = search needs
-
-write-u32-requires-2 : tie.Need-write-u32-requires-2
-write-u32-requires-2 c κs = search needs
-
-add-write-u32-2 : tie.Need-add-write-u32-2
-add-write-u32-2 c = search needs
-
-write-u32-requires-3 : tie.Need-write-u32-requires-3
-write-u32-requires-3 c κs = search needs
-
-same-length : tie.Need-same-length
-same-length c = search needs
-
 returns : tie.Need-returns
 returns c = wrote _ _ (c .before .before .before .before .before .before .before .before .before .before .write-u32 .ensures) (c .before .before .before .before .before .before .write-u322 .ensures) (c .before .before .write-u323 .ensures) (c .before .before .before .before .before .before .before .before .before .before .before .before .before .hermite-to-bits .ensures)
 
@@ -54,13 +33,5 @@ returns-2 c = sym (out-of (now (c .before .before .before .args .out)) (c .befor
 pub write-hermite-spec : {M : Type 1} → statement M
 write-hermite-spec =
     tie.close
-    (tie.spec
-    hermite-to-bits-requires
-    write-u32-requires
-    add-write-u32
-    write-u32-requires-2
-    add-write-u32-2
-    write-u32-requires-3
-    same-length
-    returns
+    (tie.spec (search needs) (search needs) (search needs) (search needs) (search needs) (search needs) (search needs) returns
     returns-2)

@@ -9,22 +9,10 @@ use borrow.Author.Needs.{needs}
 use Rattle.core.proofs.number.read_u8.Statement.{statement}
 use Rattle.core.proofs.number.read_u8.Tie as tie
 
-ahead-requires : tie.Need-ahead-requires
-ahead-requires c κs = search needs
-
 returns : tie.Need-returns
 returns c =
     let a = c .before .before .before .args in
     sym (read-short 1 (now (a .s)) (a .at) (omega arith))
-
-shared-slice-read-wide : tie.Need-shared-slice-read-wide
-shared-slice-read-wide c = search needs
-
-wide-requires : tie.Need-wide-requires
-wide-requires c κs = search needs
-
-add-t3 : tie.Need-add-t3
-add-t3 c = omega arith
 
 returns-2 : tie.Need-returns-2
 returns-2 c =
@@ -33,6 +21,4 @@ returns-2 c =
     read-is 1 s a _ (omega arith) (omega (arith, get-suc 0 s a, get-zero s (a + 1)))
 
 pub read-u8-spec : {M : Type 1} → statement M
-read-u8-spec =
-    tie.close
-    (tie.spec ahead-requires returns shared-slice-read-wide wide-requires add-t3 returns-2)
+read-u8-spec = tie.close (tie.spec (search needs) returns (search needs) (search needs) (λ c. omega arith) returns-2)

@@ -9,27 +9,6 @@ use borrow.Author.Needs.{needs}
 use Rattle.core.proofs.number.two.Statement.{statement}
 use Rattle.core.proofs.number.two.Tie as tie
 
-add-b1 : tie.Need-add-b1
-add-b1 c = search needs
-
-shared-slice-read-wide : tie.Need-shared-slice-read-wide
-shared-slice-read-wide c = search needs
-
-wide-requires : tie.Need-wide-requires
-wide-requires c κs = search needs
-
-shared-slice-read-wide-2 : tie.Need-shared-slice-read-wide-2
-shared-slice-read-wide-2 c = search needs
-
-wide-requires-2 : tie.Need-wide-requires-2
-wide-requires-2 c κs = search needs
-
-mul-result : tie.Need-mul-result
-mul-result c = search needs
-
-add-result : tie.Need-add-result
-add-result c = search needs
-
 returns : tie.Need-returns
 returns c =
     let s : List ℕ = now (c .before .before .before .before .before .args .s) in
@@ -39,12 +18,4 @@ returns c =
 pub two-spec : {M : Type 1} → statement M
 two-spec =
     tie.close
-    (tie.spec
-    add-b1
-    shared-slice-read-wide
-    wide-requires
-    shared-slice-read-wide-2
-    wide-requires-2
-    mul-result
-    add-result
-    returns)
+    (tie.spec (search needs) (search needs) (search needs) (search needs) (search needs) (search needs) (search needs) returns)

@@ -7,12 +7,6 @@ use borrow.Author.Needs.{needs}
 use Rattle.core.proofs.number.write_u8.Statement.{statement}
 use Rattle.core.proofs.number.write_u8.Tie as tie
 
-slice-write-out : tie.Need-slice-write-out
-slice-write-out c = search needs
-
-same-length : tie.Need-same-length
-same-length c = search needs
-
 returns : tie.Need-returns
 returns c = sym (put-one (now (c .before .args .out)) (c .before .args .at) (c .before .args .v) (omega arith))
 
@@ -20,4 +14,4 @@ returns-2 : tie.Need-returns-2
 returns-2 c = sym (put-out 1 (now (c .before .args .out)) (c .before .args .at) (c .before .args .v) (omega arith))
 
 pub write-u8-spec : {M : Type 1} → statement M
-write-u8-spec = tie.close (tie.spec slice-write-out same-length returns returns-2)
+write-u8-spec = tie.close (tie.spec (search needs) (search needs) returns returns-2)

@@ -12,33 +12,12 @@ use borrow.Author.Needs.{needs}
 use Rattle.core.proofs.part.part.Statement.{statement}
 use Rattle.core.proofs.part.part.Tie as tie
 
-add-end : tie.Need-add-end
-add-end c = search needs
-
-sub-result : tie.Need-sub-result
-sub-result c = search needs
-
-part-result-start : tie.Need-part-result-start
-part-result-start c = search needs
-
-part-result-end : tie.Need-part-result-end
-part-result-end c = search needs
-
 returns : tie.Need-returns
 unfolding partOf partPtr
 returns c =
     let a = c .before .before .before .args in
     let h : a .start + a .len ≤ length (now (a .s)) = omega arith in
     rw (le-leb _ _ h, add-sub-cancel-left) (refl, refl)
-
-sub-result-2 : tie.Need-sub-result-2
-sub-result-2 c = search needs
-
-part-result-start-2 : tie.Need-part-result-start-2
-part-result-start-2 c = search needs
-
-part-result-end-2 : tie.Need-part-result-end-2
-part-result-end-2 c = search needs
 
 returns-2 : tie.Need-returns-2
 unfolding partOf partPtr
@@ -50,13 +29,5 @@ returns-2 c =
 pub part-spec : {M : Type 1} → statement M
 part-spec =
     tie.close
-    (tie.spec
-    add-end
-    sub-result
-    part-result-start
-    part-result-end
-    returns
-    sub-result-2
-    part-result-start-2
-    part-result-end-2
+    (tie.spec (search needs) (search needs) (search needs) (search needs) returns (search needs) (search needs) (search needs)
     returns-2)

@@ -5,9 +5,6 @@ use Rattle.core.proofs.Placeholders.{entry-within, entry-none}
 use Rattle.core.proofs.placeholder.placeholder_of.Statement.{statement}
 use Rattle.core.proofs.placeholder.placeholder_of.Tie as tie
 
-place-of-requires : tie.Need-place-of-requires
-place-of-requires c κs = search needs
-
 returns : tie.Need-returns
 returns c =
     let a = c .before .before .before .args in
@@ -19,4 +16,4 @@ returns-2 c =
     sym (entry-none (a .table .0) (a .table .1) (a .i) (c .if1 .left))
 
 pub placeholder-of-spec : {M : Type 1} → statement M
-placeholder-of-spec = tie.close (tie.spec place-of-requires returns returns-2)
+placeholder-of-spec = tie.close (tie.spec (search needs) returns returns-2)

@@ -14,25 +14,10 @@ returns c =
     let a = c .before .before .args in
     gaps-none (now (a .out)) (a .at) (a .n) (c .if1 .taken)
 
-write-u32-requires : tie.Need-write-u32-requires
-write-u32-requires c κs = search needs
-
-same-length : tie.Need-same-length
-same-length c = search needs
-
 returns-2 : tie.Need-returns-2
 returns-2 c =
     let a = c .before .before .before .before .before .before .before .args in
     c .before .before .write-u32 .ensures ∙ gaps-one (now (a .out)) (a .at) (a .n) (c .before .before .before .before .if2 .taken)
-
-place-of-requires : tie.Need-place-of-requires
-place-of-requires c κs = search needs
-
-zeros-requires : tie.Need-zeros-requires
-zeros-requires c κs = search needs
-
-same-length-2 : tie.Need-same-length-2
-same-length-2 c = search needs
 
 returns-3 : tie.Need-returns-3
 returns-3 c =
@@ -43,12 +28,4 @@ returns-3 c =
 pub write-gaps-spec : {M : Type 1} → statement M
 write-gaps-spec =
     tie.close
-    (tie.spec
-    returns
-    write-u32-requires
-    same-length
-    returns-2
-    place-of-requires
-    zeros-requires
-    same-length-2
-    returns-3)
+    (tie.spec returns (search needs) (search needs) returns-2 (search needs) (search needs) (search needs) returns-3)

@@ -10,18 +10,6 @@ use mathlib.Core.Path.{sym, _∙_}
 use Rattle.core.proofs.Stores.{sets-out}
 use Rattle.core.proofs.Runs.{pair-le}
 
-write-u32-requires : tie.Need-write-u32-requires
-write-u32-requires c κs = search needs
-
-add-write-u32 : tie.Need-add-write-u32
-add-write-u32 c = search needs
-
-write-u32-requires-2 : tie.Need-write-u32-requires-2
-write-u32-requires-2 c κs = search needs
-
-same-length : tie.Need-same-length
-same-length c = search needs
-
 returns : tie.Need-returns
 returns c = rw (c .before .before .before .before .before .before .write-u32 .ensures) at (c .before .before .write-u322 .ensures) ∙ pair-le _ _ _ _
 
@@ -29,6 +17,4 @@ returns-2 : tie.Need-returns-2
 returns-2 c = sym (sets-out (now (c .before .before .args .out)) (c .before .before .args .at) (pairsLe (c .before .before .args .a ∷ c .before .before .args .b ∷ [])) (c .if1 .left))
 
 pub clip-pair-spec : {M : Type 1} → statement M
-clip-pair-spec =
-    tie.close
-    (tie.spec write-u32-requires add-write-u32 write-u32-requires-2 same-length returns returns-2)
+clip-pair-spec = tie.close (tie.spec (search needs) (search needs) (search needs) (search needs) returns returns-2)

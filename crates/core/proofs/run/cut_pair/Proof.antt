@@ -10,19 +10,13 @@ use borrow.Author.Needs.{needs}
 use Rattle.core.proofs.run.cut_pair.Statement.{statement}
 use Rattle.core.proofs.run.cut_pair.Tie as tie
 
-ahead-requires : tie.Need-ahead-requires
-ahead-requires c κs = search needs
-
 returns : tie.Need-returns
 unfolding cutPair
 returns c = let h : length (now (c .before .before .before .args .s)) < c .before .before .before .args .at + 4 = omega arith in rw (lt-leb _ _ h)
-
-add-t3 : tie.Need-add-t3
-add-t3 c = search needs
 
 returns-2 : tie.Need-returns-2
 unfolding cutPair
 returns-2 c = let h : c .before .before .before .args .at + 4 ≤ length (now (c .before .before .before .args .s)) = omega arith in rw (le-leb _ _ h)
 
 pub cut-pair-spec : {M : Type 1} → statement M
-cut-pair-spec = tie.close (tie.spec ahead-requires returns add-t3 returns-2)
+cut-pair-spec = tie.close (tie.spec (search needs) returns (search needs) returns-2)

@@ -13,27 +13,13 @@ use Rattle.core.proofs.run.numbers_end.Reads as reads
 use Rattle.core.proofs.run.numbers_end.Lts as lts
 use Rattle.core.proofs.run.whole_numbers.Reads as whole-numbers-reads
 
-whole-numbers-requires : tie.Need-whole-numbers-requires
-whole-numbers-requires c κs = search needs
-
-mul-t6 : tie.Need-mul-t6
-mul-t6 c = search needs
-
-add-t7 : tie.Need-add-t7
-add-t7 c = search needs
-
 returns : tie.Need-returns
 returns c = ap (λ (x : ℕ). Cut (c .before .before .before .args .at + 4 * x) 4) (c .before .whole-numbers .ensures) ∙ sym (numbers-cut (c .before .before .before .args .n) (now (c .before .before .before .args .s)) (c .before .before .before .args .at) (omega arith))
-
-mul-t8 : tie.Need-mul-t8
-mul-t8 c = search needs
-
-add-t9 : tie.Need-add-t9
-add-t9 c = search needs
 
 returns-2 : tie.Need-returns-2
 returns-2 c = sym (numbers-whole (c .before .before .before .args .n) (now (c .before .before .before .args .s)) (c .before .before .before .args .at) (omega arith))
 
 pub numbers-end-spec : {M : Type 1} → statement M
 numbers-end-spec =
-    tie.close (tie.spec whole-numbers-requires mul-t6 add-t7 returns mul-t8 add-t9 returns-2)
+    tie.close
+    (tie.spec (search needs) (search needs) (search needs) returns (search needs) (search needs) returns-2)

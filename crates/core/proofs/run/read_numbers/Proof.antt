@@ -25,48 +25,12 @@ Inv-loop s at n out₀ o whole m k₀ out k = (m ≤ n) × (length out ≡ lengt
 abbrev μ-loop : tie.MeasureT-loop
 μ-loop s at n out₀ o whole m k₀ out k = m - k
 
-whole-numbers-requires : tie.Need-whole-numbers-requires Inv-loop μ-loop
-whole-numbers-requires c κs = search needs
-
-mul-t10 : tie.Need-mul-t10 Inv-loop μ-loop
-mul-t10 c = search needs
-
-add-t11 : tie.Need-add-t11 Inv-loop μ-loop
-add-t11 c = search needs
-
 returns : tie.Need-returns Inv-loop μ-loop
 returns c =
     (ap (λ (x : ℕ). Cut (c .before .before .before .before .args .at + 4 * x) 4) (c .before .whole-numbers .ensures) ∙ sym (numbers-cut (c .before .before .before .before .args .n) (now (c .before .before .before .before .args .s)) (c .before .before .before .before .args .at) (omega arith)), sym (stored-cut _ _ _ _ _))
 
-room-requires : tie.Need-room-requires Inv-loop μ-loop
-room-requires c κs = search needs
-
 loop-holds : tie.Need-loop-holds Inv-loop μ-loop
 loop-holds c = (omega arith, search needs, fill-start (now (c .before .before .before .before .before .args .out)) (c .before .before .before .before .before .args .o) (numbersAt (c .before .before .before .before .before .args .n) (now (c .before .before .before .before .before .args .s)) (c .before .before .before .before .before .args .at)))
-
-mul-four : tie.Need-mul-four Inv-loop μ-loop
-mul-four c = search needs
-
-add-four : tie.Need-add-four Inv-loop μ-loop
-add-four c = search needs
-
-four-requires : tie.Need-four-requires Inv-loop μ-loop
-four-requires c κs = search needs
-
-add-out : tie.Need-add-out Inv-loop μ-loop
-add-out c = search needs
-
-mul-out : tie.Need-mul-out Inv-loop μ-loop
-mul-out c = search needs
-
-slice-write-out : tie.Need-slice-write-out Inv-loop μ-loop
-slice-write-out c = omega arith
-
-add-k : tie.Need-add-k Inv-loop μ-loop
-add-k c = search needs
-
-loop-less : tie.Need-loop-less Inv-loop μ-loop
-loop-less c = omega arith
 
 loop-again : tie.Need-loop-again Inv-loop μ-loop
 loop-again c =
@@ -74,12 +38,6 @@ loop-again c =
     let h : c .before .before .loop .k < length v = rw (length-numbers (c .before .before .before .before .before .before .before .before .args .n) (now (c .before .before .before .before .before .before .before .before .args .s)) (c .before .before .before .before .before .before .before .before .args .at)) (omega arith) in
     let e : c .four .result ≡ getD v (c .before .before .loop .k) 0 = c .four .ensures ∙ sym (numbers-at _ _ _ _ (omega arith)) in
     (c .before .before .loop .inv .0, simp length-set (c .before .before .loop .inv .1), ap (λ (x : ℕ). sets (set (c .before .before .loop .out) (c .before .before .before .before .before .before .before .before .args .o + c .before .before .loop .k) x) (c .before .before .before .before .before .before .before .before .args .o + (c .before .before .loop .k + 1)) (drop (c .before .before .loop .k + 1) v)) e ∙ fill-turn _ _ _ v h ∙ c .before .before .loop .inv .2)
-
-mul-t12 : tie.Need-mul-t12 Inv-loop μ-loop
-mul-t12 c = search needs
-
-add-t20 : tie.Need-add-t20 Inv-loop μ-loop
-add-t20 c = search needs
 
 same-length : tie.Need-same-length Inv-loop μ-loop
 same-length c = c .before .loop .inv .1
@@ -93,25 +51,6 @@ returns-2 c =
 pub read-numbers-spec : {M : Type 1} → statement M
 read-numbers-spec =
     tie.close
-    (tie.spec
-    Inv-loop
-    μ-loop
-    whole-numbers-requires
-    mul-t10
-    add-t11
-    returns
-    room-requires
-    loop-holds
-    mul-four
-    add-four
-    four-requires
-    add-out
-    mul-out
-    slice-write-out
-    add-k
-    loop-less
-    loop-again
-    mul-t12
-    add-t20
-    same-length
-    returns-2)
+    (tie.spec Inv-loop μ-loop (search needs) (search needs) (search needs) returns (search needs) loop-holds (search needs)
+    (search needs) (search needs) (search needs) (search needs) (λ c. omega arith) (search needs) (λ c. omega arith) loop-again
+    (search needs) (search needs) same-length returns-2)

@@ -20,38 +20,8 @@ Inv-loop words from n out₀ at m full k₀ out k = (k ≤ full) × (length out 
 abbrev μ-loop : tie.MeasureT-loop
 μ-loop words from n out₀ at m full k₀ out k = full - k
 
-room-requires : tie.Need-room-requires Inv-loop μ-loop
-room-requires c κs = search needs
-
-ahead-requires : tie.Need-ahead-requires Inv-loop μ-loop
-ahead-requires c κs = search needs
-
-room-requires-2 : tie.Need-room-requires-2 Inv-loop μ-loop
-room-requires-2 c κs = search needs
-
 loop-holds : tie.Need-loop-holds Inv-loop μ-loop
 loop-holds c = (omega arith, refl, fill-start (now (c .before .before .before .before .before .args .out)) (c .before .before .before .before .before .args .at) (numbersLe (take (c .before .before .before .before .before .args .n) (drop (c .before .before .before .before .before .args .from) (now (c .before .before .before .before .before .args .words))))))
-
-mul-store-four : tie.Need-mul-store-four Inv-loop μ-loop
-mul-store-four c = search needs
-
-add-store-four : tie.Need-add-store-four Inv-loop μ-loop
-add-store-four c = search needs
-
-add-store-four-2 : tie.Need-add-store-four-2 Inv-loop μ-loop
-add-store-four-2 c = search needs
-
-mul-store-four-2 : tie.Need-mul-store-four-2 Inv-loop μ-loop
-mul-store-four-2 c = search needs
-
-shared-slice-read-store-four : tie.Need-shared-slice-read-store-four Inv-loop μ-loop
-shared-slice-read-store-four c = search needs
-
-store-four-requires : tie.Need-store-four-requires Inv-loop μ-loop
-store-four-requires c κs = search needs
-
-add-k : tie.Need-add-k Inv-loop μ-loop
-add-k c = search needs
 
 loop-less : tie.Need-loop-less Inv-loop μ-loop
 loop-less c = count-down (c .before .before .before .before .before .before .before .room2 .result) (c .before .before .before .before .before .before .loop .k) (c .before .before .before .before .before .loop-test .taken)
@@ -67,27 +37,6 @@ loop-again c =
       ap (λ (l : List ℕ). sets l (c .before .before .before .before .before .before .before .before .before .before .before .before .args .at + 4 * (c .before .before .before .before .before .before .loop .k + 1)) (numbersLe (drop (c .before .before .before .before .before .before .loop .k + 1) vs))) (c .before .before .store-four .ensures) ∙ numbers-le-turn (c .before .before .before .before .before .before .loop .out) (c .before .before .before .before .before .before .before .before .before .before .before .before .args .at) (c .before .before .before .before .before .before .loop .k) _ vs h e ∙ c .before .before .before .before .before .before .loop .inv .2,
     )
 
-mul-write-u32 : tie.Need-mul-write-u32 Inv-loop μ-loop
-mul-write-u32 c = search needs
-
-add-write-u32 : tie.Need-add-write-u32 Inv-loop μ-loop
-add-write-u32 c = search needs
-
-add-write-u32-2 : tie.Need-add-write-u32-2 Inv-loop μ-loop
-add-write-u32-2 c = search needs
-
-mul-write-u32-2 : tie.Need-mul-write-u32-2 Inv-loop μ-loop
-mul-write-u32-2 c = search needs
-
-shared-slice-read-write-u32 : tie.Need-shared-slice-read-write-u32 Inv-loop μ-loop
-shared-slice-read-write-u32 c = search needs
-
-write-u32-requires : tie.Need-write-u32-requires Inv-loop μ-loop
-write-u32-requires c κs = search needs
-
-same-length : tie.Need-same-length Inv-loop μ-loop
-same-length c = search needs
-
 returns : tie.Need-returns Inv-loop μ-loop
 returns c =
     let vs = take (c .before .before .before .before .before .before .before .before .before .before .before .before .before .args .n) (drop (c .before .before .before .before .before .before .before .before .before .before .before .before .before .args .from) (now (c .before .before .before .before .before .before .before .before .before .before .before .before .before .args .words))) in
@@ -97,9 +46,6 @@ returns c =
     let r : length (c .before .before .before .before .before .before .before .loop .out) ≤ c .before .before .before .before .before .before .before .before .before .before .before .before .before .args .at + 4 * (c .before .before .before .before .before .before .before .before .room2 .result + 1) = omega arith in
     let e = words-at (c .before .before .before .before .before .before .before .before .before .before .before .before .before .args .n) (c .before .before .before .before .before .before .before .before .before .before .before .before .before .args .from) (c .before .before .before .before .before .before .before .before .room2 .result) (now (c .before .before .before .before .before .before .before .before .before .before .before .before .before .args .words)) h in
     c .before .before .write-u32 .ensures ∙ numbers-le-last (c .before .before .before .before .before .before .before .loop .out) (c .before .before .before .before .before .before .before .before .before .before .before .before .before .args .at) (c .before .before .before .before .before .before .before .before .room2 .result) _ vs h r e ∙ ap (λ (k : ℕ). sets (c .before .before .before .before .before .before .before .loop .out) (c .before .before .before .before .before .before .before .before .before .before .before .before .before .args .at + 4 * k) (numbersLe (drop k vs))) q ∙ c .before .before .before .before .before .before .before .loop .inv .2
-
-same-length-2 : tie.Need-same-length-2 Inv-loop μ-loop
-same-length-2 c = search needs
 
 returns-2 : tie.Need-returns-2 Inv-loop μ-loop
 returns-2 c =
@@ -111,29 +57,6 @@ returns-2 c =
 pub write-numbers-spec : {M : Type 1} → statement M
 write-numbers-spec =
     tie.close
-    (tie.spec
-    Inv-loop
-    μ-loop
-    room-requires
-    ahead-requires
-    room-requires-2
-    loop-holds
-    mul-store-four
-    add-store-four
-    add-store-four-2
-    mul-store-four-2
-    shared-slice-read-store-four
-    store-four-requires
-    add-k
-    loop-less
-    loop-again
-    mul-write-u32
-    add-write-u32
-    add-write-u32-2
-    mul-write-u32-2
-    shared-slice-read-write-u32
-    write-u32-requires
-    same-length
-    returns
-    same-length-2
-    returns-2)
+    (tie.spec Inv-loop μ-loop (search needs) (search needs) (search needs) loop-holds (search needs) (search needs) (search needs)
+    (search needs) (search needs) (search needs) (search needs) loop-less loop-again (search needs) (search needs) (search needs)
+    (search needs) (search needs) (search needs) (search needs) returns (search needs) returns-2)

@@ -7,9 +7,6 @@ use borrow.Author.Needs.{needs}
 use Rattle.core.proofs.seek.seek.Statement.{statement}
 use Rattle.core.proofs.seek.seek.Tie as tie
 
-ahead-requires : tie.Need-ahead-requires
-ahead-requires c κs = search needs
-
 returns : tie.Need-returns
 returns c =
     let a = c .before .before .before .args in
@@ -21,4 +18,4 @@ returns-2 c =
     rw (c .before .ahead .ensures) (sym (seek-over (now (a .s)) (a .to) (omega arith)))
 
 pub seek-spec : {M : Type 1} → statement M
-seek-spec = tie.close (tie.spec ahead-requires returns returns-2)
+seek-spec = tie.close (tie.spec (search needs) returns returns-2)

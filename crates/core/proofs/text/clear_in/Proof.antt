@@ -22,18 +22,6 @@ abbrev μ-loop : tie.MeasureT-loop
 loop-holds : tie.Need-loop-holds Inv-loop μ-loop
 loop-holds c = (search needs, rw (add-zero, sub-zero))
 
-add-clear : tie.Need-add-clear Inv-loop μ-loop
-add-clear c = search needs
-
-shared-slice-read-clear : tie.Need-shared-slice-read-clear Inv-loop μ-loop
-shared-slice-read-clear c = search needs
-
-add-i : tie.Need-add-i Inv-loop μ-loop
-add-i c = search needs
-
-loop-less : tie.Need-loop-less Inv-loop μ-loop
-loop-less c = search needs
-
 loop-again : tie.Need-loop-again Inv-loop μ-loop
 unfolding zeroFree
 loop-again c = (omega arith, every-turn notZero (now (c .before .before .before .args .text)) (c .before .before .before .args .at) (c .before .before .before .args .n) (c .before .before .loop .i) (c .before .before .loop .clear) _ (c .before .before .before .pre) (c .before .loop-test .taken) (c .before .before .loop .inv .1))
@@ -45,13 +33,4 @@ returns c = every-done notZero (drop (c .before .before .args .at + c .before .l
 pub clear-in-spec : {M : Type 1} → statement M
 clear-in-spec =
     tie.close
-    (tie.spec
-    Inv-loop
-    μ-loop
-    loop-holds
-    add-clear
-    shared-slice-read-clear
-    add-i
-    loop-less
-    loop-again
-    returns)
+    (tie.spec Inv-loop μ-loop loop-holds (search needs) (search needs) (search needs) (search needs) loop-again returns)

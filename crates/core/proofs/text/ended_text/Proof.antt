@@ -41,23 +41,8 @@ module _ (s : List ℕ) (at : ℕ) where
 returns : tie.Need-returns
 returns c = past _ _ (c .if1 .taken)
 
-sub-first-zero : tie.Need-sub-first-zero
-sub-first-zero c = search needs
-
-part-first-zero-start : tie.Need-part-first-zero-start
-part-first-zero-start c = search needs
-
-part-first-zero-end : tie.Need-part-first-zero-end
-part-first-zero-end c = search needs
-
-first-zero-requires : tie.Need-first-zero-requires
-first-zero-requires c κs = search needs
-
 add-zero : tie.Need-add-zero
 add-zero c = omega (arith, reach (now (c .before .before .before .before .args .s)) (c .before .before .before .before .args .at) _ (c .before .before .if1 .left) (c .first-zero .ensures))
-
-add-t11 : tie.Need-add-t11
-add-t11 c = search needs
 
 returns-2 : tie.Need-returns-2
 returns-2 c = found _ _ _ (c .before .first-zero .ensures) (c .if2 .taken)
@@ -68,13 +53,4 @@ returns-3 c = none _ _ _ (c .before .first-zero .ensures) (c .if2 .left)
 pub ended-text-spec : {M : Type 1} → statement M
 ended-text-spec =
     tie.close
-    (tie.spec
-    returns
-    sub-first-zero
-    part-first-zero-start
-    part-first-zero-end
-    first-zero-requires
-    add-zero
-    add-t11
-    returns-2
-    returns-3)
+    (tie.spec returns (search needs) (search needs) (search needs) (search needs) add-zero (search needs) returns-2 returns-3)

@@ -8,17 +8,8 @@ use native.Mathlib.Omega.{arith}
 use Rattle.core.specs.Text.{firstFault}
 use Rattle.core.proofs.utf8.Turns.{plain-fault}
 
-is-plain-requires : tie.Need-is-plain-requires
-is-plain-requires c κs = search needs
-
 returns : tie.Need-returns
 returns c = plain-fault _ (sym (c .before .is-plain .ensures) ∙ c .if1 .taken)
-
-first-zero-requires : tie.Need-first-zero-requires
-first-zero-requires c κs = search needs
-
-first-ill-requires : tie.Need-first-ill-requires
-first-ill-requires c κs = search needs
 
 returns-2 : tie.Need-returns-2
 unfolding firstFault
@@ -29,6 +20,4 @@ unfolding firstFault
 returns-3 c = omega (arith, c .before .before .first-zero .ensures, c .before .first-ill .ensures, c .if2 .left)
 
 pub first-fault-spec : {M : Type 1} → statement M
-first-fault-spec =
-    tie.close
-    (tie.spec is-plain-requires returns first-zero-requires first-ill-requires returns-2 returns-3)
+first-fault-spec = tie.close (tie.spec (search needs) returns (search needs) (search needs) returns-2 returns-3)

@@ -9,9 +9,6 @@ use denote.Ref.{now}
 use lib.ListN.{length}
 use Rattle.core.proofs.Zeros.{before-le}
 
-clear-blocks-requires : tie.Need-clear-blocks-requires
-clear-blocks-requires c κs = search needs
-
 sub-if1 : tie.Need-sub-if1
 sub-if1 c = omega (arith, c .clear-blocks .ensures .1, before-le (now (c .before .before .args .text)))
 
@@ -20,15 +17,6 @@ zero-block-requires c κs =
     let b = c .before .clear-blocks .ensures in
     let h : c .before .clear-blocks .result + 32 ≤ length (now (c .before .before .before .args .text)) = omega (arith, c .if1 .taken, b .1, before-le (now (c .before .before .before .args .text))) in
     (h, b .1, b .2 h)
-
-zero-in-requires : tie.Need-zero-in-requires
-zero-in-requires c κs = search needs
-
-returns : tie.Need-returns
-returns c = search needs
-
-clear-blocks-requires-2 : tie.Need-clear-blocks-requires-2
-clear-blocks-requires-2 c κs = search needs
 
 sub-if2 : tie.Need-sub-if2
 sub-if2 c = omega (arith, c .clear-blocks2 .ensures .1, before-le (now (c .before .before .before .before .args .text)))
@@ -39,27 +27,11 @@ zero-in-requires-2 c κs =
     let h : c .before .clear-blocks2 .result + 8 ≤ length (now (c .before .before .before .before .before .args .text)) = omega (arith, c .if2 .taken, b .1, before-le (now (c .before .before .before .before .before .args .text))) in
     (b .1, b .2 h, h)
 
-returns-2 : tie.Need-returns-2
-returns-2 c = search needs
-
 zero-behind-requires : tie.Need-zero-behind-requires
 zero-behind-requires c κs = (c .before .clear-blocks2 .ensures .1, omega (arith, c .if2 .left, c .before .clear-blocks2 .ensures .1, before-le (now (c .before .before .before .before .before .args .text))))
-
-returns-3 : tie.Need-returns-3
-returns-3 c = search needs
 
 pub first-zero-spec : {M : Type 1} → statement M
 first-zero-spec =
     tie.close
-    (tie.spec
-    clear-blocks-requires
-    sub-if1
-    zero-block-requires
-    zero-in-requires
-    returns
-    clear-blocks-requires-2
-    sub-if2
-    zero-in-requires-2
-    returns-2
-    zero-behind-requires
-    returns-3)
+    (tie.spec (search needs) sub-if1 zero-block-requires (search needs) (search needs) (search needs) sub-if2 zero-in-requires-2
+    (search needs) zero-behind-requires (search needs))

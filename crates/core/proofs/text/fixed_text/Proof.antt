@@ -40,41 +40,11 @@ module _ (n : ℕ) (s : List ℕ) (at : ℕ) where
 returns : tie.Need-returns
 returns c = past _ _ _ (omega (arith, c .if1 .taken))
 
-sub-left : tie.Need-sub-left
-sub-left c = search needs
-
-add-end : tie.Need-add-end
-add-end c = search needs
-
-sub-first-zero : tie.Need-sub-first-zero
-sub-first-zero c = search needs
-
-part-first-zero-start : tie.Need-part-first-zero-start
-part-first-zero-start c = search needs
-
-part-first-zero-end : tie.Need-part-first-zero-end
-part-first-zero-end c = search needs
-
-first-zero-requires : tie.Need-first-zero-requires
-first-zero-requires c κs = search needs
-
 returns-2 : tie.Need-returns-2
 returns-2 c = cut _ _ _ _ (omega arith) (omega arith) (c .first-zero .ensures)
 
 returns-3 : tie.Need-returns-3
 returns-3 c = past _ _ _ (omega arith)
-
-sub-first-zero-2 : tie.Need-sub-first-zero-2
-sub-first-zero-2 c = search needs
-
-part-first-zero-start-2 : tie.Need-part-first-zero-start-2
-part-first-zero-start-2 c = search needs
-
-part-first-zero-end-2 : tie.Need-part-first-zero-end-2
-part-first-zero-end-2 c = search needs
-
-first-zero-requires-2 : tie.Need-first-zero-requires-2
-first-zero-requires-2 c κs = search needs
 
 returns-4 : tie.Need-returns-4
 returns-4 c = rest _ _ _ _ (omega arith) (omega arith) (c .first-zero2 .ensures)
@@ -82,18 +52,5 @@ returns-4 c = rest _ _ _ _ (omega arith) (omega arith) (c .first-zero2 .ensures)
 pub fixed-text-spec : {M : Type 1} → statement M
 fixed-text-spec =
     tie.close
-    (tie.spec
-    returns
-    sub-left
-    add-end
-    sub-first-zero
-    part-first-zero-start
-    part-first-zero-end
-    first-zero-requires
-    returns-2
-    returns-3
-    sub-first-zero-2
-    part-first-zero-start-2
-    part-first-zero-end-2
-    first-zero-requires-2
-    returns-4)
+    (tie.spec returns (search needs) (search needs) (search needs) (search needs) (search needs) (search needs) returns-2
+    returns-3 (search needs) (search needs) (search needs) (search needs) returns-4)

@@ -1,7 +1,7 @@
 -- `text::plain_text` meets its contract.
 -- Assumes nothing.
 use Prim.Native.Nat.{ℕ, _+_, _-_, _<_, _≤_}
-use mathlib.Core.Path.{_≡_, refl, sym, ap, _∙_}
+use mathlib.Core.Path.{_≡_, ap, _∙_}
 use mathlib.Core.Bool.{Bool, false}
 use mathlib.Core.List.{List}
 use native.Mathlib.Omega.{arith}
@@ -29,32 +29,11 @@ module _ (s : List ℕ) (at n : ℕ) where
 returns : tie.Need-returns
 returns c = over _ _ _ (omega arith)
 
-sub-if2 : tie.Need-sub-if2
-sub-if2 c = search needs
-
 returns-2 : tie.Need-returns-2
 returns-2 c = over _ _ _ (omega arith)
 
-add-zero : tie.Need-add-zero
-add-zero c = search needs
-
-shared-slice-read-if3 : tie.Need-shared-slice-read-if3
-shared-slice-read-if3 c = search needs
-
 returns-3 : tie.Need-returns-3
 returns-3 c = other _ _ _ (omega arith) (c .if3 .taken)
-
-sub-is-plain : tie.Need-sub-is-plain
-sub-is-plain c = search needs
-
-part-is-plain-start : tie.Need-part-is-plain-start
-part-is-plain-start c = search needs
-
-part-is-plain-end : tie.Need-part-is-plain-end
-part-is-plain-end c = search needs
-
-is-plain-requires : tie.Need-is-plain-requires
-is-plain-requires c κs = search needs
 
 returns-4 : tie.Need-returns-4
 returns-4 c = there _ _ _ _ (omega (arith, c .before .before .before .before .before .if1 .left, c .before .before .before .before .if2 .left)) (c .before .before .if3 .left) (c .is-plain .ensures)
@@ -62,15 +41,5 @@ returns-4 c = there _ _ _ _ (omega (arith, c .before .before .before .before .be
 pub plain-text-spec : {M : Type 1} → statement M
 plain-text-spec =
     tie.close
-    (tie.spec
-    returns
-    sub-if2
-    returns-2
-    add-zero
-    shared-slice-read-if3
-    returns-3
-    sub-is-plain
-    part-is-plain-start
-    part-is-plain-end
-    is-plain-requires
-    returns-4)
+    (tie.spec returns (search needs) returns-2 (search needs) (search needs) returns-3 (search needs) (search needs)
+    (search needs) (search needs) returns-4)

@@ -17,9 +17,6 @@ zero-from-requires c κs = omega (arith, c .before .before .pre .0, before-le (n
 returns : tie.Need-returns
 returns c = c .zero-from .ensures ∙ sym (before-skip _ _ (c .before .before .before .pre .0))
 
-clear-in-requires : tie.Need-clear-in-requires
-clear-in-requires c κs = search needs
-
 returns-2 : tie.Need-returns-2
 returns-2 c =
     let s = now (c .before .before .before .before .args .text) in
@@ -33,12 +30,4 @@ returns-3 : tie.Need-returns-3
 returns-3 c = c .zero-from2 .ensures ∙ sym (before-skip _ _ (c .before .before .before .before .before .pre .0))
 
 pub zero-behind-spec : {M : Type 1} → statement M
-zero-behind-spec =
-    tie.close
-    (tie.spec
-    zero-from-requires
-    returns
-    clear-in-requires
-    returns-2
-    zero-from-requires-2
-    returns-3)
+zero-behind-spec = tie.close (tie.spec zero-from-requires returns (search needs) returns-2 zero-from-requires-2 returns-3)

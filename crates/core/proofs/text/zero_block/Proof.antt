@@ -7,35 +7,11 @@ use borrow.Author.Needs.{needs}
 use Rattle.core.proofs.text.zero_block.Statement.{statement}
 use Rattle.core.proofs.text.zero_block.Tie as tie
 
-clear-in-requires : tie.Need-clear-in-requires
-clear-in-requires c κs = search needs
-
-add-clear-in : tie.Need-add-clear-in
-add-clear-in c = search needs
-
-clear-in-requires-2 : tie.Need-clear-in-requires-2
-clear-in-requires-2 c κs = search needs
-
-add-clear-in-2 : tie.Need-add-clear-in-2
-add-clear-in-2 c = search needs
-
-clear-in-requires-3 : tie.Need-clear-in-requires-3
-clear-in-requires-3 c κs = search needs
-
-eight-if-requires : tie.Need-eight-if-requires
-eight-if-requires c κs = search needs
-
 add-result : tie.Need-add-result
 add-result c = omega (arith, c .eight-if .ensures .1)
 
-eight-if-requires-2 : tie.Need-eight-if-requires-2
-eight-if-requires-2 c κs = search needs
-
 add-result-2 : tie.Need-add-result-2
 add-result-2 c = omega (arith, c .eight-if2 .ensures .1, c .before .eight-if .ensures .1)
-
-eight-if-requires-3 : tie.Need-eight-if-requires-3
-eight-if-requires-3 c κs = search needs
 
 add-result-3 : tie.Need-add-result-3
 add-result-3 c = omega (arith, c .eight-if3 .ensures .1, c .before .eight-if2 .ensures .1, c .before .before .eight-if .ensures .1)
@@ -48,16 +24,5 @@ returns c =
 pub zero-block-spec : {M : Type 1} → statement M
 zero-block-spec =
     tie.close
-    (tie.spec
-    clear-in-requires
-    add-clear-in
-    clear-in-requires-2
-    add-clear-in-2
-    clear-in-requires-3
-    eight-if-requires
-    add-result
-    eight-if-requires-2
-    add-result-2
-    eight-if-requires-3
-    add-result-3
-    returns)
+    (tie.spec (search needs) (search needs) (search needs) (search needs) (search needs) (search needs) add-result (search needs)
+    add-result-2 (search needs) add-result-3 returns)

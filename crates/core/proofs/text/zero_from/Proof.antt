@@ -17,20 +17,8 @@ Inv-loop text at i₀ i = (i ≤ length text) × (i + beforeZero (drop i text) �
 abbrev μ-loop : tie.MeasureT-loop
 μ-loop text at i₀ i = length text - i
 
-loop-holds : tie.Need-loop-holds Inv-loop μ-loop
-loop-holds c = search needs
-
-shared-slice-read-if1 : tie.Need-shared-slice-read-if1 Inv-loop μ-loop
-shared-slice-read-if1 c = search needs
-
 returns : tie.Need-returns Inv-loop μ-loop
 returns c = omega (arith, c .before .before .before .loop .inv .1, zero-here (now (c .before .before .before .before .args .text)) (c .before .before .before .loop .i) (search needs) (c .if1 .taken))
-
-add-i : tie.Need-add-i Inv-loop μ-loop
-add-i c = search needs
-
-loop-less : tie.Need-loop-less Inv-loop μ-loop
-loop-less c = search needs
 
 loop-again : tie.Need-loop-again Inv-loop μ-loop
 loop-again c = (search needs, omega (arith, c .before .before .before .loop .inv .1, zero-later (now (c .before .before .before .before .args .text)) (c .before .before .before .loop .i) (search needs) (c .if1 .left)))
@@ -41,13 +29,4 @@ returns-2 c = omega (arith, c .before .loop .inv .1, zero-none (now (c .before .
 pub zero-from-spec : {M : Type 1} → statement M
 zero-from-spec =
     tie.close
-    (tie.spec
-    Inv-loop
-    μ-loop
-    loop-holds
-    shared-slice-read-if1
-    returns
-    add-i
-    loop-less
-    loop-again
-    returns-2)
+    (tie.spec Inv-loop μ-loop (search needs) (search needs) returns (search needs) (search needs) loop-again returns-2)

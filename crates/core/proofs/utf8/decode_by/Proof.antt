@@ -10,38 +10,13 @@ use lib.Seq.{sets}
 use Rattle.core.specs.Utf8.{decodedSize}
 use Rattle.core.proofs.utf8.Laws.{whole-well, decode-well}
 
-short-sound-requires : tie.Need-short-sound-requires
-short-sound-requires c κs = search needs
-
-copy-requires : tie.Need-copy-requires
-copy-requires c κs = search needs
-
-same-length : tie.Need-same-length
-same-length c = search needs
-
 returns : tie.Need-returns
 unfolding decodedSize
 returns c =
     let d = decode-well _ (whole-well _ (c .before .before .before .before .before .short-sound .ensures (c .before .before .before .before .if1 .taken))) in
     (rw d (omega (arith, c .before .before .before .before .before .before .before .before .good)), c .before .before .copy .ensures ∙ ap (sets (now (c .before .before .before .before .before .before .before .before .args .out)) (c .before .before .before .before .before .before .before .before .args .at)) (sym d))
 
-decode-runs-requires : tie.Need-decode-runs-requires
-decode-runs-requires c κs = search needs
-
-same-length-2 : tie.Need-same-length-2
-same-length-2 c = search needs
-
-returns-2 : tie.Need-returns-2
-returns-2 c = search needs
-
 pub decode-by-spec : {M : Type 1} → statement M
 decode-by-spec =
     tie.close
-    (tie.spec
-    short-sound-requires
-    copy-requires
-    same-length
-    returns
-    decode-runs-requires
-    same-length-2
-    returns-2)
+    (tie.spec (λ c κs. search needs) (search needs) (search needs) returns (λ c κs. search needs) (search needs) (λ c. search needs))

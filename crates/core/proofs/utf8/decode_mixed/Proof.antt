@@ -12,11 +12,5 @@ decode-by-requires : tie.Need-decode-by-requires
 unfolding classTest rowTest sample byteClass classOf rows within stateAfter
 decode-by-requires c κs = (classes-by _ refl tt, rows-by _ tt)
 
-same-length : tie.Need-same-length
-same-length c = search needs
-
-returns : tie.Need-returns
-returns c = search needs
-
 pub decode-mixed-spec : {M : Type 1} → statement M
-decode-mixed-spec = tie.close (tie.spec decode-by-requires same-length returns)
+decode-mixed-spec = tie.close (tie.spec decode-by-requires (search needs) (λ c. search needs))

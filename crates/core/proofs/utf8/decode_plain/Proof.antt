@@ -11,11 +11,5 @@ decode-steps-requires : tie.Need-decode-steps-requires
 unfolding classTest byteClass classOf rows within
 decode-steps-requires c κs = classes-by _ refl tt
 
-same-length : tie.Need-same-length
-same-length c = search needs
-
-returns : tie.Need-returns
-returns c = search needs
-
 pub decode-plain-spec : {M : Type 1} → statement M
-decode-plain-spec = tie.close (tie.spec decode-steps-requires same-length returns)
+decode-plain-spec = tie.close (tie.spec decode-steps-requires (search needs) (λ c. search needs))

@@ -34,9 +34,6 @@ loop-holds c = (counted-start _, refl, refl)
 lone-requires : tie.Need-lone-requires Inv-loop μ-loop
 lone-requires c κs = c .before .before .before .pre .0
 
-put-replacement-requires : tie.Need-put-replacement-requires Inv-loop μ-loop
-put-replacement-requires c κs = search needs
-
 add-grown : tie.Need-add-grown Inv-loop μ-loop
 add-grown c = let b = bad (c .before .before .before .before) in let k = counted-run _ _ _ _ _ (c .before .before .before .before .before .before .loop .inv .0) (run-bad _ _ _ b) (b .some) in omega (arith, k .0, k .2, c .before .before .before .before .before .before .before .before .before .good)
 
@@ -66,12 +63,6 @@ part-copy-on-start c = let r = run c in omega (arith, r .start)
 part-copy-on-end : tie.Need-part-copy-on-end Inv-loop μ-loop
 part-copy-on-end c = let r = run c in omega (arith, r .reach)
 
-copy-on-requires : tie.Need-copy-on-requires Inv-loop μ-loop
-copy-on-requires c κs = search needs
-
-total-requires : tie.Need-total-requires Inv-loop μ-loop
-total-requires c κs = search needs
-
 same-length : tie.Need-same-length Inv-loop μ-loop
 same-length c = c .before .before .before .before .copy-on .kept .1 .0 ∙ c .before .before .before .before .before .before .before .before .before .before .loop .inv .1
 
@@ -81,9 +72,6 @@ returns c =
       counted-size _ _ _ (counted-last _ _ _ _ _ (c .before .before .before .before .before .before .before .before .before .before .loop .inv .0) r (c .before .if2 .taken)) (c .total .ensures),
       c .before .before .before .before .copy-on .ensures .0 ∙ ap (λ (l : List ℕ). sets (c .before .before .before .before .before .before .before .before .before .before .loop .out) (c .before .before .before .before .before .before .before .before .before .before .loop .o) l) (part-is _ _ _ (r .start) ∙ sym (r .whole (c .before .if2 .taken))) ∙ c .before .before .before .before .before .before .before .before .before .before .loop .inv .2,
     )
-
-put-replacement-requires-2 : tie.Need-put-replacement-requires-2 Inv-loop μ-loop
-put-replacement-requires-2 c κs = search needs
 
 sub-grown : tie.Need-sub-grown Inv-loop μ-loop
 sub-grown c = let r = run (c .before .before .before .before .before .before .before .before .before .before) in omega (arith, r .short)
@@ -109,27 +97,6 @@ loop-again-2 c =
 pub decode-runs-spec : {M : Type 1} → statement M
 decode-runs-spec =
     tie.close
-    (tie.spec
-    Inv-loop
-    μ-loop
-    loop-holds
-    lone-requires
-    put-replacement-requires
-    add-grown
-    add-i
-    loop-less
-    loop-again
-    next-run-requires
-    sub-copy-on
-    part-copy-on-start
-    part-copy-on-end
-    copy-on-requires
-    total-requires
-    same-length
-    returns
-    put-replacement-requires-2
-    sub-grown
-    add-grown-2
-    add-i-2
-    loop-less-2
-    loop-again-2)
+    (tie.spec Inv-loop μ-loop loop-holds lone-requires (search needs) add-grown add-i loop-less loop-again next-run-requires
+    sub-copy-on part-copy-on-start part-copy-on-end (search needs) (search needs) same-length returns (search needs) sub-grown
+    add-grown-2 add-i-2 loop-less-2 loop-again-2)

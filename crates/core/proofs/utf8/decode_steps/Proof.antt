@@ -46,9 +46,6 @@ part-copy-on-start c = let g = good-arm c in omega (arith, g .some)
 part-copy-on-end : tie.Need-part-copy-on-end Inv-loop μ-loop
 part-copy-on-end c = let g = good-arm c in omega (arith, g .reach)
 
-copy-on-requires : tie.Need-copy-on-requires Inv-loop μ-loop
-copy-on-requires c κs = search needs
-
 loop-less : tie.Need-loop-less Inv-loop μ-loop
 loop-less c = let g = good-arm (c .before .before .before .before .before) in omega (arith, g .some, g .reach)
 
@@ -63,9 +60,6 @@ loop-again c =
 
 enum-known-k-2 : tie.Need-enum-known-k-2 Inv-loop μ-loop
 enum-known-k-2 c = c .match .keys2
-
-put-replacement-requires : tie.Need-put-replacement-requires Inv-loop μ-loop
-put-replacement-requires c κs = search needs
 
 sub-grown : tie.Need-sub-grown Inv-loop μ-loop
 sub-grown c = let b = run-bad _ _ _ (bad-arm (c .before .before .before .before)) in omega (arith, b .short)
@@ -87,9 +81,6 @@ loop-again-2 c =
       sets-bad _ _ _ _ _ _ _ b (c .before .before .put-replacement .ensures .0) (c .before .before .put-replacement .ensures .1) ∙ c .before .before .before .before .before .before .before .before .before .loop .inv .2,
     )
 
-total-requires : tie.Need-total-requires Inv-loop μ-loop
-total-requires c κs = search needs
-
 same-length : tie.Need-same-length Inv-loop μ-loop
 same-length c = c .before .before .loop .inv .1
 
@@ -102,26 +93,6 @@ returns c = (
 pub decode-steps-spec : {M : Type 1} → statement M
 decode-steps-spec =
     tie.close
-    (tie.spec
-    Inv-loop
-    μ-loop
-    loop-holds
-    step-at-requires
-    enum-known-k
-    add-next
-    sub-copy-on
-    part-copy-on-start
-    part-copy-on-end
-    copy-on-requires
-    loop-less
-    loop-again
-    enum-known-k-2
-    put-replacement-requires
-    sub-grown
-    add-grown
-    add-i
-    loop-less-2
-    loop-again-2
-    total-requires
-    same-length
-    returns)
+    (tie.spec Inv-loop μ-loop loop-holds step-at-requires enum-known-k add-next sub-copy-on part-copy-on-start part-copy-on-end
+    (search needs) loop-less loop-again enum-known-k-2 (search needs) sub-grown add-grown add-i loop-less-2 loop-again-2
+    (search needs) same-length returns)

@@ -12,8 +12,5 @@ ill-by-requires : tie.Need-ill-by-requires
 unfolding classTest rowTest sample byteClass classOf rows within stateAfter
 ill-by-requires c κs = (classes-by _ refl tt, rows-by _ tt)
 
-returns : tie.Need-returns
-returns c = search needs
-
 pub ill-mixed-spec : {M : Type 1} → statement M
-ill-mixed-spec = tie.close (tie.spec ill-by-requires returns)
+ill-mixed-spec = tie.close (tie.spec ill-by-requires (search needs))

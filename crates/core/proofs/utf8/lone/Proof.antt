@@ -26,12 +26,6 @@ module _ (at n x c : ℕ) (h : at < n) (e : c ≡ byteClass x) where
           let l = ltb-false 9 c q in
           rw (lt-ltb at n h, ne-eqb (classOf x) 0 (λ z. k (sym (class-row x c e (omega arith)) ∙ z)))
 
-shared-slice-read-class-in : tie.Need-shared-slice-read-class-in
-shared-slice-read-class-in c = search needs
-
-class-in-requires : tie.Need-class-in-requires
-class-in-requires c κs = search needs
-
 returns : tie.Need-returns
 returns c = none _ _ _ _ (c .before .before .before .if1 .taken) (c .before .class-in .ensures) (c .if2 .taken)
 
@@ -42,5 +36,4 @@ returns-3 : tie.Need-returns-3
 returns-3 c = rw (le-ltb _ _ (c .if1 .left))
 
 pub lone-spec : {M : Type 1} → statement M
-lone-spec =
-    tie.close (tie.spec shared-slice-read-class-in class-in-requires returns returns-2 returns-3)
+lone-spec = tie.close (tie.spec (search needs) (λ c κs. search needs) returns returns-2 returns-3)

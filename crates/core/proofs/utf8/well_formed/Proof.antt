@@ -7,17 +7,11 @@ use borrow.Author.Needs.{needs}
 use Rattle.core.proofs.utf8.well_formed.Statement.{statement}
 use Rattle.core.proofs.utf8.well_formed.Tie as tie
 
-is-ascii-requires : tie.Need-is-ascii-requires
-is-ascii-requires c κs = search needs
-
 returns : tie.Need-returns
 returns c = sym (whole-well _ (ascii-sound _ (seen-ascii _ (sym (c .before .is-ascii .ensures) ∙ c .if1 .taken))))
-
-ill-mixed-requires : tie.Need-ill-mixed-requires
-ill-mixed-requires c κs = search needs
 
 returns-2 : tie.Need-returns-2
 returns-2 c = rw (c .ill-mixed .ensures) (sym (well-sound _))
 
 pub well-formed-spec : {M : Type 1} → statement M
-well-formed-spec = tie.close (tie.spec is-ascii-requires returns ill-mixed-requires returns-2)
+well-formed-spec = tie.close (tie.spec (search needs) returns (search needs) returns-2)

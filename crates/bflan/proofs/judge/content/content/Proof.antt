@@ -7,21 +7,6 @@ use mathlib.Core.Path.{sym, _∙_}
 use denote.Ref.{now}
 use Rattle.bflan.proofs.judge.JudgeParts.{content-word, content-text, content-fine}
 
-name-requires : tie.Need-name-requires
-name-requires c κs = search needs
-
-enum-known-k : tie.Need-enum-known-k
-enum-known-k c = search needs
-
-enum-known-k-2 : tie.Need-enum-known-k-2
-enum-known-k-2 c = search needs
-
-enum-known-m : tie.Need-enum-known-m
-enum-known-m c = search needs
-
-named-requires : tie.Need-named-requires
-named-requires c κs = search needs
-
 returns : tie.Need-returns
 returns c = content-word (now (c .before .before .before .before .before .before .args .words)) (now (c .before .before .before .before .before .before .args .texts)) (c .before .before .before .before .before .before .args .i) (c .before .before .before .before .before .before .args .j) _ (sym (c .before .before .before .name .ensures) ∙ c .before .k .given .1)
 
@@ -34,12 +19,4 @@ returns-3 c = content-fine (now (c .before .before .before .before .before .befo
 pub content-spec : {M : Type 1} → statement M
 content-spec =
     tie.close
-    (tie.spec
-    name-requires
-    enum-known-k
-    enum-known-k-2
-    enum-known-m
-    named-requires
-    returns
-    returns-2
-    returns-3)
+    (tie.spec (search needs) (search needs) (search needs) (search needs) (search needs) returns returns-2 returns-3)

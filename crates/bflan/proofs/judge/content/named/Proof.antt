@@ -9,12 +9,9 @@ use native.Mathlib.Omega.{arith}
 use denote.Ref.{now}
 use lib.Dec.{ltb}
 use Rattle.bflan.specs.Judge.{wide}
-use Rattle.bflan.specs.inner.Measure.{grown, padded}
+use Rattle.bflan.specs.inner.Measure.{padded}
 use Rattle.bflan.proofs.judge.Measures.{held, failed, fits-there, fits-most}
 use Rattle.bflan.proofs.judge.JudgeParts.{table-le, named-first, named-second, named-whole}
-
-below-requires : tie.Need-below-requires
-below-requires c κs = search needs
 
 returns : tie.Need-returns
 returns c = λ name h. named-first name (now (c .before .before .before .before .args .words)) (now (c .before .before .before .before .args .texts)) (c .before .before .before .before .args .i) (c .before .before .before .before .args .j) (sym (fits-most 4 (now (c .before .before .before .before .args .words)) (c .before .before .before .before .args .i)) ∙ (failed _ _ (c .before .below .ensures) (c .if1 .taken)))
@@ -22,26 +19,8 @@ returns c = λ name h. named-first name (now (c .before .before .before .before 
 add-count : tie.Need-add-count
 add-count c = let h = fits-there (λ v. ltb v 5) (now (c .before .before .before .before .args .words)) (c .before .before .before .before .args .i) (held _ _ (c .before .below .ensures) (c .if1 .left)) in omega (arith, h, c .before .before .before .before .good)
 
-below-requires-2 : tie.Need-below-requires-2
-below-requires-2 c κs = search needs
-
 returns-2 : tie.Need-returns-2
 returns-2 c = λ name h. named-second name (now (c .before .before .before .before .before .before .args .words)) (now (c .before .before .before .before .before .before .args .texts)) (c .before .before .before .before .before .before .args .i) (c .before .before .before .before .before .before .args .j) (sym (fits-most 4 (now (c .before .before .before .before .before .before .args .words)) (c .before .before .before .before .before .before .args .i)) ∙ (held _ _ (c .before .before .before .below .ensures) (c .before .before .if1 .left))) (failed _ _ (c .before .below2 .ensures) (c .if2 .taken))
-
-word-of-requires : tie.Need-word-of-requires
-word-of-requires c κs = search needs
-
-cast-n : tie.Need-cast-n
-cast-n c = search needs
-
-word-of-requires-2 : tie.Need-word-of-requires-2
-word-of-requires-2 c κs = search needs
-
-table-from-requires : tie.Need-table-from-requires
-table-from-requires c κs = search needs
-
-mul-head : tie.Need-mul-head
-mul-head c = search needs
 
 add-head : tie.Need-add-head
 add-head c = let h = table-le (c .before .word-of2 .result) in omega (arith, h, c .table-from .ensures)
@@ -49,35 +28,11 @@ add-head c = let h = table-le (c .before .word-of2 .result) in omega (arith, h, 
 add-infos : tie.Need-add-infos
 add-infos c = let h = fits-there (wide 1) (now (c .before .before .before .before .before .before .before .before .before .args .words)) ((c .before .before .before .before .before .before .before .before .before .args .i) + 1) (held _ _ (c .before .before .before .before .below2 .ensures) (c .before .before .before .if2 .left)) in omega (arith, h, c .before .before .before .before .before .before .before .before .before .good)
 
-infos-requires : tie.Need-infos-requires
-infos-requires c κs = search needs
-
-grown-requires : tie.Need-grown-requires
-grown-requires c κs = search needs
-
-padded-requires : tie.Need-padded-requires
-padded-requires c κs = search needs
-
 returns-3 : tie.Need-returns-3
 returns-3 c = λ name h. c .padded .ensures ∙ ap padded (c .before .grown .ensures) ∙ named-whole name (now (c .before .before .before .before .before .before .before .before .before .before .before .before .args .words)) (now (c .before .before .before .before .before .before .before .before .before .before .before .before .args .texts)) (c .before .before .before .before .before .before .before .before .before .before .before .before .args .i) (c .before .before .before .before .before .before .before .before .before .before .before .before .args .j) (sym (fits-most 4 (now (c .before .before .before .before .before .before .before .before .before .before .before .before .args .words)) (c .before .before .before .before .before .before .before .before .before .before .before .before .args .i)) ∙ (held _ _ (c .before .before .before .before .before .before .before .before .before .below .ensures) (c .before .before .before .before .before .before .before .before .if1 .left))) (held _ _ (c .before .before .before .before .before .before .before .below2 .ensures) (c .before .before .before .before .before .before .if2 .left)) h _ _ _ (c .before .before .before .before .before .word-of .ensures) (c .before .before .before .before .word-of2 .ensures) (ap (λ (k : ℕ). k + 4 * c .before .before .before .before .before .word-of .result) (c .before .before .before .table-from .ensures)) _ (c .before .before .infos .ensures)
 
 pub named-spec : {M : Type 1} → statement M
 named-spec =
     tie.close
-    (tie.spec
-    below-requires
-    returns
-    add-count
-    below-requires-2
-    returns-2
-    word-of-requires
-    cast-n
-    word-of-requires-2
-    table-from-requires
-    mul-head
-    add-head
-    add-infos
-    infos-requires
-    grown-requires
-    padded-requires
-    returns-3)
+    (tie.spec (search needs) returns add-count (search needs) returns-2 (search needs) (search needs) (search needs)
+    (search needs) (search needs) add-head add-infos (search needs) (search needs) (search needs) returns-3)

@@ -7,24 +7,6 @@ use mathlib.Core.Path.{sym, _∙_}
 use denote.Ref.{now}
 use Rattle.bflan.proofs.judge.JudgeParts.{behind-word, behind-text, behind-fine}
 
-run-requires : tie.Need-run-requires
-run-requires c κs = search needs
-
-enum-known-k : tie.Need-enum-known-k
-enum-known-k c = search needs
-
-enum-known-k-2 : tie.Need-enum-known-k-2
-enum-known-k-2 c = search needs
-
-enum-known-m : tie.Need-enum-known-m
-enum-known-m c = search needs
-
-ended-requires : tie.Need-ended-requires
-ended-requires c κs = search needs
-
-grown-requires : tie.Need-grown-requires
-grown-requires c κs = search needs
-
 returns : tie.Need-returns
 returns c = behind-word (c .before .before .before .before .before .before .args .n) (now (c .before .before .before .before .before .before .args .words)) (now (c .before .before .before .before .before .before .args .texts)) (c .before .before .before .before .before .before .args .i) (c .before .before .before .before .before .before .args .j) _ (sym (c .before .before .before .run .ensures (now (c .before .before .before .before .before .before .args .texts))) ∙ c .before .k .given .1)
 
@@ -37,13 +19,5 @@ returns-3 c = c .grown .ensures ∙ behind-fine (c .before .before .before .befo
 pub behind-spec : {M : Type 1} → statement M
 behind-spec =
     tie.close
-    (tie.spec
-    run-requires
-    enum-known-k
-    enum-known-k-2
-    enum-known-m
-    ended-requires
-    grown-requires
-    returns
-    returns-2
+    (tie.spec (search needs) (search needs) (search needs) (search needs) (search needs) (search needs) returns returns-2
     returns-3)

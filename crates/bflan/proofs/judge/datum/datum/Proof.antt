@@ -11,17 +11,11 @@ use Rattle.bflan.specs.Judge.{wide}
 use Rattle.bflan.proofs.judge.Measures.{held, failed, fits-there}
 use Rattle.bflan.proofs.judge.JudgeParts.{datum-first, datum-second, datum-third, datum-fourth, datum-fifth, datum-whole}
 
-below-requires : tie.Need-below-requires
-below-requires c κs = search needs
-
 returns : tie.Need-returns
 returns c = datum-first (now (c .before .before .before .before .args .words)) (now (c .before .before .before .before .args .texts)) (c .before .before .before .before .args .i) (c .before .before .before .before .args .j) (failed _ _ (c .before .below .ensures) (c .if1 .taken))
 
 add-one : tie.Need-add-one
 add-one c = let h = fits-there (wide 4) (now (c .before .before .before .before .args .words)) (c .before .before .before .before .args .i) (held _ _ (c .before .below .ensures) (c .if1 .left)) in omega (arith, h, c .before .before .before .before .good)
-
-below-requires-2 : tie.Need-below-requires-2
-below-requires-2 c κs = search needs
 
 returns-2 : tie.Need-returns-2
 returns-2 c = datum-second (now (c .before .before .before .before .before .before .args .words)) (now (c .before .before .before .before .before .before .args .texts)) (c .before .before .before .before .before .before .args .i) (c .before .before .before .before .before .before .args .j) (held _ _ (c .before .before .before .below .ensures) (c .before .before .if1 .left)) (failed _ _ (c .before .below2 .ensures) (c .if2 .taken))
@@ -29,17 +23,11 @@ returns-2 c = datum-second (now (c .before .before .before .before .before .befo
 add-two : tie.Need-add-two
 add-two c = let h = fits-there (wide 2) (now (c .before .before .before .before .before .before .args .words)) ((c .before .before .before .before .before .before .args .i) + 1) (held _ _ (c .before .below2 .ensures) (c .if2 .left)) in omega (arith, h, c .before .before .before .before .before .before .good)
 
-below-requires-3 : tie.Need-below-requires-3
-below-requires-3 c κs = search needs
-
 returns-3 : tie.Need-returns-3
 returns-3 c = datum-third (now (c .before .before .before .before .before .before .before .before .args .words)) (now (c .before .before .before .before .before .before .before .before .args .texts)) (c .before .before .before .before .before .before .before .before .args .i) (c .before .before .before .before .before .before .before .before .args .j) (held _ _ (c .before .before .before .before .before .below .ensures) (c .before .before .before .before .if1 .left)) (held _ _ (c .before .before .before .below2 .ensures) (c .before .before .if2 .left)) (failed _ _ (c .before .below3 .ensures) (c .if3 .taken))
 
 add-base : tie.Need-add-base
 add-base c = let h = fits-there (wide 2) (now (c .before .before .before .before .before .before .before .before .args .words)) ((c .before .before .before .before .before .before .before .before .args .i) + 1 + 1) (held _ _ (c .before .below3 .ensures) (c .if3 .left)) in omega (arith, h, c .before .before .before .before .before .before .before .before .good)
-
-below-requires-4 : tie.Need-below-requires-4
-below-requires-4 c κs = search needs
 
 returns-4 : tie.Need-returns-4
 returns-4 c = datum-fourth (now (c .before .before .before .before .before .before .before .before .before .before .args .words)) (now (c .before .before .before .before .before .before .before .before .before .before .args .texts)) (c .before .before .before .before .before .before .before .before .before .before .args .i) (c .before .before .before .before .before .before .before .before .before .before .args .j) (held _ _ (c .before .before .before .before .before .before .before .below .ensures) (c .before .before .before .before .before .before .if1 .left)) (held _ _ (c .before .before .before .before .before .below2 .ensures) (c .before .before .before .before .if2 .left)) (held _ _ (c .before .before .before .below3 .ensures) (c .before .before .if3 .left)) (failed _ _ (c .before .below4 .ensures) (c .if4 .taken))
@@ -47,29 +35,11 @@ returns-4 c = datum-fourth (now (c .before .before .before .before .before .befo
 add-three : tie.Need-add-three
 add-three c = let h = fits-there (wide 4) (now (c .before .before .before .before .before .before .before .before .before .before .args .words)) ((c .before .before .before .before .before .before .before .before .before .before .args .i) + 1 + 1 + 1) (held _ _ (c .before .below4 .ensures) (c .if4 .left)) in omega (arith, h, c .before .before .before .before .before .before .before .before .before .before .good)
 
-below-requires-5 : tie.Need-below-requires-5
-below-requires-5 c κs = search needs
-
 returns-5 : tie.Need-returns-5
 returns-5 c = datum-fifth (now (c .before .before .before .before .before .before .before .before .before .before .before .before .args .words)) (now (c .before .before .before .before .before .before .before .before .before .before .before .before .args .texts)) (c .before .before .before .before .before .before .before .before .before .before .before .before .args .i) (c .before .before .before .before .before .before .before .before .before .before .before .before .args .j) (held _ _ (c .before .before .before .before .before .before .before .before .before .below .ensures) (c .before .before .before .before .before .before .before .before .if1 .left)) (held _ _ (c .before .before .before .before .before .before .before .below2 .ensures) (c .before .before .before .before .before .before .if2 .left)) (held _ _ (c .before .before .before .before .before .below3 .ensures) (c .before .before .before .before .if3 .left)) (held _ _ (c .before .before .before .below4 .ensures) (c .before .before .if4 .left)) (failed _ _ (c .before .below5 .ensures) (c .if5 .taken))
 
-word-of-requires : tie.Need-word-of-requires
-word-of-requires c κs = search needs
-
-cast-n : tie.Need-cast-n
-cast-n c = search needs
-
-mul-n : tie.Need-mul-n
-mul-n c = search needs
-
 add-behind : tie.Need-add-behind
 add-behind c = let h = fits-there (wide 4) (now (c .before .before .before .before .before .before .before .before .before .before .before .before .before .args .words)) ((c .before .before .before .before .before .before .before .before .before .before .before .before .before .args .i) + 1 + 1 + 1 + 1) (held _ _ (c .before .before .below5 .ensures) (c .before .if5 .left)) in omega (arith, h, c .before .before .before .before .before .before .before .before .before .before .before .before .before .good)
-
-behind-requires : tie.Need-behind-requires
-behind-requires c κs = search needs
-
-grown-requires : tie.Need-grown-requires
-grown-requires c κs = search needs
 
 returns-6 : tie.Need-returns-6
 returns-6 c = c .grown .ensures ∙ datum-whole (now (c .before .before .before .before .before .before .before .before .before .before .before .before .before .before .before .args .words)) (now (c .before .before .before .before .before .before .before .before .before .before .before .before .before .before .before .args .texts)) (c .before .before .before .before .before .before .before .before .before .before .before .before .before .before .before .args .i) (c .before .before .before .before .before .before .before .before .before .before .before .before .before .before .before .args .j) (held _ _ (c .before .before .before .before .before .before .before .before .before .before .before .before .below .ensures) (c .before .before .before .before .before .before .before .before .before .before .before .if1 .left)) (held _ _ (c .before .before .before .before .before .before .before .before .before .before .below2 .ensures) (c .before .before .before .before .before .before .before .before .before .if2 .left)) (held _ _ (c .before .before .before .before .before .before .before .before .below3 .ensures) (c .before .before .before .before .before .before .before .if3 .left)) (held _ _ (c .before .before .before .before .before .before .below4 .ensures) (c .before .before .before .before .before .if4 .left)) (held _ _ (c .before .before .before .before .below5 .ensures) (c .before .before .before .if5 .left)) _ (c .before .before .word-of .ensures) _ (c .before .behind .ensures)
@@ -77,25 +47,6 @@ returns-6 c = c .grown .ensures ∙ datum-whole (now (c .before .before .before 
 pub datum-spec : {M : Type 1} → statement M
 datum-spec =
     tie.close
-    (tie.spec
-    below-requires
-    returns
-    add-one
-    below-requires-2
-    returns-2
-    add-two
-    below-requires-3
-    returns-3
-    add-base
-    below-requires-4
-    returns-4
-    add-three
-    below-requires-5
-    returns-5
-    word-of-requires
-    cast-n
-    mul-n
-    add-behind
-    behind-requires
-    grown-requires
-    returns-6)
+    (tie.spec (search needs) returns add-one (search needs) returns-2 add-two (search needs) returns-3 add-base (search needs)
+    returns-4 add-three (search needs) returns-5 (search needs) (search needs) (search needs) add-behind (search needs)
+    (search needs) returns-6)

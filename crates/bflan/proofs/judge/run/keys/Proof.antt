@@ -8,18 +8,6 @@ use native.Mathlib.Omega.{arith}
 use denote.Ref.{now}
 use Rattle.bflan.proofs.judge.JudgeParts.{keys-constant, keys-step, keys-hermite}
 
-run-requires : tie.Need-run-requires
-run-requires c κs = search needs
-
-pairs-requires : tie.Need-pairs-requires
-pairs-requires c κs = search needs
-
-mul-run : tie.Need-mul-run
-mul-run c = search needs
-
-run-requires-2 : tie.Need-run-requires-2
-run-requires-2 c κs = search needs
-
 returns : tie.Need-returns
 returns c = λ x. c .run .ensures x ∙ keys-constant (now (c .before .before .before .args .words)) (λ k. c .before .before .shared-slice-known .given k .fits) x (c .before .before .before .args .i) (c .before .before .before .args .j) (c .before .before .before .args .curve) (c .before .before .before .args .n) (c .before .match .keys1)
 
@@ -30,6 +18,4 @@ returns-3 : tie.Need-returns-3
 returns-3 c = λ x. c .run2 .ensures x ∙ keys-hermite (now (c .before .before .before .args .words)) (λ k. c .before .before .shared-slice-known .given k .fits) x (c .before .before .before .args .i) (c .before .before .before .args .j) (c .before .before .before .args .curve) (c .before .before .before .args .n) (omega arith)
 
 pub keys-spec : {M : Type 1} → statement M
-keys-spec =
-    tie.close
-    (tie.spec run-requires pairs-requires mul-run run-requires-2 returns returns-2 returns-3)
+keys-spec = tie.close (tie.spec (search needs) (search needs) (search needs) (search needs) returns returns-2 returns-3)

@@ -24,54 +24,26 @@ abbrev μ-loop : tie.MeasureT-loop
 loop-holds : tie.Need-loop-holds Inv-loop μ-loop
 loop-holds c = λ x. refl
 
-below-requires : tie.Need-below-requires Inv-loop μ-loop
-below-requires c κs = search needs
-
 add-value : tie.Need-add-value Inv-loop μ-loop
 add-value c = let h = fits-there (λ v. ltb v 4294967296) (now (c .before .before .before .before .before .args .words)) (c .before .before .before .loop .at) (sym (c .before .below .ensures) ∙ c .if1 .taken) in omega (arith, h, c .before .before .before .before .before .good)
-
-below-requires-2 : tie.Need-below-requires-2 Inv-loop μ-loop
-below-requires-2 c κs = search needs
 
 add-at : tie.Need-add-at Inv-loop μ-loop
 add-at c = let h = fits-there (λ v. ltb v 65536) (now (c .before .before .before .before .before .before .before .args .words)) (c .before .before .before .before .before .loop .at + 1) (sym (c .before .below2 .ensures) ∙ c .if2 .taken) in omega (arith, h, c .before .before .before .before .before .before .before .good)
 
 returns : tie.Need-returns Inv-loop μ-loop
-returns c = λ x. pair-second (now (c .before .before .before .before .before .before .before .args .words)) x (c .before .before .before .before .before .loop .left) (c .before .before .before .before .before .loop .at) (c .before .before .before .before .before .before .before .args .j) (8 * c .before .before .before .before .before .before .before .args .n) _ (c .before .before .before .before .before .loop .inv x) (c .before .before .before .before .loop-test .taken) (sym (c .before .before .before .below .ensures) ∙ c .before .before .if1 .taken) (sym (c .before .below2 .ensures) ∙ c .if2 .left) ∙ pairs-size (now (c .before .before .before .before .before .before .before .args .words)) x (c .before .before .before .before .before .before .before .args .n) (c .before .before .before .before .before .before .before .args .i) (c .before .before .before .before .before .before .before .args .j)
+returns c = λ x. pair-second _ _ _ _ _ _ _ (c .before .before .before .before .before .loop .inv x) (c .before .before .before .before .loop-test .taken) (sym (c .before .before .before .below .ensures) ∙ c .before .before .if1 .taken) (sym (c .before .below2 .ensures) ∙ c .if2 .left) ∙ pairs-size _ _ _ _ _
 
 returns-2 : tie.Need-returns-2 Inv-loop μ-loop
-returns-2 c = λ x. pair-first (now (c .before .before .before .before .before .args .words)) x (c .before .before .before .loop .left) (c .before .before .before .loop .at) (c .before .before .before .before .before .args .j) (8 * c .before .before .before .before .before .args .n) _ (c .before .before .before .loop .inv x) (c .before .before .loop-test .taken) (sym (c .before .below .ensures) ∙ c .if1 .left) ∙ pairs-size (now (c .before .before .before .before .before .args .words)) x (c .before .before .before .before .before .args .n) (c .before .before .before .before .before .args .i) (c .before .before .before .before .before .args .j)
-
-sub-left : tie.Need-sub-left Inv-loop μ-loop
-sub-left c = search needs
-
-loop-less : tie.Need-loop-less Inv-loop μ-loop
-loop-less c = omega arith
+returns-2 c = λ x. pair-first _ _ _ _ _ _ _ (c .before .before .before .loop .inv x) (c .before .before .loop-test .taken) (sym (c .before .below .ensures) ∙ c .if1 .left) ∙ pairs-size _ _ _ _ _
 
 loop-again : tie.Need-loop-again Inv-loop μ-loop
-loop-again c = λ x. pair-on (now (c .before .before .before .before .before .before .before .args .words)) x (c .before .before .before .before .before .loop .left) (c .before .before .before .before .before .loop .at) (c .before .before .before .before .before .before .before .args .j) (8 * c .before .before .before .before .before .before .before .args .n) _ (c .before .before .before .before .before .loop .inv x) (c .before .before .before .before .loop-test .taken) (sym (c .before .before .before .below .ensures) ∙ c .before .before .if1 .taken) (sym (c .before .below2 .ensures) ∙ c .if2 .taken)
-
-mul-t11 : tie.Need-mul-t11 Inv-loop μ-loop
-mul-t11 c = search needs
+loop-again c = λ x. pair-on _ _ _ _ _ _ _ (c .before .before .before .before .before .loop .inv x) (c .before .before .before .before .loop-test .taken) (sym (c .before .before .before .below .ensures) ∙ c .before .before .if1 .taken) (sym (c .before .below2 .ensures) ∙ c .if2 .taken)
 
 returns-3 : tie.Need-returns-3 Inv-loop μ-loop
-returns-3 c = λ x. pair-end (now (c .before .before .before .args .words)) x (c .before .loop .left) (c .before .loop .at) (c .before .before .before .args .j) (8 * c .before .before .before .args .n) _ (c .before .loop .inv x) (c .loop-test .left) (omega (arith, c .before .before .before .pre)) ∙ pairs-size (now (c .before .before .before .args .words)) x (c .before .before .before .args .n) (c .before .before .before .args .i) (c .before .before .before .args .j)
+returns-3 c = λ x. pair-end _ _ _ _ _ _ _ (c .before .loop .inv x) (c .loop-test .left) (omega (arith, c .before .before .before .pre)) ∙ pairs-size _ _ _ _ _
 
 pub pairs-spec : {M : Type 1} → statement M
 pairs-spec =
     tie.close
-    (tie.spec
-    Inv-loop
-    μ-loop
-    loop-holds
-    below-requires
-    add-value
-    below-requires-2
-    add-at
-    returns
-    returns-2
-    sub-left
-    loop-less
-    loop-again
-    mul-t11
-    returns-3)
+    (tie.spec Inv-loop μ-loop loop-holds (search needs) add-value (search needs) add-at returns returns-2 (search needs)
+    (λ c. omega arith) loop-again (search needs) returns-3)

@@ -7,15 +7,6 @@ use native.Mathlib.Omega.{arith}
 use denote.Ref.{now}
 use Rattle.bflan.proofs.judge.JudgeParts.{run-there, run-short}
 
-ahead-requires : tie.Need-ahead-requires
-ahead-requires c κs = search needs
-
-add-t7 : tie.Need-add-t7
-add-t7 c = search needs
-
-mul-t8 : tie.Need-mul-t8
-mul-t8 c = search needs
-
 returns : tie.Need-returns
 returns c = λ x. run-there (now (c .before .before .before .args .words)) (λ k. c .before .before .shared-slice-known .given k .fits) x (c .before .before .before .args .n) (c .before .before .before .args .i) (c .before .before .before .args .j) (omega (arith, c .if1 .taken, c .before .ahead .ensures)) (c .before .before .before .pre)
 
@@ -26,4 +17,4 @@ returns-3 : tie.Need-returns-3
 returns-3 c = λ x. run-short (now (c .before .before .before .before .args .words)) (λ k. c .before .before .before .shared-slice-known .given k .fits) x (c .before .before .before .before .args .n) (c .before .before .before .before .args .i) (c .before .before .before .before .args .j) (omega (arith, c .before .if1 .left, c .before .before .ahead .ensures)) _ (omega (arith, c .if2 .left))
 
 pub run-spec : {M : Type 1} → statement M
-run-spec = tie.close (tie.spec ahead-requires add-t7 mul-t8 returns returns-2 returns-3)
+run-spec = tie.close (tie.spec (search needs) (search needs) (search needs) returns returns-2 returns-3)

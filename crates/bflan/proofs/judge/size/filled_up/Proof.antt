@@ -5,15 +5,9 @@ use Rattle.bflan.proofs.judge.size.filled_up.Statement.{statement}
 use Rattle.bflan.proofs.judge.size.filled_up.Tie as tie
 use Rattle.bflan.specs.inner.Measure.{filledUp}
 
-padding-requires : tie.Need-padding-requires
-padding-requires c κs = search needs
-
-add-requires : tie.Need-add-requires
-add-requires c κs = search needs
-
 returns : tie.Need-returns
 unfolding filledUp
 returns c = rw (c .add .ensures, c .before .padding .ensures)
 
 pub filled-up-spec : {M : Type 1} → statement M
-filled-up-spec = tie.close (tie.spec padding-requires add-requires returns)
+filled-up-spec = tie.close (tie.spec (search needs) (search needs) returns)

@@ -5,18 +5,6 @@ use Rattle.bflan.proofs.judge.size.grown.Statement.{statement}
 use Rattle.bflan.proofs.judge.size.grown.Tie as tie
 use Rattle.bflan.specs.inner.Measure.{grown}
 
-enum-known-v : tie.Need-enum-known-v
-enum-known-v c = search needs
-
-enum-known-v-2 : tie.Need-enum-known-v-2
-enum-known-v-2 c = search needs
-
-enum-known-v-3 : tie.Need-enum-known-v-3
-enum-known-v-3 c = search needs
-
-add-requires : tie.Need-add-requires
-add-requires c κs = search needs
-
 returns : tie.Need-returns
 unfolding grown
 returns c = rw (c .before .v .given .1)
@@ -30,6 +18,4 @@ unfolding grown
 returns-3 c = rw (c .before .before .v3 .given .1, c .add .ensures)
 
 pub grown-spec : {M : Type 1} → statement M
-grown-spec =
-    tie.close
-    (tie.spec enum-known-v enum-known-v-2 enum-known-v-3 add-requires returns returns-2 returns-3)
+grown-spec = tie.close (tie.spec (search needs) (search needs) (search needs) (search needs) returns returns-2 returns-3)

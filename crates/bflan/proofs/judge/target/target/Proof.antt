@@ -15,17 +15,11 @@ use Rattle.bflan.specs.pai1.Letters.{targetFits}
 use Rattle.bflan.proofs.judge.Measures.{held, failed, fits-there, fits-holds}
 use Rattle.bflan.proofs.judge.JudgeParts.{target-first, target-second, target-third, target-fourth, target-whole}
 
-below-requires : tie.Need-below-requires
-below-requires c κs = search needs
-
 returns : tie.Need-returns
 returns c = λ x. target-first (c .before .before .before .args .letters) (now (c .before .before .before .args .words)) x (c .before .before .before .args .i) (c .before .before .before .args .j) (failed _ _ (c .before .below .ensures) (c .if1 .taken))
 
 add-number : tie.Need-add-number
 add-number c = let h = fits-there (wide 1) (now (c .before .before .before .args .words)) (c .before .before .before .args .i) (held _ _ (c .before .below .ensures) (c .if1 .left)) in omega (arith, h, c .before .before .before .good)
-
-target-fits-requires : tie.Need-target-fits-requires
-target-fits-requires c κs = search needs
 
 returns-2 : tie.Need-returns-2
 returns-2 c = λ x. target-second (c .before .before .before .before .before .args .letters) (now (c .before .before .before .before .before .args .words)) x (c .before .before .before .before .before .args .i) (c .before .before .before .before .before .args .j) (held _ _ (c .before .before .before .below .ensures) (c .before .before .if1 .left)) (failed _ _ (c .before .target-fits .ensures) (c .if2 .taken))
@@ -33,29 +27,14 @@ returns-2 c = λ x. target-second (c .before .before .before .before .before .ar
 add-curve : tie.Need-add-curve
 add-curve c = let h = fits-there (targetFits (c .before .before .before .before .before .args .letters)) (now (c .before .before .before .before .before .args .words)) ((c .before .before .before .before .before .args .i) + 1) (held _ _ (c .before .target-fits .ensures) (c .if2 .left)) in omega (arith, h, c .before .before .before .before .before .good)
 
-below-requires-2 : tie.Need-below-requires-2
-below-requires-2 c κs = search needs
-
 returns-3 : tie.Need-returns-3
 returns-3 c = λ x. target-third (c .before .before .before .before .before .before .before .args .letters) (now (c .before .before .before .before .before .before .before .args .words)) x (c .before .before .before .before .before .before .before .args .i) (c .before .before .before .before .before .before .before .args .j) (held _ _ (c .before .before .before .before .before .below .ensures) (c .before .before .before .before .if1 .left)) (held _ _ (c .before .before .before .target-fits .ensures) (c .before .before .if2 .left)) (failed _ _ (c .before .below2 .ensures) (c .if3 .taken))
 
 add-count : tie.Need-add-count
 add-count c = let h = fits-there (λ c. ltb c 3) (now (c .before .before .before .before .before .before .before .args .words)) ((c .before .before .before .before .before .before .before .args .i) + 1 + 1) (held _ _ (c .before .below2 .ensures) (c .if3 .left)) in omega (arith, h, c .before .before .before .before .before .before .before .good)
 
-below-requires-3 : tie.Need-below-requires-3
-below-requires-3 c κs = search needs
-
 returns-4 : tie.Need-returns-4
 returns-4 c = λ x. target-fourth (c .before .before .before .before .before .before .before .before .before .args .letters) (now (c .before .before .before .before .before .before .before .before .before .args .words)) x (c .before .before .before .before .before .before .before .before .before .args .i) (c .before .before .before .before .before .before .before .before .before .args .j) (held _ _ (c .before .before .before .before .before .before .before .below .ensures) (c .before .before .before .before .before .before .if1 .left)) (held _ _ (c .before .before .before .before .before .target-fits .ensures) (c .before .before .before .before .if2 .left)) (held _ _ (c .before .before .before .below2 .ensures) (c .before .before .if3 .left)) (failed _ _ (c .before .below3 .ensures) (c .if4 .taken))
-
-word-of-requires : tie.Need-word-of-requires
-word-of-requires c κs = search needs
-
-word-of-requires-2 : tie.Need-word-of-requires-2
-word-of-requires-2 c κs = search needs
-
-cast-n : tie.Need-cast-n
-cast-n c = search needs
 
 add-keys : tie.Need-add-keys
 add-keys c = let h = fits-there (wide 2) (now (c .before .before .before .before .before .before .before .before .before .before .before .args .words)) ((c .before .before .before .before .before .before .before .before .before .before .before .args .i) + 1 + 1 + 1) (held _ _ (c .before .before .before .below3 .ensures) (c .before .before .if4 .left)) in omega (arith, h, c .before .before .before .before .before .before .before .before .before .before .before .good)
@@ -63,31 +42,11 @@ add-keys c = let h = fits-there (wide 2) (now (c .before .before .before .before
 keys-requires : tie.Need-keys-requires
 keys-requires c κs = let h = ltb-true (getD (now (c .before .before .before .before .before .before .before .before .before .before .before .args .words)) ((c .before .before .before .before .before .before .before .before .before .before .before .args .i) + 1 + 1 + 1) 0) 65536 (fits-holds (wide 2) (now (c .before .before .before .before .before .before .before .before .before .before .before .args .words)) ((c .before .before .before .before .before .before .before .before .before .before .before .args .i) + 1 + 1 + 1) (held _ _ (c .before .before .before .below3 .ensures) (c .before .before .if4 .left))) in omega (arith, h, c .word-of2 .ensures)
 
-grown-requires : tie.Need-grown-requires
-grown-requires c κs = search needs
-
 returns-5 : tie.Need-returns-5
 returns-5 c = λ x. c .grown .ensures ∙ target-whole (c .before .before .before .before .before .before .before .before .before .before .before .before .before .args .letters) (now (c .before .before .before .before .before .before .before .before .before .before .before .before .before .args .words)) x (c .before .before .before .before .before .before .before .before .before .before .before .before .before .args .i) (c .before .before .before .before .before .before .before .before .before .before .before .before .before .args .j) (held _ _ (c .before .before .before .before .before .before .before .before .before .before .before .below .ensures) (c .before .before .before .before .before .before .before .before .before .before .if1 .left)) (held _ _ (c .before .before .before .before .before .before .before .before .before .target-fits .ensures) (c .before .before .before .before .before .before .before .before .if2 .left)) (held _ _ (c .before .before .before .before .before .before .before .below2 .ensures) (c .before .before .before .before .before .before .if3 .left)) (held _ _ (c .before .before .before .before .before .below3 .ensures) (c .before .before .before .before .if4 .left)) _ _ (c .before .before .before .word-of .ensures) (c .before .before .word-of2 .ensures) _ (c .before .keys .ensures x)
 
 pub target-spec : {M : Type 1} → statement M
 target-spec =
     tie.close
-    (tie.spec
-    below-requires
-    returns
-    add-number
-    target-fits-requires
-    returns-2
-    add-curve
-    below-requires-2
-    returns-3
-    add-count
-    below-requires-3
-    returns-4
-    word-of-requires
-    word-of-requires-2
-    cast-n
-    add-keys
-    keys-requires
-    grown-requires
-    returns-5)
+    (tie.spec (search needs) returns add-number (search needs) returns-2 add-curve (search needs) returns-3 add-count
+    (search needs) returns-4 (search needs) (search needs) (search needs) add-keys keys-requires (search needs) returns-5)

@@ -1,80 +1,34 @@
 -- `judge::target::targets` meets its contract. The loop's invariant: what is left, from here, is what all of it is, from the start.
 -- Assumes nothing.
 use borrow.Author.Needs.{needs}
+use Prim.Native.Nat.{ℕ}
+use mathlib.Core.List.{List}
+use Rattle.bflan.specs.pai1.Judge.{target}
+use Rattle.bflan.specs.pai1.Layout.{targetLay}
+use Rattle.bflan.proofs.judge.Measures.{Measuring, measuring-start, measuring-word, measuring-text, measuring-turn, measuring-end}
 use Rattle.bflan.proofs.judge.target.targets.Statement.{statement}
 use Rattle.bflan.proofs.judge.target.targets.Tie as tie
-use Prim.Native.Nat.{ℕ, _≤_}
-use mathlib.Core.List.{List}
-use mathlib.Core.Path.{_≡_, sym, _∙_}
-use native.Mathlib.Omega.{arith}
-use denote.Ref.{now}
-use Rattle.bflan.specs.pai1.Judge.{target}
-use Rattle.bflan.specs.Judge.{times}
-use Rattle.bflan.specs.Layout.{size, parts}
-use Rattle.bflan.specs.pai1.Layout.{targetLay}
-use Rattle.bflan.specs.inner.Measure.{verdictOf}
-use Rattle.bflan.specs.inner.Measure.{grown}
-use Rattle.bflan.proofs.judge.Measures.{loop-start, loop-on, loop-word, loop-text, loop-end}
 
 abbrev Inv-loop : tie.InvT-loop
-Inv-loop words letters i j n left₀ at₀ to₀ size₀ left at to k =
-    (k ≤ 18446744073709551615)
-    × ((x : List ℕ) → grown k (verdictOf (λ ps. size (parts targetLay ps)) (times left (target letters) words x at to)) ≡ verdictOf (λ ps. size (parts targetLay ps)) (times n (target letters) words x i j))
+Inv-loop words letters i j n left₀ at₀ to₀ size₀ left at to size = (x : List ℕ) → Measuring (target letters) targetLay words x n i j left at to size
 
 abbrev μ-loop : tie.MeasureT-loop
 μ-loop words letters i j n left₀ at₀ to₀ size₀ left at to size = left
 
-loop-holds : tie.Need-loop-holds Inv-loop μ-loop
-loop-holds c = (omega arith, λ x. loop-start _ _)
-
-target-requires : tie.Need-target-requires Inv-loop μ-loop
-target-requires c κs = search needs
-
-enum-known-k : tie.Need-enum-known-k Inv-loop μ-loop
-enum-known-k c = search needs
-
 returns : tie.Need-returns Inv-loop μ-loop
-returns c = λ x. loop-word (target (c .before .before .before .before .before .before .before .args .letters)) targetLay (now (c .before .before .before .before .before .before .before .args .words)) x (c .before .before .before .before .before .loop .left) (c .before .before .before .before .before .loop .at) (c .before .before .before .before .before .loop .to) (c .before .before .before .before .before .loop .size) _ (c .before .before .before .before .before .loop .inv .1 x) (c .before .before .before .before .loop-test .taken) _ (sym (c .before .before .before .target .ensures x) ∙ c .before .k .given .1)
-
-enum-known-k-2 : tie.Need-enum-known-k-2 Inv-loop μ-loop
-enum-known-k-2 c = search needs
+returns c = λ x. measuring-word (c .before .before .before .before .before .loop .inv x) (c .before .before .before .before .loop-test .taken) (c .before .before .before .target .ensures x) (c .before .k .given .1)
 
 returns-2 : tie.Need-returns-2 Inv-loop μ-loop
-returns-2 c = λ x. loop-text (target (c .before .before .before .before .before .before .before .args .letters)) targetLay (now (c .before .before .before .before .before .before .before .args .words)) x (c .before .before .before .before .before .loop .left) (c .before .before .before .before .before .loop .at) (c .before .before .before .before .before .loop .to) (c .before .before .before .before .before .loop .size) _ (c .before .before .before .before .before .loop .inv .1 x) (c .before .before .before .before .loop-test .taken) _ (sym (c .before .before .before .target .ensures x) ∙ c .before .k2 .given .1)
-
-enum-known-m : tie.Need-enum-known-m Inv-loop μ-loop
-enum-known-m c = search needs
-
-add-requires : tie.Need-add-requires Inv-loop μ-loop
-add-requires c κs = search needs
-
-sub-left : tie.Need-sub-left Inv-loop μ-loop
-sub-left c = search needs
-
-loop-less : tie.Need-loop-less Inv-loop μ-loop
-loop-less c = omega arith
+returns-2 c = λ x. measuring-text (c .before .before .before .before .before .loop .inv x) (c .before .before .before .before .loop-test .taken) (c .before .before .before .target .ensures x) (c .before .k2 .given .1)
 
 loop-again : tie.Need-loop-again Inv-loop μ-loop
-loop-again c = (omega (arith, c .add .ensures), λ x. loop-on (target (c .before .before .before .before .before .before .before .before .args .letters)) targetLay (now (c .before .before .before .before .before .before .before .before .args .words)) x (c .before .before .before .before .before .before .loop .left) (c .before .before .before .before .before .before .loop .at) (c .before .before .before .before .before .before .loop .to) (c .before .before .before .before .before .before .loop .size) _ (c .before .before .before .before .before .before .loop .inv .1 x) (c .before .before .before .before .before .loop-test .taken) _ _ (sym (c .before .before .before .before .target .ensures x) ∙ c .before .before .m .given .1) (c .add .ensures))
+loop-again c = λ x. measuring-turn (c .before .before .before .before .before .before .loop .inv x) (c .before .before .before .before .before .loop-test .taken) (c .before .before .before .before .target .ensures x) (c .before .before .m .given .1) (c .add .ensures)
 
 returns-3 : tie.Need-returns-3 Inv-loop μ-loop
-returns-3 c = λ x. loop-end (target (c .before .before .before .args .letters)) targetLay (now (c .before .before .before .args .words)) x (c .before .loop .left) (c .before .loop .at) (c .before .loop .to) (c .before .loop .size) _ (c .before .loop .inv .1 x) (c .loop-test .left) (c .before .loop .inv .0)
+returns-3 c = λ x. measuring-end (c .before .loop .inv x) (c .loop-test .left)
 
 pub targets-spec : {M : Type 1} → statement M
 targets-spec =
     tie.close
-    (tie.spec
-    Inv-loop
-    μ-loop
-    loop-holds
-    target-requires
-    enum-known-k
-    returns
-    enum-known-k-2
-    returns-2
-    enum-known-m
-    add-requires
-    sub-left
-    loop-less
-    loop-again
-    returns-3)
+    (tie.spec Inv-loop μ-loop (λ c. λ x. measuring-start) (search needs) (search needs) returns (search needs) returns-2
+    (search needs) (search needs) (search needs) (search needs) loop-again returns-3)

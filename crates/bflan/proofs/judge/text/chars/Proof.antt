@@ -13,24 +13,6 @@ returns c = λ w. chars-missing (c .before .before .args .n) w (now (c .before .
 returns-2 : tie.Need-returns-2
 returns-2 c = λ w. chars-missing (c .before .before .before .args .n) w (now (c .before .before .before .args .texts)) (c .before .before .before .args .i) (c .before .before .before .args .j) (omega arith)
 
-add-end : tie.Need-add-end
-add-end c = search needs
-
-sub-first-fault : tie.Need-sub-first-fault
-sub-first-fault c = search needs
-
-part-first-fault-start : tie.Need-part-first-fault-start
-part-first-fault-start c = search needs
-
-part-first-fault-end : tie.Need-part-first-fault-end
-part-first-fault-end c = search needs
-
-first-fault-requires : tie.Need-first-fault-requires
-first-fault-requires c κs = search needs
-
-add-t13 : tie.Need-add-t13
-add-t13 c = search needs
-
 returns-3 : tie.Need-returns-3
 returns-3 c = λ w. chars-fault (c .before .before .before .before .before .before .args .n) w (now (c .before .before .before .before .before .before .args .texts)) (c .before .before .before .before .before .before .args .i) (c .before .before .before .before .before .before .args .j) _ (omega arith) (c .before .first-fault .ensures) (c .if3 .taken)
 
@@ -40,14 +22,5 @@ returns-4 c = λ w. chars-fine (c .before .before .before .before .before .befor
 pub chars-spec : {M : Type 1} → statement M
 chars-spec =
     tie.close
-    (tie.spec
-    returns
-    returns-2
-    add-end
-    sub-first-fault
-    part-first-fault-start
-    part-first-fault-end
-    first-fault-requires
-    add-t13
-    returns-3
-    returns-4)
+    (tie.spec returns returns-2 (search needs) (search needs) (search needs) (search needs) (search needs) (search needs)
+    returns-3 returns-4)

@@ -11,23 +11,8 @@ use Rattle.bflan.specs.Layout.{size, ended}
 use Rattle.bflan.proofs.judge.Measures.{fits-there}
 use Rattle.bflan.proofs.judge.JudgeParts.{text-bad, ended-then}
 
-below-requires : tie.Need-below-requires
-below-requires c κs = search needs
-
 add-chars : tie.Need-add-chars
 add-chars c = let h = fits-there (wide 4) (now (c .before .before .before .before .args .words)) (c .before .before .before .before .args .i) (sym (c .before .below .ensures) ∙ c .if1 .taken) in omega (arith, h, c .before .before .before .before .good)
-
-word-of-requires : tie.Need-word-of-requires
-word-of-requires c κs = search needs
-
-cast-chars : tie.Need-cast-chars
-cast-chars c = search needs
-
-chars-requires : tie.Need-chars-requires
-chars-requires c κs = search needs
-
-grown-requires : tie.Need-grown-requires
-grown-requires c κs = search needs
 
 returns : tie.Need-returns
 returns c = c .grown .ensures ∙ ended-then (wide 4) (now (c .before .before .before .before .before .before .before .args .words)) (now (c .before .before .before .before .before .before .before .args .texts)) (c .before .before .before .before .before .before .before .args .i) (c .before .before .before .before .before .before .before .args .j) _ _ (sym (c .before .before .before .before .below .ensures) ∙ c .before .before .before .if1 .taken) (c .before .before .word-of .ensures) (c .before .chars .ensures (now (c .before .before .before .before .before .before .before .args .words)))
@@ -38,12 +23,4 @@ returns-2 c = text-bad (wide 4) (now (c .before .before .before .before .args .w
 pub ended-spec : {M : Type 1} → statement M
 ended-spec =
     tie.close
-    (tie.spec
-    below-requires
-    add-chars
-    word-of-requires
-    cast-chars
-    chars-requires
-    grown-requires
-    returns
-    returns-2)
+    (tie.spec (search needs) add-chars (search needs) (search needs) (search needs) (search needs) returns returns-2)

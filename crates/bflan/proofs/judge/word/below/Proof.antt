@@ -8,12 +8,6 @@ use denote.Ref.{now}
 use lib.Dec.{ltb}
 use Rattle.bflan.proofs.judge.Measures.{fits-in, fits-out}
 
-mul-v : tie.Need-mul-v
-mul-v c = search needs
-
-shared-slice-read-v : tie.Need-shared-slice-read-v
-shared-slice-read-v c = search needs
-
 cast-v : tie.Need-cast-v
 cast-v c = let h = c .shared-slice-known .given (c .before .before .args .i) .fits in omega (arith, h)
 
@@ -24,4 +18,4 @@ returns-2 : tie.Need-returns-2
 returns-2 c = fits-out (λ v. ltb v (c .before .args .bound)) (now (c .before .args .words)) (c .before .args .i) (c .if1 .left)
 
 pub below-spec : {M : Type 1} → statement M
-below-spec = tie.close (tie.spec mul-v shared-slice-read-v cast-v returns returns-2)
+below-spec = tie.close (tie.spec (search needs) (search needs) cast-v returns returns-2)

@@ -8,15 +8,6 @@ use denote.Ref.{now}
 use Rattle.bflan.specs.pai1.Letters.{lettersFit}
 use Rattle.bflan.proofs.judge.Measures.{fits-in, fits-out}
 
-mul-listed : tie.Need-mul-listed
-mul-listed c = search needs
-
-shared-slice-read-listed : tie.Need-shared-slice-read-listed
-shared-slice-read-listed c = search needs
-
-listed-requires : tie.Need-listed-requires
-listed-requires c κs = search needs
-
 returns : tie.Need-returns
 returns c = c .listed .ensures ∙ fits-in lettersFit (now (c .before .before .before .before .args .words)) (c .before .before .before .before .args .i) (c .before .before .if1 .taken)
 
@@ -24,5 +15,4 @@ returns-2 : tie.Need-returns-2
 returns-2 c = fits-out lettersFit (now (c .before .before .args .words)) (c .before .before .args .i) (c .if1 .left)
 
 pub letters-fit-spec : {M : Type 1} → statement M
-letters-fit-spec =
-    tie.close (tie.spec mul-listed shared-slice-read-listed listed-requires returns returns-2)
+letters-fit-spec = tie.close (tie.spec (search needs) (search needs) (search needs) returns returns-2)

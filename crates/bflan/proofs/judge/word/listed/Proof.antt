@@ -6,18 +6,6 @@ use Rattle.bflan.proofs.judge.word.listed.Tie as tie
 use mathlib.Core.Path.{sym, _∙_}
 use Rattle.bflan.proofs.letters.Codes.{letters-fit-by}
 
-kind-of-requires : tie.Need-kind-of-requires
-kind-of-requires c κs = search needs
-
-enum-known--count : tie.Need-enum-known--count
-enum-known--count c = search needs
-
-enum-told : tie.Need-enum-told
-enum-told c = search needs
-
-enum-told-2 : tie.Need-enum-told-2
-enum-told-2 c = search needs
-
 returns : tie.Need-returns
 returns c = sym (letters-fit-by _ (sym (c .before .before .before .kind-of .ensures) ∙ c .before .-count .given .1))
 
@@ -28,6 +16,4 @@ returns-3 : tie.Need-returns-3
 returns-3 c = sym (letters-fit-by _ (sym (c .before .before .kind-of .ensures) ∙ c .enum-told2 .given .1))
 
 pub listed-spec : {M : Type 1} → statement M
-listed-spec =
-    tie.close
-    (tie.spec kind-of-requires enum-known--count enum-told enum-told-2 returns returns-2 returns-3)
+listed-spec = tie.close (tie.spec (search needs) (search needs) (search needs) (search needs) returns returns-2 returns-3)

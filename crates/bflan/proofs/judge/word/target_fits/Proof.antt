@@ -8,15 +8,6 @@ use denote.Ref.{now}
 use Rattle.bflan.specs.pai1.Letters.{targetFits}
 use Rattle.bflan.proofs.judge.Measures.{fits-in, fits-out}
 
-mul-target-fits : tie.Need-mul-target-fits
-mul-target-fits c = search needs
-
-shared-slice-read-target-fits : tie.Need-shared-slice-read-target-fits
-shared-slice-read-target-fits c = search needs
-
-target-fits-requires : tie.Need-target-fits-requires
-target-fits-requires c κs = search needs
-
 returns : tie.Need-returns
 returns c = c .target-fits .ensures ∙ fits-in (targetFits (c .before .before .before .before .args .letters)) (now (c .before .before .before .before .args .words)) (c .before .before .before .before .args .i) (c .before .before .if1 .taken)
 
@@ -24,6 +15,4 @@ returns-2 : tie.Need-returns-2
 returns-2 c = fits-out (targetFits (c .before .before .args .letters)) (now (c .before .before .args .words)) (c .before .before .args .i) (c .if1 .left)
 
 pub target-fits-spec : {M : Type 1} → statement M
-target-fits-spec =
-    tie.close
-    (tie.spec mul-target-fits shared-slice-read-target-fits target-fits-requires returns returns-2)
+target-fits-spec = tie.close (tie.spec (search needs) (search needs) (search needs) returns returns-2)

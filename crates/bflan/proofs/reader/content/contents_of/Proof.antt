@@ -14,24 +14,6 @@ use Rattle.bflan.specs.inner.Walk.{walkOf}
 use Rattle.bflan.proofs.reader.SectionParts.{contents-past, contents-cut, contents-on}
 use Rattle.bflan.proofs.reader.Walks.{told-stop}
 
-seek-to-requires : tie.Need-seek-to-requires
-seek-to-requires c κs = search needs
-
-enum-known-offset : tie.Need-enum-known-offset
-enum-known-offset c = search needs
-
-enum-known-q : tie.Need-enum-known-q
-enum-known-q c = search needs
-
-numbers-end-requires : tie.Need-numbers-end-requires
-numbers-end-requires c κs = search needs
-
-enum-known-offset-2 : tie.Need-enum-known-offset-2
-enum-known-offset-2 c = search needs
-
-enum-known-p : tie.Need-enum-known-p
-enum-known-p c = search needs
-
 contents-requires : tie.Need-contents-requires
 contents-requires c κs =
     let f = seek-at (now (c .before .before .before .before .before .before .before .before .before .before .before .before .before .args .s)) (c .before .before .before .before .before .before .before .before .before .before .before .before .before .args .table) (c .before .before .before .before .before .before .before .q .given .0 .0) (sym (c .before .before .before .before .before .before .before .before .before .seek-to .ensures) ∙ c .before .before .before .before .before .before .before .q .given .1) in
@@ -48,12 +30,6 @@ returns-2 c = λ i.
     let d = contents-cut (now (c .before .before .before .before .before .before .before .before .before .before .before .args .s)) (c .before .before .before .before .before .before .before .before .before .before .before .args .table) (c .before .before .before .before .before .before .before .before .before .before .before .args .n) i _ _ _ (sym (c .before .before .before .before .before .before .before .seek-to .ensures) ∙ c .before .before .before .before .before .q .given .1) (sym (c .before .before .before .numbers-end .ensures) ∙ c .before .offset2 .given .1) in
     told-stop _ _ _ _ _ _ _ ∙ ap (walkOf (now (c .before .before .before .before .before .before .before .before .before .before .before .args .s)) (c .before .before .before .before .before .before .before .before .before .before .before .args .t) (now (c .before .before .before .before .before .before .before .before .before .before .before .args .words)) (now (c .before .before .before .before .before .before .before .before .before .before .before .args .texts))) (sym d)
 
-same-length : tie.Need-same-length
-same-length c = search needs
-
-same-length-2 : tie.Need-same-length-2
-same-length-2 c = search needs
-
 returns-3 : tie.Need-returns-3
 returns-3 c = λ i.
     let d = contents-on (now (c .before .before .before .before .before .before .before .before .before .before .before .before .before .before .before .before .before .before .args .s)) (c .before .before .before .before .before .before .before .before .before .before .before .before .before .before .before .before .before .before .args .table) (c .before .before .before .before .before .before .before .before .before .before .before .before .before .before .before .before .before .before .args .n) i _ _ (sym (c .before .before .before .before .before .before .before .before .before .before .before .before .before .before .seek-to .ensures) ∙ c .before .before .before .before .before .before .before .before .before .before .before .before .q .given .1) (sym (c .before .before .before .before .before .before .before .before .before .before .numbers-end .ensures) ∙ c .before .before .before .before .before .before .before .before .p .given .1) in
@@ -62,16 +38,5 @@ returns-3 c = λ i.
 pub contents-of-spec : {M : Type 1} → statement M
 contents-of-spec =
     tie.close
-    (tie.spec
-    seek-to-requires
-    enum-known-offset
-    enum-known-q
-    numbers-end-requires
-    enum-known-offset-2
-    enum-known-p
-    contents-requires
-    returns
-    returns-2
-    same-length
-    same-length-2
-    returns-3)
+    (tie.spec (search needs) (search needs) (search needs) (search needs) (search needs) (search needs) contents-requires returns
+    returns-2 (search needs) (search needs) returns-3)

@@ -14,28 +14,10 @@ use Rattle.bflan.specs.Reader.{visit}
 use Rattle.bflan.specs.pai1.Reading.{info}
 use Rattle.bflan.proofs.reader.ContentParts.{name-within, run-content}
 
-name-size-requires : tie.Need-name-size-requires
-name-size-requires c κs = search needs
-
 put-text-requires : tie.Need-put-text-requires
 put-text-requires c κs =
     let k = name-within (now (c .before .before .before .before .before .before .args .s)) (c .before .before .before .before .before .before .args .base) (c .before .before .before .before .before .before .pre .1) in
     (omega (arith, k, c .before .before .name-size .ensures), c .before .before .before .before .before .before .pre .0, λ e. absurd (true≢false (sym e)))
-
-type-of-requires : tie.Need-type-of-requires
-type-of-requires c κs = search needs
-
-put2-requires : tie.Need-put2-requires
-put2-requires c κs = search needs
-
-infos-requires : tie.Need-infos-requires
-infos-requires c κs = search needs
-
-same-length : tie.Need-same-length
-same-length c = search needs
-
-same-length-2 : tie.Need-same-length-2
-same-length-2 c = search needs
 
 returns : tie.Need-returns
 returns c =
@@ -48,12 +30,4 @@ returns c =
 pub name-and-infos-spec : {M : Type 1} → statement M
 name-and-infos-spec =
     tie.close
-    (tie.spec
-    name-size-requires
-    put-text-requires
-    type-of-requires
-    put2-requires
-    infos-requires
-    same-length
-    same-length-2
-    returns)
+    (tie.spec (search needs) put-text-requires (search needs) (search needs) (search needs) (search needs) (search needs) returns)

@@ -14,28 +14,10 @@ use Rattle.bflan.proofs.reader.content.table_of.Tie as tie
 returns : tie.Need-returns
 returns c = sym (table-plain (c .before .before .args .base) (c .before .before .args .kind) (now (c .before .before .args .s)) (c .before .before .args .p) (c .if1 .taken))
 
-sub-if2 : tie.Need-sub-if2
-sub-if2 c = search needs
-
 returns-2 : tie.Need-returns-2
 returns-2 c =
     let h : length (now (c .before .before .before .args .s)) < c .before .before .before .args .p + 4 = omega (arith, c .if2 .taken, c .before .before .before .pre .0) in
     sym (table-short (c .before .before .before .args .base) (c .before .before .before .args .kind) (now (c .before .before .before .args .s)) (c .before .before .before .args .p) (c .before .if1 .left) h)
-
-offset-at-requires : tie.Need-offset-at-requires
-offset-at-requires c κs = search needs
-
-add-to : tie.Need-add-to
-add-to c = search needs
-
-seek-requires : tie.Need-seek-requires
-seek-requires c κs = search needs
-
-enum-known-q : tie.Need-enum-known-q
-enum-known-q c = search needs
-
-enum-known-offset : tie.Need-enum-known-offset
-enum-known-offset c = search needs
 
 returns-3 : tie.Need-returns-3
 returns-3 c =
@@ -52,14 +34,5 @@ returns-4 c =
 pub table-of-spec : {M : Type 1} → statement M
 table-of-spec =
     tie.close
-    (tie.spec
-    returns
-    sub-if2
-    returns-2
-    offset-at-requires
-    add-to
-    seek-requires
-    enum-known-q
-    enum-known-offset
-    returns-3
-    returns-4)
+    (tie.spec returns (search needs) returns-2 (search needs) (search needs) (search needs) (search needs) (search needs)
+    returns-3 returns-4)

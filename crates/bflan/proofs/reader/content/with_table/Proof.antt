@@ -12,15 +12,6 @@ use Rattle.bflan.specs.inner.Walk.{walkOf}
 use Rattle.bflan.proofs.reader.ContentParts.{table-within, content-cut, content-rest}
 use Rattle.bflan.proofs.reader.Walks.{told-stop}
 
-numbers-end-requires : tie.Need-numbers-end-requires
-numbers-end-requires c κs = search needs
-
-enum-known-offset : tie.Need-enum-known-offset
-enum-known-offset c = search needs
-
-enum-known-p : tie.Need-enum-known-p
-enum-known-p c = search needs
-
 name-and-infos-requires : tie.Need-name-and-infos-requires
 name-and-infos-requires c κs =
     let h = table-within (c .before .before .before .before .before .before .before .before .before .args .base) (c .before .before .before .before .before .before .before .before .before .args .kind) (now (c .before .before .before .before .before .before .before .before .before .args .s)) (c .before .before .before .before .before .before .before .before .before .args .base + 32) (c .before .before .before .before .before .before .before .before .before .args .table) (c .before .before .before .before .before .before .before .before .before .pre .1) (c .before .before .before .before .before .before .before .before .before .pre .4) in
@@ -32,12 +23,6 @@ returns c = λ i.
     let d = content-cut (c .before .before .before .before .before .before .before .args .base) (now (c .before .before .before .before .before .before .before .args .s)) i (c .before .before .before .before .before .before .before .pre .1) (c .before .before .before .before .before .before .before .pre .2) (c .before .before .before .before .before .before .before .pre .3) (c .before .before .before .before .before .before .before .args .table) _ _ (c .before .before .before .before .before .before .before .pre .4) (sym (c .before .before .before .numbers-end .ensures) ∙ c .before .offset .given .1) in
     told-stop _ _ _ _ _ _ _ ∙ ap (walkOf (now (c .before .before .before .before .before .before .before .args .s)) (c .before .before .before .before .before .before .before .args .t) (now (c .before .before .before .before .before .before .before .args .words)) (now (c .before .before .before .before .before .before .before .args .texts))) (sym d)
 
-same-length : tie.Need-same-length
-same-length c = search needs
-
-same-length-2 : tie.Need-same-length-2
-same-length-2 c = search needs
-
 returns-2 : tie.Need-returns-2
 returns-2 c = λ i.
     let d = content-rest (c .before .before .before .before .before .before .before .before .before .before .before .before .before .before .args .base) (now (c .before .before .before .before .before .before .before .before .before .before .before .before .before .before .args .s)) i (c .before .before .before .before .before .before .before .before .before .before .before .before .before .before .pre .1) (c .before .before .before .before .before .before .before .before .before .before .before .before .before .before .pre .2) (c .before .before .before .before .before .before .before .before .before .before .before .before .before .before .pre .3) (c .before .before .before .before .before .before .before .before .before .before .before .before .before .before .args .table) _ (c .before .before .before .before .before .before .before .before .before .before .before .before .before .before .pre .4) (sym (c .before .before .before .before .before .before .before .before .before .before .numbers-end .ensures) ∙ c .before .before .before .before .before .before .before .before .p .given .1) in
@@ -46,12 +31,4 @@ returns-2 c = λ i.
 pub with-table-spec : {M : Type 1} → statement M
 with-table-spec =
     tie.close
-    (tie.spec
-    numbers-end-requires
-    enum-known-offset
-    enum-known-p
-    name-and-infos-requires
-    returns
-    same-length
-    same-length-2
-    returns-2)
+    (tie.spec (search needs) (search needs) (search needs) name-and-infos-requires returns (search needs) (search needs) returns-2)

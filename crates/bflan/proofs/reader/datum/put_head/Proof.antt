@@ -7,21 +7,6 @@ use borrow.Author.Needs.{needs}
 use Rattle.bflan.proofs.reader.datum.put_head.Statement.{statement}
 use Rattle.bflan.proofs.reader.datum.put_head.Tie as tie
 
-put2-requires : tie.Need-put2-requires
-put2-requires c κs = search needs
-
-put2-requires-2 : tie.Need-put2-requires-2
-put2-requires-2 c κs = search needs
-
-put-word-requires : tie.Need-put-word-requires
-put-word-requires c κs = search needs
-
-more-words-requires : tie.Need-more-words-requires
-more-words-requires c κs = search needs
-
-same-length : tie.Need-same-length
-same-length c = search needs
-
 returns : tie.Need-returns
 returns c = (
   head-tally (c .before .before .before .before .before .before .before .before .before .before .before .before .before .before .args .t) (c .before .before .before .before .before .before .before .before .before .before .before .put2 .result) (c .before .before .before .before .before .before .before .put22 .result) _ (c .before .before .before .before .before .before .before .before .before .before .before .put2 .ensures .0) (c .before .before .before .before .before .before .before .put22 .ensures .0) (c .more-words .ensures),
@@ -29,12 +14,4 @@ returns c = (
 )
 
 pub put-head-spec : {M : Type 1} → statement M
-put-head-spec =
-    tie.close
-    (tie.spec
-    put2-requires
-    put2-requires-2
-    put-word-requires
-    more-words-requires
-    same-length
-    returns)
+put-head-spec = tie.close (tie.spec (search needs) (search needs) (search needs) (search needs) (search needs) returns)

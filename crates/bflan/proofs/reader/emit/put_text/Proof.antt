@@ -1,13 +1,11 @@
 -- `emit::put_text` meets its contract.
 -- Assumes nothing.
-use Prim.Native.Nat.{ℕ, _≤_}
+use Prim.Native.Nat.{_≤_}
 use mathlib.Core.Path.{_≡_, ap, _∙_}
-use mathlib.Core.List.{List}
 use native.Mathlib.Omega.{arith}
 use denote.Ref.{now}
 use lib.ListN.{length, set}
 use lib.Seq.{sets}
-use Rattle.core.specs.Utf8.{decode}
 use Rattle.bflan.specs.Items.{shownAt}
 use Rattle.bflan.specs.inner.Walk.{withText}
 use Rattle.bflan.proofs.reader.Emits.{shown-part, known-size, known-bytes}
@@ -23,35 +21,8 @@ use Rattle.core.proofs.utf8.decode_known.Reads as decode-known-reads
 sized : (c : tie.After-decode-known) → (c .decode-known .result ≡ length (shownAt (now (c .before .before .before .before .before .before .args .s)) (c .before .before .before .before .before .before .args .start) (c .before .before .before .before .before .before .args .len))) × (c .decode-known .result ≤ 50331648)
 sized c = known-size (now (c .before .before .before .before .before .before .args .s)) (c .before .before .before .before .before .before .args .start) (c .before .before .before .before .before .before .args .len) (c .before .before .before .before .before .before .args .plain) _ (shown-part (now (c .before .before .before .before .before .before .args .s)) (c .before .before .before .before .before .before .args .start) (c .before .before .before .before .before .before .args .len)) (c .before .before .before .before .before .before .pre .2) _ (c .before .before .before .before .before .before .pre .0) (c .before .before .before .before .before .before .pre .1) (c .decode-known .ensures .0)
 
-add-end : tie.Need-add-end
-add-end c = search needs
-
-sub-decode-known : tie.Need-sub-decode-known
-sub-decode-known c = search needs
-
-part-decode-known-start : tie.Need-part-decode-known-start
-part-decode-known-start c = search needs
-
-part-decode-known-end : tie.Need-part-decode-known-end
-part-decode-known-end c = search needs
-
-decode-known-requires : tie.Need-decode-known-requires
-decode-known-requires c κs = search needs
-
 cast-put-word : tie.Need-cast-put-word
 cast-put-word c = let z = sized (c .before .before .before) in omega (arith, z .1)
-
-put-word-requires : tie.Need-put-word-requires
-put-word-requires c κs = search needs
-
-more-text-requires : tie.Need-more-text-requires
-more-text-requires c κs = search needs
-
-same-length : tie.Need-same-length
-same-length c = search needs
-
-same-length-2 : tie.Need-same-length-2
-same-length-2 c = search needs
 
 returns : tie.Need-returns
 returns c =
@@ -64,15 +35,5 @@ returns c =
 pub put-text-spec : {M : Type 1} → statement M
 put-text-spec =
     tie.close
-    (tie.spec
-    add-end
-    sub-decode-known
-    part-decode-known-start
-    part-decode-known-end
-    decode-known-requires
-    cast-put-word
-    put-word-requires
-    more-text-requires
-    same-length
-    same-length-2
-    returns)
+    (tie.spec (search needs) (search needs) (search needs) (search needs) (search needs) cast-put-word (search needs)
+    (search needs) (search needs) (search needs) returns)

@@ -20,21 +20,6 @@ use Rattle.bflan.proofs.reader.info.extended.Lts as lts
 use Rattle.bflan.proofs.reader.datum.data.Reads as data-reads
 use Rattle.bflan.proofs.reader.emit.put2.Reads as put2-reads
 
-put2-requires : tie.Need-put2-requires
-put2-requires c κs = search needs
-
-add-data : tie.Need-add-data
-add-data c = search needs
-
-data-requires : tie.Need-data-requires
-data-requires c κs = search needs
-
-same-length : tie.Need-same-length
-same-length c = search needs
-
-same-length-2 : tie.Need-same-length-2
-same-length-2 c = search needs
-
 returns : tie.Need-returns
 unfolding fleu val
 returns c = λ i.
@@ -47,5 +32,4 @@ returns c = λ i.
     c .before .before .before .before .«data» .ensures ∙ p ∙ ap (walkOf s (c .before .before .before .before .before .before .before .before .before .before .before .before .before .before .args .t) (now (c .before .before .before .before .before .before .before .before .before .before .before .before .before .before .args .words)) (now (c .before .before .before .before .before .before .before .before .before .before .before .before .before .before .args .texts))) (sym e)
 
 pub extended-spec : {M : Type 1} → statement M
-extended-spec =
-    tie.close (tie.spec put2-requires add-data data-requires same-length same-length-2 returns)
+extended-spec = tie.close (tie.spec (search needs) (search needs) (search needs) (search needs) (search needs) returns)

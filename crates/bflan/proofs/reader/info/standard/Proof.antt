@@ -18,24 +18,6 @@ use borrow.Author.Needs.{needs}
 use Rattle.bflan.proofs.reader.info.standard.Statement.{statement}
 use Rattle.bflan.proofs.reader.info.standard.Tie as tie
 
-add-table : tie.Need-add-table
-add-table c = search needs
-
-numbers-end-requires : tie.Need-numbers-end-requires
-numbers-end-requires c κs = search needs
-
-enum-known-offset : tie.Need-enum-known-offset
-enum-known-offset c = search needs
-
-enum-known-q : tie.Need-enum-known-q
-enum-known-q c = search needs
-
-letters-of-requires : tie.Need-letters-of-requires
-letters-of-requires c κs = search needs
-
-put2-requires : tie.Need-put2-requires
-put2-requires c κs = search needs
-
 targets-requires : tie.Need-targets-requires
 targets-requires c κs =
     let f = table-fits (c .before .before .before .before .before .before .before .before .before .before .before .before .args .n) (now (c .before .before .before .before .before .before .before .before .before .before .before .before .args .s)) (c .before .before .before .before .before .before .before .before .before .before .before .before .args .base + 8) _ (c .before .before .before .before .before .before .before .before .before .before .before .before .pre .1) (sym (c .before .before .before .before .before .before .before .before .before .numbers-end .ensures) ∙ c .before .before .before .before .before .before .before .q .given .1) in
@@ -45,9 +27,6 @@ returns : tie.Need-returns
 returns c = λ i x.
     let d = info-cut (c .before .before .before .before .before .before .args .base) (now (c .before .before .before .before .before .before .args .s)) i (c .before .before .before .before .before .before .args .letters) (c .before .before .before .before .before .before .args .n) _ _ (c .before .before .before .before .before .before .pre .1) (c .before .before .before .before .before .before .pre .2) (c .before .before .before .before .before .before .pre .3) (c .before .before .before .before .before .before .pre .4) (sym (c .before .before .before .numbers-end .ensures) ∙ c .before .offset .given .1) in
     told-stop _ _ _ _ _ _ _ ∙ ap (walkOf (now (c .before .before .before .before .before .before .args .s)) (c .before .before .before .before .before .before .args .t) (now (c .before .before .before .before .before .before .args .words)) x) (sym d)
-
-same-length : tie.Need-same-length
-same-length c = search needs
 
 returns-2 : tie.Need-returns-2
 returns-2 c = λ i x.
@@ -62,14 +41,5 @@ returns-2 c = λ i x.
 pub standard-spec : {M : Type 1} → statement M
 standard-spec =
     tie.close
-    (tie.spec
-    add-table
-    numbers-end-requires
-    enum-known-offset
-    enum-known-q
-    letters-of-requires
-    put2-requires
-    targets-requires
-    returns
-    same-length
-    returns-2)
+    (tie.spec (search needs) (search needs) (search needs) (search needs) (search needs) (search needs) targets-requires returns
+    (search needs) returns-2)

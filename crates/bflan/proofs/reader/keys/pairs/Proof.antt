@@ -7,20 +7,8 @@ use borrow.Author.Needs.{needs}
 use Rattle.bflan.proofs.reader.keys.pairs.Statement.{statement}
 use Rattle.bflan.proofs.reader.keys.pairs.Tie as tie
 
-read-pairs-requires : tie.Need-read-pairs-requires
-read-pairs-requires c κs = search needs
-
-mul-after : tie.Need-mul-after
-mul-after c = search needs
-
-after-requires : tie.Need-after-requires
-after-requires c κs = search needs
-
-same-length : tie.Need-same-length
-same-length c = search needs
-
 returns : tie.Need-returns
 returns c = λ x. told-pairs (now (c .before .before .before .before .before .before .before .args .s)) (c .before .before .before .before .before .before .before .args .t) (now (c .before .before .before .before .before .before .before .args .words)) x (c .before .before .before .before .before .before .before .args .n) (c .before .before .before .before .before .before .before .args .p) (omega arith) (c .before .before .before .read-pairs .ensures .0) (c .before .before .before .read-pairs .ensures .1) (c .after .ensures)
 
 pub pairs-spec : {M : Type 1} → statement M
-pairs-spec = tie.close (tie.spec read-pairs-requires mul-after after-requires same-length returns)
+pairs-spec = tie.close (tie.spec (search needs) (search needs) (search needs) (search needs) returns)

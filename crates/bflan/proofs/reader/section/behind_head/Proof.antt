@@ -1,6 +1,6 @@
 -- `section::behind_head` meets its contract.
 -- Assumes nothing.
-use Prim.Native.Nat.{ℕ, _≤_}
+use Prim.Native.Nat.{_≤_}
 use mathlib.Core.Path.{sym, ap, _∙_}
 use native.Mathlib.Omega.{arith}
 use denote.Ref.{now}
@@ -15,27 +15,6 @@ use borrow.Author.Needs.{needs}
 use Rattle.bflan.proofs.reader.section.behind_head.Statement.{statement}
 use Rattle.bflan.proofs.reader.section.behind_head.Tie as tie
 
-cast-nt : tie.Need-cast-nt
-cast-nt c = search needs
-
-numbers-end-requires : tie.Need-numbers-end-requires
-numbers-end-requires c κs = search needs
-
-enum-known-offset : tie.Need-enum-known-offset
-enum-known-offset c = search needs
-
-enum-known-p : tie.Need-enum-known-p
-enum-known-p c = search needs
-
-cast-nc : tie.Need-cast-nc
-cast-nc c = search needs
-
-cast-table : tie.Need-cast-table
-cast-table c = search needs
-
-put-head-requires : tie.Need-put-head-requires
-put-head-requires c κs = search needs
-
 parts-requires : tie.Need-parts-requires
 parts-requires c κs = (c .before .before .before .before .before .before .before .before .before .before .before .before .before .before .before .before .pre .0, table-fits (c .before .before .before .before .before .before .before .before .before .before .before .before .before .before .before .before .args .h .textures) (now (c .before .before .before .before .before .before .before .before .before .before .before .before .before .before .before .before .args .s)) 20 _ (c .before .before .before .before .before .before .before .before .before .before .before .before .before .before .before .before .pre .1) (sym (c .before .before .before .before .before .before .before .before .before .before .before .numbers-end .ensures) ∙ c .before .before .before .before .before .before .before .before .before .p .given .1))
 
@@ -43,12 +22,6 @@ returns : tie.Need-returns
 returns c =
     let d = behind-cut (now (c .before .before .before .before .before .before .before .before .args .s)) (c .before .before .before .before .before .before .before .before .args .size) (c .before .before .before .before .before .before .before .before .args .h) _ _ (sym (c .before .before .before .numbers-end .ensures) ∙ c .before .offset .given .1) in
     told-stop _ _ _ _ _ _ _ ∙ ap (walkOf (now (c .before .before .before .before .before .before .before .before .args .s)) (c .before .before .before .before .before .before .before .before .args .t) (now (c .before .before .before .before .before .before .before .before .args .words)) (now (c .before .before .before .before .before .before .before .before .args .texts))) (sym d)
-
-same-length : tie.Need-same-length
-same-length c = search needs
-
-same-length-2 : tie.Need-same-length-2
-same-length-2 c = search needs
 
 returns-2 : tie.Need-returns-2
 returns-2 c =
@@ -62,16 +35,5 @@ returns-2 c =
 pub behind-head-spec : {M : Type 1} → statement M
 behind-head-spec =
     tie.close
-    (tie.spec
-    cast-nt
-    numbers-end-requires
-    enum-known-offset
-    enum-known-p
-    cast-nc
-    cast-table
-    put-head-requires
-    parts-requires
-    returns
-    same-length
-    same-length-2
-    returns-2)
+    (tie.spec (search needs) (search needs) (search needs) (search needs) (search needs) (search needs) (search needs)
+    parts-requires returns (search needs) (search needs) returns-2)

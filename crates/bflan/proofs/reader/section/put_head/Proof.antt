@@ -11,18 +11,6 @@ use borrow.Author.Needs.{needs}
 use Rattle.bflan.proofs.reader.section.put_head.Statement.{statement}
 use Rattle.bflan.proofs.reader.section.put_head.Tie as tie
 
-flag-of-requires : tie.Need-flag-of-requires
-flag-of-requires c κs = search needs
-
-put2-requires : tie.Need-put2-requires
-put2-requires c κs = search needs
-
-put2-requires-2 : tie.Need-put2-requires-2
-put2-requires-2 c κs = search needs
-
-same-length : tie.Need-same-length
-same-length c = search needs
-
 returns : tie.Need-returns
 returns c = (
   c .before .before .put22 .ensures .0 ∙ ap (λ (k : Tally). withWords k 2) (c .before .before .before .before .before .before .put2 .ensures .0) ∙ moved-more (c .before .before .before .before .before .before .before .before .before .before .args .t) 2 2,
@@ -30,5 +18,4 @@ returns c = (
 )
 
 pub put-head-spec : {M : Type 1} → statement M
-put-head-spec =
-    tie.close (tie.spec flag-of-requires put2-requires put2-requires-2 same-length returns)
+put-head-spec = tie.close (tie.spec (search needs) (search needs) (search needs) (search needs) returns)

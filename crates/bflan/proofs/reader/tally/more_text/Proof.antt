@@ -9,15 +9,6 @@ use Rattle.bflan.proofs.reader.tally.more_text.Reads as reads
 use Rattle.bflan.proofs.reader.tally.more_text.Lts as lts
 use Rattle.bflan.proofs.reader.tally.add.Reads as add-reads
 
-add-requires : tie.Need-add-requires
-add-requires c κs = search needs
-
-add-requires-2 : tie.Need-add-requires-2
-add-requires-2 c κs = search needs
-
-add-requires-3 : tie.Need-add-requires-3
-add-requires-3 c κs = search needs
-
 returns : tie.Need-returns
 unfolding withText
 returns c = rw (c .before .before .before .before .add .ensures, c .before .before .before .add2 .ensures, c .before .before .add3 .ensures, eq-eqb _ _ (c .if1 .taken))
@@ -27,4 +18,4 @@ unfolding withText
 returns-2 c = rw (c .before .before .before .before .add .ensures, c .before .before .before .add2 .ensures, c .before .before .add3 .ensures, ne-eqb _ _ (c .if1 .left))
 
 pub more-text-spec : {M : Type 1} → statement M
-more-text-spec = tie.close (tie.spec add-requires add-requires-2 add-requires-3 returns returns-2)
+more-text-spec = tie.close (tie.spec (search needs) (search needs) (search needs) returns returns-2)

@@ -8,12 +8,9 @@ use Rattle.bflan.proofs.reader.tally.more_words.Reads as reads
 use Rattle.bflan.proofs.reader.tally.more_words.Lts as lts
 use Rattle.bflan.proofs.reader.tally.add.Reads as add-reads
 
-add-requires : tie.Need-add-requires
-add-requires c κs = search needs
-
 returns : tie.Need-returns
 unfolding withWords
 returns c = rw (c .add .ensures)
 
 pub more-words-spec : {M : Type 1} → statement M
-more-words-spec = tie.close (tie.spec add-requires returns)
+more-words-spec = tie.close (tie.spec (search needs) returns)

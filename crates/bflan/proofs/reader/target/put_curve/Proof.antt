@@ -5,28 +5,11 @@ use borrow.Author.Needs.{needs}
 use Rattle.bflan.proofs.reader.target.put_curve.Statement.{statement}
 use Rattle.bflan.proofs.reader.target.put_curve.Tie as tie
 
-cast-put2 : tie.Need-cast-put2
-cast-put2 c = search needs
-
-put2-requires : tie.Need-put2-requires
-put2-requires c κs = search needs
-
-same-length : tie.Need-same-length
-same-length c = search needs
-
 returns : tie.Need-returns
 returns c = rw (curve-low _ (c .before .before .before .before .before .before .args .n) (c .before .before .before .before .if1 .taken), count-low _ (c .before .before .before .before .before .before .args .n) (c .before .before .before .before .if1 .taken)) (c .before .before .put2 .ensures)
-
-put2-requires-2 : tie.Need-put2-requires-2
-put2-requires-2 c κs = search needs
-
-same-length-2 : tie.Need-same-length-2
-same-length-2 c = search needs
 
 returns-2 : tie.Need-returns-2
 returns-2 c = rw (curve-high _ (c .before .before .before .before .before .before .args .n) (c .before .before .before .before .if1 .left), count-high _ (c .before .before .before .before .before .before .args .n) (c .before .before .before .before .if1 .left)) (c .before .before .put22 .ensures)
 
 pub put-curve-spec : {M : Type 1} → statement M
-put-curve-spec =
-    tie.close
-    (tie.spec cast-put2 put2-requires same-length returns put2-requires-2 same-length-2 returns-2)
+put-curve-spec = tie.close (tie.spec (search needs) (search needs) (search needs) returns (search needs) (search needs) returns-2)

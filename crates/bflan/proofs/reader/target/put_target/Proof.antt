@@ -11,35 +11,10 @@ use borrow.Author.Needs.{needs}
 use Rattle.bflan.proofs.reader.target.put_target.Statement.{statement}
 use Rattle.bflan.proofs.reader.target.put_target.Tie as tie
 
-resolve-requires : tie.Need-resolve-requires
-resolve-requires c κs = search needs
-
-cast-put2 : tie.Need-cast-put2
-cast-put2 c = search needs
-
-put2-requires : tie.Need-put2-requires
-put2-requires c κs = search needs
-
-put-curve-requires : tie.Need-put-curve-requires
-put-curve-requires c κs = search needs
-
-keys-requires : tie.Need-keys-requires
-keys-requires c κs = search needs
-
-same-length : tie.Need-same-length
-same-length c = search needs
-
 returns : tie.Need-returns
 returns c = λ x. c .before .before .keys .ensures x ∙ run-target (now (c .before .before .before .before .before .before .before .before .before .before .before .before .before .before .before .args .s)) (c .before .before .before .before .before .before .before .before .before .before .before .before .before .before .before .args .t) (now (c .before .before .before .before .before .before .before .before .before .before .before .before .before .before .before .args .words)) x (c .before .before .before .before .before .before .before .before .before .before .before .before .before .before .before .args .layer) _ _ _ _ (omega (arith, c .before .before .before .before .before .before .before .before .before .before .before .before .before .before .before .good)) (omega (arith, c .before .before .before .before .before .before .before .before .before .before .before .before .before .before .before .good)) (c .before .before .before .before .before .before .before .before .before .before .put2 .ensures .0) (c .before .before .before .before .before .before .before .before .before .before .put2 .ensures .1 ∙ ap (λ (k : ℕ). sets (now (c .before .before .before .before .before .before .before .before .before .before .before .before .before .before .before .args .words)) (c .before .before .before .before .before .before .before .before .before .before .before .before .before .before .before .args .t .words) (c .before .before .before .before .before .before .before .before .before .before .before .before .before .before .before .args .layer ∷ k ∷ [])) (c .before .before .before .before .before .before .before .before .before .before .before .before .resolve .ensures)) (c .before .before .before .before .before .before .put-curve .ensures .0) (c .before .before .before .before .before .before .put-curve .ensures .1)
 
 pub put-target-spec : {M : Type 1} → statement M
 put-target-spec =
     tie.close
-    (tie.spec
-    resolve-requires
-    cast-put2
-    put2-requires
-    put-curve-requires
-    keys-requires
-    same-length
-    returns)
+    (tie.spec (search needs) (search needs) (search needs) (search needs) (search needs) (search needs) returns)

@@ -12,18 +12,6 @@ use borrow.Author.Needs.{needs}
 use Rattle.bflan.proofs.reader.texture.ended_name.Statement.{statement}
 use Rattle.bflan.proofs.reader.texture.ended_name.Tie as tie
 
-null-terminated-string-at-requires : tie.Need-null-terminated-string-at-requires
-null-terminated-string-at-requires c κs = search needs
-
-enum-known-len : tie.Need-enum-known-len
-enum-known-len c = search needs
-
-enum-known-offset : tie.Need-enum-known-offset
-enum-known-offset c = search needs
-
-enum-known-from : tie.Need-enum-known-from
-enum-known-from c = search needs
-
 returns : tie.Need-returns
 returns c =
     let t = ended-text _ _ _ _ (sym (c .before .before .before .null-terminated-string-at .ensures) ∙ c .before .len .given .1) in
@@ -36,13 +24,4 @@ returns-3 : tie.Need-returns-3
 returns-3 c = let h : 0 ≤ length (now (c .before .before .before .before .before .args .s)) = omega arith in (sym (ended-none _ _ _ (sym (c .before .before .before .null-terminated-string-at .ensures) ∙ c .before .from .given .1)), h, tt)
 
 pub ended-name-spec : {M : Type 1} → statement M
-ended-name-spec =
-    tie.close
-    (tie.spec
-    null-terminated-string-at-requires
-    enum-known-len
-    enum-known-offset
-    enum-known-from
-    returns
-    returns-2
-    returns-3)
+ended-name-spec = tie.close (tie.spec (search needs) (search needs) (search needs) (search needs) returns returns-2 returns-3)

@@ -23,24 +23,11 @@ module _ (s : List ℕ) (at left off : ℕ) where
 returns : tie.Need-returns
 returns c = last _ _ _ _ (c .if1 .taken)
 
-add-offset-at : tie.Need-add-offset-at
-add-offset-at c = search needs
-
-offset-at-requires : tie.Need-offset-at-requires
-offset-at-requires c κs = search needs
-
 returns-2 : tie.Need-returns-2
 returns-2 c = other _ _ _ _ _ (omega arith) (omega (arith, c .before .offset-at .ensures .0, c .if2 .taken))
-
-sub-result : tie.Need-sub-result
-sub-result c = search needs
-
-sub-result-2 : tie.Need-sub-result-2
-sub-result-2 c = search needs
 
 returns-3 : tie.Need-returns-3
 returns-3 c = other _ _ _ _ _ (omega arith) (omega (arith, c .before .offset-at .ensures .0, c .if2 .left))
 
 pub guess-at-spec : {M : Type 1} → statement M
-guess-at-spec =
-    tie.close (tie.spec returns add-offset-at offset-at-requires returns-2 sub-result sub-result-2 returns-3)
+guess-at-spec = tie.close (tie.spec returns (search needs) (search needs) returns-2 (search needs) (search needs) returns-3)

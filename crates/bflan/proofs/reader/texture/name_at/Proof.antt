@@ -11,9 +11,6 @@ use lib.ListN.{length}
 use Rattle.core.proofs.utf8.Turns.{plain-text}
 use Rattle.bflan.proofs.reader.Emits.{texture-on, texture-past, texture-plain}
 
-plain-text-requires : tie.Need-plain-text-requires
-plain-text-requires c κs = search needs
-
 add-t8 : tie.Need-add-t8
 add-t8 c = let p = plain-text _ _ _ (sym (c .before .plain-text .ensures) ∙ c .if1 .taken) in omega (arith, p .fits)
 
@@ -22,18 +19,6 @@ add-t9 c = let p = plain-text _ _ _ (sym (c .before .plain-text .ensures) ∙ c 
 
 returns : tie.Need-returns
 returns c = let p = plain-text _ _ _ (sym (c .before .plain-text .ensures) ∙ c .if1 .taken) in (λ i. sym (texture-plain _ _ i _ (p .fits) (p .ended)), omega (arith, p .fits), λ e. p .shown)
-
-seek-requires : tie.Need-seek-requires
-seek-requires c κs = search needs
-
-enum-known-p : tie.Need-enum-known-p
-enum-known-p c = search needs
-
-ended-name-requires : tie.Need-ended-name-requires
-ended-name-requires c κs = search needs
-
-enum-known-offset : tie.Need-enum-known-offset
-enum-known-offset c = search needs
 
 returns-2 : tie.Need-returns-2
 returns-2 c = (λ i. c .ended-name .ensures .0 ∙ sym (texture-on _ _ i _ (sym (c .before .before .before .before .seek .ensures) ∙ c .before .before .p .given .1)), c .ended-name .ensures .1, c .ended-name .ensures .2)
@@ -44,14 +29,4 @@ returns-3 c = let h : 0 ≤ length (now (c .before .before .before .before .befo
 pub name-at-spec : {M : Type 1} → statement M
 name-at-spec =
     tie.close
-    (tie.spec
-    plain-text-requires
-    add-t8
-    add-t9
-    returns
-    seek-requires
-    enum-known-p
-    ended-name-requires
-    enum-known-offset
-    returns-2
-    returns-3)
+    (tie.spec (search needs) add-t8 add-t9 returns (search needs) (search needs) (search needs) (search needs) returns-2 returns-3)

@@ -13,14 +13,8 @@ use Rattle.bflan.proofs.writer.content.put_content.Tie as tie
 put-name-requires : tie.Need-put-name-requires
 put-name-requires c κs = name-ready (now (c .before .before .before .before .args .words)) (now (c .before .before .before .before .args .texts)) (c .before .before .before .before .args .pen .word) (c .before .before .before .before .args .pen .byte) (c .before .before .before .before .args .pen .at) (c .before .before .before .before .pre)
 
-word-of-requires : tie.Need-word-of-requires
-word-of-requires c κs = search needs
-
 add-word-of : tie.Need-add-word-of
 add-word-of c = omega (arith, content-fits (now (c .before .before .before .before .before .before .before .before .args .words)) (now (c .before .before .before .before .before .before .before .before .args .texts)) (c .before .before .before .before .before .before .before .before .args .pen .word) (c .before .before .before .before .before .before .before .before .args .pen .byte) (c .before .before .before .before .before .before .before .before .args .pen .at) (c .before .before .before .before .before .before .before .before .pre) _ (c .before .before .before .put-name .ensures .0) .0, c .before .before .before .before .before .before .before .before .good)
-
-word-of-requires-2 : tie.Need-word-of-requires-2
-word-of-requires-2 c κs = search needs
 
 add-put-counts : tie.Need-add-put-counts
 add-put-counts c = omega (arith, content-fits (now (c .before .before .before .before .before .before .before .before .before .before .args .words)) (now (c .before .before .before .before .before .before .before .before .before .before .args .texts)) (c .before .before .before .before .before .before .before .before .before .before .args .pen .word) (c .before .before .before .before .before .before .before .before .before .before .args .pen .byte) (c .before .before .before .before .before .before .before .before .before .before .args .pen .at) (c .before .before .before .before .before .before .before .before .before .before .pre) _ (c .before .before .before .before .before .put-name .ensures .0) .2)
@@ -34,17 +28,11 @@ add-put-body c = omega (arith, content-fits (now (c .before .before .before .bef
 add-t18 : tie.Need-add-t18
 add-t18 c = omega (arith, content-fits (now (c .before .before .before .before .before .before .before .before .before .before .before .before .before .args .words)) (now (c .before .before .before .before .before .before .before .before .before .before .before .before .before .args .texts)) (c .before .before .before .before .before .before .before .before .before .before .before .before .before .args .pen .word) (c .before .before .before .before .before .before .before .before .before .before .before .before .before .args .pen .byte) (c .before .before .before .before .before .before .before .before .before .before .before .before .before .args .pen .at) (c .before .before .before .before .before .before .before .before .before .before .before .before .before .pre) _ (c .before .before .before .before .before .before .before .before .put-name .ensures .0) .2)
 
-cast-put-body : tie.Need-cast-put-body
-cast-put-body c = search needs
-
 put-body-requires : tie.Need-put-body-requires
 put-body-requires c κs = (refl, ready-in (c .before .before .before .put-counts .kept .0 ∙ c .before .before .before .before .before .before .before .before .before .put-name .kept .1 .1 .1 .0) (body-ready (now (c .before .before .before .before .before .before .before .before .before .before .before .before .before .before .args .words)) (now (c .before .before .before .before .before .before .before .before .before .before .before .before .before .before .args .texts)) (c .before .before .before .before .before .before .before .before .before .before .before .before .before .before .args .pen .word) (c .before .before .before .before .before .before .before .before .before .before .before .before .before .before .args .pen .byte) (c .before .before .before .before .before .before .before .before .before .before .before .before .before .before .args .pen .at) (c .before .before .before .before .before .before .before .before .before .before .before .before .before .before .pre) _ (c .before .before .before .before .before .before .before .before .before .put-name .ensures .0) _ _ (c .before .before .before .before .before .before .word-of .ensures) (c .before .before .before .before .before .word-of2 .ensures)))
 
 put-padding-requires : tie.Need-put-padding-requires
 put-padding-requires c κs = let b = behind-within (bodyLay _) (body-ready (now (c .before .before .before .before .before .before .before .before .before .before .before .before .before .before .before .before .before .before .args .words)) (now (c .before .before .before .before .before .before .before .before .before .before .before .before .before .before .before .before .before .before .args .texts)) (c .before .before .before .before .before .before .before .before .before .before .before .before .before .before .before .before .before .before .args .pen .word) (c .before .before .before .before .before .before .before .before .before .before .before .before .before .before .before .before .before .before .args .pen .byte) (c .before .before .before .before .before .before .before .before .before .before .before .before .before .before .before .before .before .before .args .pen .at) (c .before .before .before .before .before .before .before .before .before .before .before .before .before .before .before .before .before .before .pre) _ (c .before .before .before .before .before .before .before .before .before .before .before .before .before .put-name .ensures .0) _ _ (c .before .before .before .before .before .before .before .before .before .before .word-of .ensures) (c .before .before .before .before .before .before .before .before .before .word-of2 .ensures)) (c .before .before .before .put-body .ensures .0) in (omega (arith, b .0), b .1)
-
-same-length : tie.Need-same-length
-same-length c = search needs
 
 returns : tie.Need-returns
 returns c = content-done (now (c .before .before .before .before .before .before .before .before .before .before .before .before .before .before .before .before .before .before .before .before .before .args .words)) (now (c .before .before .before .before .before .before .before .before .before .before .before .before .before .before .before .before .before .before .before .before .before .args .texts)) (c .before .before .before .before .before .before .before .before .before .before .before .before .before .before .before .before .before .before .before .before .before .args .pen .word) (c .before .before .before .before .before .before .before .before .before .before .before .before .before .before .before .before .before .before .before .before .before .args .pen .byte) (c .before .before .before .before .before .before .before .before .before .before .before .before .before .before .before .before .before .before .before .before .before .args .pen .at) (c .before .before .before .before .before .before .before .before .before .before .before .before .before .before .before .before .before .before .before .before .before .pre) _ (c .before .before .before .before .before .before .before .before .before .before .before .before .before .before .before .before .put-name .ensures .0) _ _ (c .before .before .before .before .before .before .before .before .before .before .before .before .before .word-of .ensures) (c .before .before .before .before .before .before .before .before .before .before .before .before .word-of2 .ensures) (now (c .before .before .before .before .before .before .before .before .before .before .before .before .before .before .before .before .before .before .before .before .before .args .out)) (c .before .before .before .before .before .before .before .before .before .before .before .before .before .before .before .before .put-name .ensures .1) (c .before .before .before .before .before .before .before .before .before .before .put-counts .ensures) (c .before .before .before .before .before .before .put-body .ensures .0) (c .before .before .before .before .before .before .put-body .ensures .1) (c .before .before .put-padding .ensures .0) (c .before .before .put-padding .ensures .1) (c .before .before .put-padding .ensures .2) (c .before .before .put-padding .ensures .3)
@@ -52,17 +40,5 @@ returns c = content-done (now (c .before .before .before .before .before .before
 pub put-content-spec : {M : Type 1} → statement M
 put-content-spec =
     tie.close
-    (tie.spec
-    put-name-requires
-    word-of-requires
-    add-word-of
-    word-of-requires-2
-    add-put-counts
-    put-counts-requires
-    add-put-body
-    add-t18
-    cast-put-body
-    put-body-requires
-    put-padding-requires
-    same-length
-    returns)
+    (tie.spec put-name-requires (search needs) add-word-of (search needs) add-put-counts put-counts-requires add-put-body add-t18
+    (search needs) put-body-requires put-padding-requires (search needs) returns)

@@ -8,12 +8,6 @@ use borrow.Author.Needs.{needs}
 use Rattle.bflan.proofs.writer.content.put_name.Statement.{statement}
 use Rattle.bflan.proofs.writer.content.put_name.Tie as tie
 
-word-of-requires : tie.Need-word-of-requires
-word-of-requires c κs = search needs
-
-cast-n : tie.Need-cast-n
-cast-n c = search needs
-
 put-chars-requires : tie.Need-put-chars-requires
 put-chars-requires c κs = name-fits (now (c .before .before .before .before .before .args .words)) (now (c .before .before .before .before .before .args .texts)) (c .before .before .before .before .before .args .pen) (c .before .before .before .before .before .pre) _ (c .before .word-of .ensures) .2
 
@@ -22,9 +16,6 @@ add-zeros c = let f = name-fits (now (c .before .before .before .before .before 
 
 sub-zeros : tie.Need-sub-zeros
 sub-zeros c = name-fits (now (c .before .before .before .before .before .before .before .before .before .args .words)) (now (c .before .before .before .before .before .before .before .before .before .args .texts)) (c .before .before .before .before .before .before .before .before .before .args .pen) (c .before .before .before .before .before .before .before .before .before .pre) _ (c .before .before .before .before .before .word-of .ensures) .1
-
-zeros-requires : tie.Need-zeros-requires
-zeros-requires c κs = search needs
 
 add-t15 : tie.Need-add-t15
 add-t15 c = omega (arith, name-fits (now (c .before .before .before .before .before .before .before .before .before .before .before .before .args .words)) (now (c .before .before .before .before .before .before .before .before .before .before .before .before .args .texts)) (c .before .before .before .before .before .before .before .before .before .before .before .before .args .pen) (c .before .before .before .before .before .before .before .before .before .before .before .before .pre) _ (c .before .before .before .before .before .before .before .before .word-of .ensures) .0, c .before .before .before .before .before .before .before .before .before .before .before .before .good)
@@ -35,24 +26,11 @@ add-t16 c = omega (arith, name-fits (now (c .before .before .before .before .bef
 add-t17 : tie.Need-add-t17
 add-t17 c = omega (arith, name-fits (now (c .before .before .before .before .before .before .before .before .before .before .before .before .args .words)) (now (c .before .before .before .before .before .before .before .before .before .before .before .before .args .texts)) (c .before .before .before .before .before .before .before .before .before .before .before .before .args .pen) (c .before .before .before .before .before .before .before .before .before .before .before .before .pre) _ (c .before .before .before .before .before .before .before .before .word-of .ensures) .3)
 
-same-length : tie.Need-same-length
-same-length c = search needs
-
 returns : tie.Need-returns
 returns c = name-done (now (c .before .before .before .before .before .before .before .before .before .before .before .before .args .words)) (now (c .before .before .before .before .before .before .before .before .before .before .before .before .args .texts)) (c .before .before .before .before .before .before .before .before .before .before .before .before .args .pen) (c .before .before .before .before .before .before .before .before .before .before .before .before .pre) _ (c .before .before .before .before .before .before .before .before .word-of .ensures) (now (c .before .before .before .before .before .before .before .before .before .before .before .before .args .out)) (c .before .before .before .before .before .before .put-chars .ensures) (c .before .before .zeros .ensures) refl
 
 pub put-name-spec : {M : Type 1} → statement M
 put-name-spec =
     tie.close
-    (tie.spec
-    word-of-requires
-    cast-n
-    put-chars-requires
-    add-zeros
-    sub-zeros
-    zeros-requires
-    add-t15
-    add-t16
-    add-t17
-    same-length
-    returns)
+    (tie.spec (search needs) (search needs) put-chars-requires add-zeros sub-zeros (search needs) add-t15 add-t16 add-t17
+    (search needs) returns)

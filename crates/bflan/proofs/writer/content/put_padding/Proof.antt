@@ -14,21 +14,11 @@ use Rattle.bflan.proofs.writer.content.put_padding.Tie as tie
 sub-padding : tie.Need-sub-padding
 sub-padding c = c .before .pre .0
 
-padding-requires : tie.Need-padding-requires
-padding-requires c κs = search needs
-
-zeros-requires : tie.Need-zeros-requires
-zeros-requires c κs = search needs
-
 add-t6 : tie.Need-add-t6
 add-t6 c = omega (arith, c .before .before .before .before .padding .ensures, padding-lt (c .before .before .before .before .before .before .args .pen .at - c .before .before .before .before .before .before .args .start), c .before .before .before .before .before .before .pre .1)
-
-same-length : tie.Need-same-length
-same-length c = search needs
 
 returns : tie.Need-returns
 returns c = (refl, refl, ap (λ (k : ℕ). c .before .before .before .before .before .before .args .pen .at + k) (c .before .before .before .before .padding .ensures), c .before .before .zeros .ensures ∙ ap (λ (k : ℕ). sets (now (c .before .before .before .before .before .before .args .out)) (c .before .before .before .before .before .before .args .pen .at) (replicate k 0)) (c .before .before .before .before .padding .ensures))
 
 pub put-padding-spec : {M : Type 1} → statement M
-put-padding-spec =
-    tie.close (tie.spec sub-padding padding-requires zeros-requires add-t6 same-length returns)
+put-padding-spec = tie.close (tie.spec sub-padding (search needs) (search needs) add-t6 (search needs) returns)

@@ -21,9 +21,6 @@ put-offset-requires c κs = (omega (arith, c .before .before .before .before .pr
 add-write-placeholder-u32 : tie.Need-add-write-placeholder-u32
 add-write-placeholder-u32 c = omega (arith, user-ready (c .before .before .before .before .before .before .before .before .args .n) (now (c .before .before .before .before .before .before .before .before .args .words)) (now (c .before .before .before .before .before .before .before .before .args .texts)) (c .before .before .before .before .before .before .before .before .args .pen) (c .before .before .before .before .before .before .before .before .args .start) (c .before .before .before .before .before .before .before .before .pre .1) (c .before .before .before .before .before .before .before .before .pre .0) .short)
 
-write-placeholder-u32-requires : tie.Need-write-placeholder-u32-requires
-write-placeholder-u32-requires c κs = search needs
-
 add-patch-u32 : tie.Need-add-patch-u32
 add-patch-u32 c = omega (arith, user-ready (c .before .before .before .before .before .before .before .before .before .before .before .args .n) (now (c .before .before .before .before .before .before .before .before .before .before .before .args .words)) (now (c .before .before .before .before .before .before .before .before .before .before .before .args .texts)) (c .before .before .before .before .before .before .before .before .before .before .before .args .pen) (c .before .before .before .before .before .before .before .before .before .before .before .args .start) (c .before .before .before .before .before .before .before .before .before .before .before .pre .1) (c .before .before .before .before .before .before .before .before .before .before .before .pre .0) .short)
 
@@ -41,28 +38,11 @@ sub-patch-u32-2 c =
 cast-patch-u32 : tie.Need-cast-patch-u32
 cast-patch-u32 c = let b = behind-within (listed infoLay (c .before .before .before .before .before .before .before .before .before .before .before .before .before .before .before .before .before .before .before .args .pen .at + 8 + 4 * c .before .before .before .before .before .before .before .before .before .before .before .before .before .before .before .before .before .before .before .args .n - c .before .before .before .before .before .before .before .before .before .before .before .before .before .before .before .before .before .before .before .args .start)) (user-ready (c .before .before .before .before .before .before .before .before .before .before .before .before .before .before .before .before .before .before .before .args .n) (now (c .before .before .before .before .before .before .before .before .before .before .before .before .before .before .before .before .before .before .before .args .words)) (now (c .before .before .before .before .before .before .before .before .before .before .before .before .before .before .before .before .before .before .before .args .texts)) (c .before .before .before .before .before .before .before .before .before .before .before .before .before .before .before .before .before .before .before .args .pen) (c .before .before .before .before .before .before .before .before .before .before .before .before .before .before .before .before .before .before .before .args .start) (c .before .before .before .before .before .before .before .before .before .before .before .before .before .before .before .before .before .before .before .pre .1) (c .before .before .before .before .before .before .before .before .before .before .before .before .before .before .before .before .before .before .before .pre .0)) (c .before .before .before .before .before .before .put-infos .ensures .0) in omega (arith, b .1)
 
-patch-u32-requires : tie.Need-patch-u32-requires
-patch-u32-requires c κs = search needs
-
-same-length : tie.Need-same-length
-same-length c = search needs
-
 returns : tie.Need-returns
 returns c = user-done (c .before .before .before .before .before .before .before .before .before .before .before .before .before .before .before .before .before .before .before .before .before .before .args .n) (now (c .before .before .before .before .before .before .before .before .before .before .before .before .before .before .before .before .before .before .before .before .before .before .args .words)) (now (c .before .before .before .before .before .before .before .before .before .before .before .before .before .before .before .before .before .before .before .before .before .before .args .texts)) (c .before .before .before .before .before .before .before .before .before .before .before .before .before .before .before .before .before .before .before .before .before .before .args .pen) (c .before .before .before .before .before .before .before .before .before .before .before .before .before .before .before .before .before .before .before .before .before .before .args .start) (c .before .before .before .before .before .before .before .before .before .before .before .before .before .before .before .before .before .before .before .before .before .before .pre .1) (c .before .before .before .before .before .before .before .before .before .before .before .before .before .before .before .before .before .before .before .before .before .before .pre .0) (now (c .before .before .before .before .before .before .before .before .before .before .before .before .before .before .before .before .before .before .before .before .before .before .args .out)) (c .before .before .before .before .before .before .before .before .before .before .before .before .before .before .before .before .before .put-offset .ensures) (c .before .before .before .before .before .before .before .before .before .before .before .before .before .write-placeholder-u32 .ensures .0) (c .before .before .before .before .before .before .before .before .before .before .before .before .before .write-placeholder-u32 .ensures .1) (c .before .before .before .before .before .before .before .before .before .put-infos .ensures .0) (c .before .before .before .before .before .before .before .before .before .put-infos .ensures .2) (c .before .before .before .before .before .before .before .before .before .put-infos .ensures .1) (c .before .before .patch-u32 .ensures)
 
 pub put-user-spec : {M : Type 1} → statement M
 put-user-spec =
     tie.close
-    (tie.spec
-    add-put-offset
-    put-offset-requires
-    add-write-placeholder-u32
-    write-placeholder-u32-requires
-    add-patch-u32
-    put-infos-requires
-    sub-patch-u32
-    sub-patch-u32-2
-    cast-patch-u32
-    patch-u32-requires
-    same-length
-    returns)
+    (tie.spec add-put-offset put-offset-requires add-write-placeholder-u32 (search needs) add-patch-u32 put-infos-requires
+    sub-patch-u32 sub-patch-u32-2 cast-patch-u32 (search needs) (search needs) returns)

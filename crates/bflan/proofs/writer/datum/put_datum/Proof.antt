@@ -14,11 +14,8 @@ put-front-requires c κs = let f = datum-fits (now (c .before .before .before .b
 put-ended-requires : tie.Need-put-ended-requires
 put-ended-requires c κs = ready-in (c .before .before .before .put-front .kept .1 .1 .0) (key-ready (now (c .before .before .before .before .before .before .before .before .args .words)) (now (c .before .before .before .before .before .before .before .before .args .texts)) (c .before .before .before .before .before .before .before .before .args .pen .word) (c .before .before .before .before .before .before .before .before .args .pen .byte) (c .before .before .before .before .before .before .before .before .args .pen .at) (c .before .before .before .before .before .before .before .before .pre) _ (c .before .before .before .put-front .ensures .0) (c .before .before .before .put-front .ensures .1) (c .before .before .before .put-front .ensures .2))
 
-same-length : tie.Need-same-length
-same-length c = search needs
-
 returns : tie.Need-returns
 returns c = datum-done (now (c .before .before .before .before .before .before .before .before .before .before .before .args .words)) (now (c .before .before .before .before .before .before .before .before .before .before .before .args .texts)) (c .before .before .before .before .before .before .before .before .before .before .before .args .pen .word) (c .before .before .before .before .before .before .before .before .before .before .before .args .pen .byte) (c .before .before .before .before .before .before .before .before .before .before .before .args .pen .at) (c .before .before .before .before .before .before .before .before .before .before .before .pre) _ (c .before .before .before .before .before .before .put-front .ensures .0) (c .before .before .before .before .before .before .put-front .ensures .1) (c .before .before .before .before .before .before .put-front .ensures .2) (now (c .before .before .before .before .before .before .before .before .before .before .before .args .out)) (c .before .before .before .before .before .before .put-front .ensures .3) (c .before .before .put-ended .ensures .0) (c .before .before .put-ended .ensures .1)
 
 pub put-datum-spec : {M : Type 1} → statement M
-put-datum-spec = tie.close (tie.spec put-front-requires put-ended-requires same-length returns)
+put-datum-spec = tie.close (tie.spec put-front-requires put-ended-requires (search needs) returns)

@@ -15,12 +15,6 @@ put-head-requires c κs = (omega (arith, c .before .before .before .pre .0), ome
 add-word-of : tie.Need-add-word-of
 add-word-of c = omega (arith, c .before .before .before .before .before .before .pre .0, c .before .before .before .before .before .before .good)
 
-word-of-requires : tie.Need-word-of-requires
-word-of-requires c κs = search needs
-
-cast-n : tie.Need-cast-n
-cast-n c = search needs
-
 mul-n : tie.Need-mul-n
 mul-n c = omega (arith, c .before .before .before .before .before .before .before .pre .0, c .before .before .before .before .before .before .before .pre .1, c .word-of .ensures, c .before .before .before .before .before .before .before .good)
 
@@ -29,9 +23,6 @@ add-write-numbers c = omega (arith, c .before .before .before .before .before .b
 
 add-write-numbers-2 : tie.Need-add-write-numbers-2
 add-write-numbers-2 c = omega (arith, c .before .before .before .before .before .before .before .before .pre .0, c .before .before .before .before .before .before .before .before .pre .1, c .before .word-of .ensures, c .before .before .before .before .before .before .before .before .good)
-
-write-numbers-requires : tie.Need-write-numbers-requires
-write-numbers-requires c κs = search needs
 
 add-key : tie.Need-add-key
 add-key c = omega (arith, c .before .before .before .before .before .before .before .before .before .before .before .pre .0, c .before .before .before .before .before .before .before .before .before .before .before .pre .1, c .before .before .before .before .word-of .ensures, c .before .before .before .before .before .before .before .before .before .before .before .good)
@@ -57,9 +48,6 @@ add-t15 c = omega (arith, c .before .before .before .before .before .before .bef
 add-t18 : tie.Need-add-t18
 add-t18 c = omega (arith, c .before .before .before .before .before .before .before .before .before .before .before .before .before .before .before .pre .0, c .before .before .before .before .before .before .before .before .before .before .before .before .before .before .before .pre .1, c .before .before .before .before .before .before .before .before .word-of .ensures, c .before .before .before .before .before .before .before .before .before .before .before .before .before .before .before .good)
 
-same-length : tie.Need-same-length
-same-length c = search needs
-
 returns : tie.Need-returns
 returns c = (
   omega (arith, c .before .before .before .before .before .before .before .before .word-of .ensures),
@@ -71,22 +59,5 @@ returns c = (
 pub put-front-spec : {M : Type 1} → statement M
 put-front-spec =
     tie.close
-    (tie.spec
-    put-head-requires
-    add-word-of
-    word-of-requires
-    cast-n
-    mul-n
-    add-write-numbers
-    add-write-numbers-2
-    write-numbers-requires
-    add-key
-    mul-key
-    add-key-2
-    add-put-offset
-    put-offset-requires
-    add-t12
-    add-t15
-    add-t18
-    same-length
-    returns)
+    (tie.spec put-head-requires add-word-of (search needs) (search needs) mul-n add-write-numbers add-write-numbers-2
+    (search needs) add-key mul-key add-key-2 add-put-offset put-offset-requires add-t12 add-t15 add-t18 (search needs) returns)

@@ -10,24 +10,12 @@ use borrow.Author.Needs.{needs}
 use Rattle.bflan.proofs.writer.info.left_out.Statement.{statement}
 use Rattle.bflan.proofs.writer.info.left_out.Tie as tie
 
-word-of-requires : tie.Need-word-of-requires
-word-of-requires c κs = search needs
-
 returns : tie.Need-returns
 unfolding fleu val
 returns c = sym (out-other (now (c .before .before .before .args .words)) (c .before .before .before .args .i) (c .before .before .before .args .from) (c .before .before .before .args .to) (λ e. c .if1 .taken (c .before .word-of .ensures ∙ e)))
 
 add-word-of : tie.Need-add-word-of
 add-word-of c = omega (arith, c .before .before .before .pre .0, c .before .before .before .good)
-
-word-of-requires-2 : tie.Need-word-of-requires-2
-word-of-requires-2 c κs = search needs
-
-cast-result : tie.Need-cast-result
-cast-result c = search needs
-
-mul-result : tie.Need-mul-result
-mul-result c = omega arith
 
 sub-result : tie.Need-sub-result
 unfolding fleu val
@@ -44,13 +32,4 @@ returns-2 c = let e = out-extended (now (c .before .before .before .before .args
 pub left-out-spec : {M : Type 1} → statement M
 left-out-spec =
     tie.close
-    (tie.spec
-    word-of-requires
-    returns
-    add-word-of
-    word-of-requires-2
-    cast-result
-    mul-result
-    sub-result
-    add-result
-    returns-2)
+    (tie.spec (search needs) returns add-word-of (search needs) (search needs) (λ c. omega arith) sub-result add-result returns-2)

@@ -6,21 +6,11 @@ use borrow.Author.Needs.{needs}
 use Rattle.bflan.proofs.writer.info.put_head.Statement.{statement}
 use Rattle.bflan.proofs.writer.info.put_head.Tie as tie
 
-write-u32-requires : tie.Need-write-u32-requires
-write-u32-requires c κs = search needs
-
-add-put-counts : tie.Need-add-put-counts
-add-put-counts c = search needs
-
 put-counts-requires : tie.Need-put-counts-requires
 put-counts-requires c κs = omega (arith, c .before .before .before .before .before .before .pre)
-
-same-length : tie.Need-same-length
-same-length c = search needs
 
 returns : tie.Need-returns
 returns c = info-head-stored (c .before .before .before .before .before .before .before .before .before .args .at) (c .before .before .before .before .before .before .before .before .before .args .letters) (c .before .before .before .before .before .before .before .before .before .args .n) (c .before .before .before .before .before .before .write-u32 .ensures) (c .before .before .put-counts .ensures) .same
 
 pub put-head-spec : {M : Type 1} → statement M
-put-head-spec =
-    tie.close (tie.spec write-u32-requires add-put-counts put-counts-requires same-length returns)
+put-head-spec = tie.close (tie.spec (search needs) (search needs) put-counts-requires (search needs) returns)

@@ -10,14 +10,8 @@ use borrow.Author.Needs.{needs}
 use Rattle.bflan.proofs.writer.info.put_info.Statement.{statement}
 use Rattle.bflan.proofs.writer.info.put_info.Tie as tie
 
-word-of-requires : tie.Need-word-of-requires
-word-of-requires c κs = search needs
-
 add-word-of : tie.Need-add-word-of
 add-word-of c = omega (arith, info-there (now (c .before .before .before .before .args .words)) (now (c .before .before .before .before .args .texts)) (c .before .before .before .before .args .pen .word) (c .before .before .before .before .args .pen .byte) (c .before .before .before .before .args .pen .at) (c .before .before .before .before .pre), c .before .before .before .before .good)
-
-word-of-requires-2 : tie.Need-word-of-requires-2
-word-of-requires-2 c κs = search needs
 
 put-head-requires : tie.Need-put-head-requires
 put-head-requires c κs = info-fits (now (c .before .before .before .before .before .before .args .words)) (now (c .before .before .before .before .before .before .args .texts)) (c .before .before .before .before .before .before .args .pen .word) (c .before .before .before .before .before .before .args .pen .byte) (c .before .before .before .before .before .before .args .pen .at) (c .before .before .before .before .before .before .pre)
@@ -28,29 +22,17 @@ add-put-targets c = omega (arith, info-there (now (c .before .before .before .be
 add-t14 : tie.Need-add-t14
 add-t14 c = omega (arith, info-fits (now (c .before .before .before .before .before .before .before .before .before .args .words)) (now (c .before .before .before .before .before .before .before .before .before .args .texts)) (c .before .before .before .before .before .before .before .before .before .args .pen .word) (c .before .before .before .before .before .before .before .before .before .args .pen .byte) (c .before .before .before .before .before .before .before .before .before .args .pen .at) (c .before .before .before .before .before .before .before .before .before .pre))
 
-cast-put-data : tie.Need-cast-put-data
-cast-put-data c = search needs
-
 put-data-requires : tie.Need-put-data-requires
 unfolding fleu val
 put-data-requires c κs = ready-in (c .before .before .before .before .put-head .kept .0) (data-ready (now (c .before .before .before .before .before .before .before .before .before .before .before .args .words)) (now (c .before .before .before .before .before .before .before .before .before .before .before .args .texts)) (c .before .before .before .before .before .before .before .before .before .before .before .args .pen .word) (c .before .before .before .before .before .before .before .before .before .before .before .args .pen .byte) (c .before .before .before .before .before .before .before .before .before .before .before .args .pen .at) (c .before .before .before .before .before .before .before .before .before .before .before .pre) _ _ (c .before .before .before .before .before .before .before .word-of .ensures) (c .before .before .before .before .before .before .word-of2 .ensures) (c .before .if1 .taken))
-
-same-length : tie.Need-same-length
-same-length c = search needs
 
 returns : tie.Need-returns
 unfolding fleu val
 returns c = data-done (now (c .before .before .before .before .before .before .before .before .before .before .before .before .before .before .args .words)) (now (c .before .before .before .before .before .before .before .before .before .before .before .before .before .before .args .texts)) (c .before .before .before .before .before .before .before .before .before .before .before .before .before .before .args .pen .word) (c .before .before .before .before .before .before .before .before .before .before .before .before .before .before .args .pen .byte) (c .before .before .before .before .before .before .before .before .before .before .before .before .before .before .args .pen .at) (c .before .before .before .before .before .before .before .before .before .before .before .before .before .before .pre) _ _ (c .before .before .before .before .before .before .before .before .before .before .word-of .ensures) (c .before .before .before .before .before .before .before .before .before .word-of2 .ensures) (c .before .before .before .before .if1 .taken) (now (c .before .before .before .before .before .before .before .before .before .before .before .before .before .before .args .out)) (c .before .before .before .before .before .before .before .put-head .ensures) (c .before .before .put-data .ensures .0) (c .before .before .put-data .ensures .1)
 
-cast-put-targets : tie.Need-cast-put-targets
-cast-put-targets c = search needs
-
 put-targets-requires : tie.Need-put-targets-requires
 unfolding fleu val
 put-targets-requires c κs = (omega arith, ready-in (c .before .before .before .before .put-head .kept .0) (targets-ready (now (c .before .before .before .before .before .before .before .before .before .before .before .args .words)) (now (c .before .before .before .before .before .before .before .before .before .before .before .args .texts)) (c .before .before .before .before .before .before .before .before .before .before .before .args .pen .word) (c .before .before .before .before .before .before .before .before .before .before .before .args .pen .byte) (c .before .before .before .before .before .before .before .before .before .before .before .args .pen .at) (c .before .before .before .before .before .before .before .before .before .before .before .pre) _ _ (c .before .before .before .before .before .before .before .word-of .ensures) (c .before .before .before .before .before .before .word-of2 .ensures) (c .before .if1 .left)))
-
-same-length-2 : tie.Need-same-length-2
-same-length-2 c = search needs
 
 returns-2 : tie.Need-returns-2
 unfolding fleu val
@@ -59,18 +41,5 @@ returns-2 c = targets-done (now (c .before .before .before .before .before .befo
 pub put-info-spec : {M : Type 1} → statement M
 put-info-spec =
     tie.close
-    (tie.spec
-    word-of-requires
-    add-word-of
-    word-of-requires-2
-    put-head-requires
-    add-put-targets
-    add-t14
-    cast-put-data
-    put-data-requires
-    same-length
-    returns
-    cast-put-targets
-    put-targets-requires
-    same-length-2
-    returns-2)
+    (tie.spec (search needs) add-word-of (search needs) put-head-requires add-put-targets add-t14 (search needs) put-data-requires
+    (search needs) returns (search needs) put-targets-requires (search needs) returns-2)

@@ -5,35 +5,10 @@ use borrow.Author.Needs.{needs}
 use Rattle.bflan.proofs.writer.section.put_frame.Statement.{statement}
 use Rattle.bflan.proofs.writer.section.put_frame.Tie as tie
 
-put-half-requires : tie.Need-put-half-requires
-put-half-requires c κs = search needs
-
-put-byte-requires : tie.Need-put-byte-requires
-put-byte-requires c κs = search needs
-
-put-byte-requires-2 : tie.Need-put-byte-requires-2
-put-byte-requires-2 c κs = search needs
-
-put-half-requires-2 : tie.Need-put-half-requires-2
-put-half-requires-2 c κs = search needs
-
-put-half-requires-3 : tie.Need-put-half-requires-3
-put-half-requires-3 c κs = search needs
-
-same-length : tie.Need-same-length
-same-length c = search needs
-
 returns : tie.Need-returns
 returns c = frame-stored (c .before .before .before .before .before .before .before .before .before .before .before .before .before .before .before .before .before .before .before .before .before .args .frames) (c .before .before .before .before .before .before .before .before .before .before .before .before .before .before .before .before .before .before .before .before .before .args .looping) (c .before .before .before .before .before .before .before .before .before .before .before .before .before .before .before .before .before .before .before .before .before .args .textures) (c .before .before .before .before .before .before .before .before .before .before .before .before .before .before .before .before .before .before .before .before .before .args .contents) (c .before .before .before .before .before .before .before .before .before .before .before .before .before .before .before .before .before .before .put-half .ensures) (c .before .before .before .before .before .before .before .before .before .before .before .before .before .before .put-byte .ensures) (c .before .before .before .before .before .before .before .before .before .before .put-byte2 .ensures) (c .before .before .before .before .before .before .put-half2 .ensures) (c .before .before .put-half3 .ensures) .same
 
 pub put-frame-spec : {M : Type 1} → statement M
 put-frame-spec =
     tie.close
-    (tie.spec
-    put-half-requires
-    put-byte-requires
-    put-byte-requires-2
-    put-half-requires-2
-    put-half-requires-3
-    same-length
-    returns)
+    (tie.spec (search needs) (search needs) (search needs) (search needs) (search needs) (search needs) returns)

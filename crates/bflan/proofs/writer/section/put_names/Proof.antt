@@ -16,18 +16,11 @@ use Rattle.bflan.proofs.writer.section.put_names.Tie as tie
 put-textures-requires : tie.Need-put-textures-requires
 put-textures-requires c κs = (omega arith, names-ready (c .before .before .before .before .args .n) (now (c .before .before .before .before .args .words)) (now (c .before .before .before .before .args .texts)) (c .before .before .before .before .pre))
 
-align4-requires : tie.Need-align4-requires
-align4-requires c κs = search needs
-
 add-t13 : tie.Need-add-t13
 add-t13 c = let b = behind-within (listed ended (20 + 4 * c .before .before .before .before .before .before .before .before .before .before .before .args .n - 20)) (names-ready (c .before .before .before .before .before .before .before .before .before .before .before .args .n) (now (c .before .before .before .before .before .before .before .before .before .before .before .args .words)) (now (c .before .before .before .before .before .before .before .before .before .before .before .args .texts)) (c .before .before .before .before .before .before .before .before .before .before .before .pre)) (c .before .before .before .before .before .before .put-textures .ensures .0) in omega (arith, b .1, c .before .before .align4 .ensures .0, padding-lt (c .before .before .before .before .before .before .put-textures .result .at))
-
-same-length : tie.Need-same-length
-same-length c = search needs
 
 returns : tie.Need-returns
 returns c = names-done (c .before .before .before .before .before .before .before .before .before .before .before .args .n) (now (c .before .before .before .before .before .before .before .before .before .before .before .args .words)) (now (c .before .before .before .before .before .before .before .before .before .before .before .args .texts)) (c .before .before .before .before .before .before .before .before .before .before .before .pre) (now (c .before .before .before .before .before .before .before .before .before .before .before .args .out)) (c .before .before .before .before .before .before .put-textures .ensures .0) (c .before .before .before .before .before .before .put-textures .ensures .1) refl refl (ap (λ (k : ℕ). c .before .before .before .before .before .before .put-textures .result .at + k) (c .before .before .align4 .ensures .0)) (c .before .before .align4 .ensures .1)
 
 pub put-names-spec : {M : Type 1} → statement M
-put-names-spec =
-    tie.close (tie.spec put-textures-requires align4-requires add-t13 same-length returns)
+put-names-spec = tie.close (tie.spec put-textures-requires (search needs) add-t13 (search needs) returns)

@@ -10,41 +10,17 @@ use borrow.Author.Needs.{needs}
 use Rattle.bflan.proofs.writer.section.put_section.Statement.{statement}
 use Rattle.bflan.proofs.writer.section.put_section.Tie as tie
 
-put-start-requires : tie.Need-put-start-requires
-put-start-requires c κs = search needs
-
-write-placeholder-u32-requires : tie.Need-write-placeholder-u32-requires
-write-placeholder-u32-requires c κs = search needs
-
-word-of-requires : tie.Need-word-of-requires
-word-of-requires c κs = search needs
-
-cast-put-names : tie.Need-cast-put-names
-cast-put-names c = search needs
-
 put-names-requires : tie.Need-put-names-requires
 put-names-requires c κs = ready-in (c .before .before .before .before .write-placeholder-u32 .kept .0 ∙ c .before .before .before .before .before .before .before .before .put-start .kept .1 .0) (names-there (now (c .before .before .before .before .before .before .before .before .before .before .before .before .before .args .words)) (now (c .before .before .before .before .before .before .before .before .before .before .before .before .before .args .texts)) (c .before .before .before .before .before .before .before .before .before .before .before .before .before .pre) _ (c .before .word-of .ensures))
 
 cast-patch-u32 : tie.Need-cast-patch-u32
 cast-patch-u32 c = let b = behind-within namesLay (names-there (now (c .before .before .before .before .before .before .before .before .before .before .before .before .before .before .before .before .before .before .args .words)) (now (c .before .before .before .before .before .before .before .before .before .before .before .before .before .before .before .before .before .before .args .texts)) (c .before .before .before .before .before .before .before .before .before .before .before .before .before .before .before .before .before .before .pre) _ (c .before .before .before .before .before .before .word-of .ensures)) (c .before .before .before .before .put-names .ensures .0) in omega (arith, b .1)
 
-patch-u32-requires : tie.Need-patch-u32-requires
-patch-u32-requires c κs = search needs
-
-word-of-requires-2 : tie.Need-word-of-requires-2
-word-of-requires-2 c κs = search needs
-
-cast-put-contents : tie.Need-cast-put-contents
-cast-put-contents c = search needs
-
 put-contents-requires : tie.Need-put-contents-requires
 put-contents-requires c κs = (omega arith, ready-in (c .before .before .before .before .patch-u32 .kept .0 ∙ c .before .before .before .before .before .before .before .before .before .put-names .kept .1 .1 .1 .0 ∙ c .before .before .before .before .before .before .before .before .before .before .before .before .before .before .write-placeholder-u32 .kept .0 ∙ c .before .before .before .before .before .before .before .before .before .before .before .before .before .before .before .before .before .before .put-start .kept .1 .0) (contents-there (now (c .before .before .before .before .before .before .before .before .before .before .before .before .before .before .before .before .before .before .before .before .before .before .before .args .words)) (now (c .before .before .before .before .before .before .before .before .before .before .before .before .before .before .before .before .before .before .before .before .before .before .before .args .texts)) (c .before .before .before .before .before .before .before .before .before .before .before .before .before .before .before .before .before .before .before .before .before .before .before .pre) _ (c .before .before .before .before .before .before .before .before .before .before .before .word-of .ensures) _ (c .before .before .before .before .before .before .before .before .before .put-names .ensures .0) _ (c .before .word-of2 .ensures)))
 
 cast-patch-u32-2 : tie.Need-cast-patch-u32-2
 cast-patch-u32-2 c = let b = behind-within _ (contents-there (now (c .before .before .before .before .before .before .before .before .before .before .before .before .before .before .before .before .before .before .before .before .before .before .before .before .before .before .before .before .args .words)) (now (c .before .before .before .before .before .before .before .before .before .before .before .before .before .before .before .before .before .before .before .before .before .before .before .before .before .before .before .before .args .texts)) (c .before .before .before .before .before .before .before .before .before .before .before .before .before .before .before .before .before .before .before .before .before .before .before .before .before .before .before .before .pre) _ (c .before .before .before .before .before .before .before .before .before .before .before .before .before .before .before .before .word-of .ensures) _ (c .before .before .before .before .before .before .before .before .before .before .before .before .before .before .put-names .ensures .0) _ (c .before .before .before .before .before .before .word-of2 .ensures)) (c .before .before .before .before .put-contents .ensures .0) in omega (arith, b .1)
-
-patch-u32-requires-2 : tie.Need-patch-u32-requires-2
-patch-u32-requires-2 c κs = search needs
 
 same-length : tie.Need-same-length
 same-length c = c .before .before .patch-u322 .kept .0 ∙ c .before .before .before .before .before .before .before .put-contents .kept .1 .1 .1 .1 .1 .0 ∙ c .before .before .before .before .before .before .before .before .before .before .before .before .patch-u32 .kept .0 ∙ c .before .before .before .before .before .before .before .before .before .before .before .before .before .before .before .before .before .put-names .kept .1 .1 .1 .0 ∙ c .before .before .before .before .before .before .before .before .before .before .before .before .before .before .before .before .before .before .before .before .before .before .write-placeholder-u32 .kept .0 ∙ c .before .before .before .before .before .before .before .before .before .before .before .before .before .before .before .before .before .before .before .before .before .before .before .before .before .before .put-start .kept .1 .0
@@ -55,18 +31,5 @@ returns c = section-done (now (c .before .before .before .before .before .before
 pub put-section-spec : {M : Type 1} → statement M
 put-section-spec =
     tie.close
-    (tie.spec
-    put-start-requires
-    write-placeholder-u32-requires
-    word-of-requires
-    cast-put-names
-    put-names-requires
-    cast-patch-u32
-    patch-u32-requires
-    word-of-requires-2
-    cast-put-contents
-    put-contents-requires
-    cast-patch-u32-2
-    patch-u32-requires-2
-    same-length
-    returns)
+    (tie.spec (search needs) (search needs) (search needs) (search needs) put-names-requires cast-patch-u32 (search needs)
+    (search needs) (search needs) put-contents-requires cast-patch-u32-2 (search needs) same-length returns)

@@ -8,30 +8,6 @@ use borrow.Author.Needs.{needs}
 use Rattle.bflan.proofs.writer.section.put_start.Statement.{statement}
 use Rattle.bflan.proofs.writer.section.put_start.Tie as tie
 
-write-u32-requires : tie.Need-write-u32-requires
-write-u32-requires c κs = search needs
-
-write-placeholder-u32-requires : tie.Need-write-placeholder-u32-requires
-write-placeholder-u32-requires c κs = search needs
-
-word-of-requires : tie.Need-word-of-requires
-word-of-requires c κs = search needs
-
-word-of-requires-2 : tie.Need-word-of-requires-2
-word-of-requires-2 c κs = search needs
-
-word-of-requires-3 : tie.Need-word-of-requires-3
-word-of-requires-3 c κs = search needs
-
-word-of-requires-4 : tie.Need-word-of-requires-4
-word-of-requires-4 c κs = search needs
-
-put-frame-requires : tie.Need-put-frame-requires
-put-frame-requires c κs = search needs
-
-same-length : tie.Need-same-length
-same-length c = search needs
-
 returns : tie.Need-returns
 unfolding pai1 val
 returns c = (c .before .before .before .before .before .before .before .before .before .before .write-placeholder-u32 .ensures .0, start-stored (now (c .before .before .before .before .before .before .before .before .before .before .before .before .before .before .before .before .before .before .args .out)) _ _ _ _ _ _ _ _ (c .before .before .before .before .before .before .before .word-of .ensures) (c .before .before .before .before .before .before .word-of2 .ensures) (c .before .before .before .before .before .word-of3 .ensures) (c .before .before .before .before .word-of4 .ensures) (c .before .before .before .before .before .before .before .before .before .before .before .before .before .before .write-u32 .ensures) (c .before .before .before .before .before .before .before .before .before .before .write-placeholder-u32 .ensures .1) (c .before .before .put-frame .ensures))
@@ -39,13 +15,5 @@ returns c = (c .before .before .before .before .before .before .before .before .
 pub put-start-spec : {M : Type 1} → statement M
 put-start-spec =
     tie.close
-    (tie.spec
-    write-u32-requires
-    write-placeholder-u32-requires
-    word-of-requires
-    word-of-requires-2
-    word-of-requires-3
-    word-of-requires-4
-    put-frame-requires
-    same-length
-    returns)
+    (tie.spec (search needs) (search needs) (search needs) (search needs) (search needs) (search needs) (search needs)
+    (search needs) returns)

@@ -9,26 +9,14 @@ use borrow.Author.Needs.{needs}
 use Rattle.bflan.proofs.writer.target.put_target.Statement.{statement}
 use Rattle.bflan.proofs.writer.target.put_target.Tie as tie
 
-word-of-requires : tie.Need-word-of-requires
-word-of-requires c κs = search needs
-
 add-word-of : tie.Need-add-word-of
 add-word-of c = omega (arith, target-there (c .before .before .before .args .letters) (now (c .before .before .before .args .words)) [] (c .before .before .before .args .pen .word) (c .before .before .before .args .pen .byte) (c .before .before .before .args .pen .at) (c .before .before .before .pre) .0, c .before .before .before .good)
-
-word-of-requires-2 : tie.Need-word-of-requires-2
-word-of-requires-2 c κs = search needs
 
 add-word-of-2 : tie.Need-add-word-of-2
 add-word-of-2 c = omega (arith, target-there (c .before .before .before .before .args .letters) (now (c .before .before .before .before .args .words)) [] (c .before .before .before .before .args .pen .word) (c .before .before .before .before .args .pen .byte) (c .before .before .before .before .args .pen .at) (c .before .before .before .before .pre) .0, c .before .before .before .before .good)
 
-word-of-requires-3 : tie.Need-word-of-requires-3
-word-of-requires-3 c κs = search needs
-
 add-word-of-3 : tie.Need-add-word-of-3
 add-word-of-3 c = omega (arith, target-there (c .before .before .before .before .before .args .letters) (now (c .before .before .before .before .before .args .words)) [] (c .before .before .before .before .before .args .pen .word) (c .before .before .before .before .before .args .pen .byte) (c .before .before .before .before .before .args .pen .at) (c .before .before .before .before .before .pre) .0, c .before .before .before .before .before .good)
-
-word-of-requires-4 : tie.Need-word-of-requires-4
-word-of-requires-4 c κs = search needs
 
 put-head-requires : tie.Need-put-head-requires
 put-head-requires c κs = target-there (c .before .before .before .before .before .before .before .args .letters) (now (c .before .before .before .before .before .before .before .args .words)) [] (c .before .before .before .before .before .before .before .args .pen .word) (c .before .before .before .before .before .before .before .args .pen .byte) (c .before .before .before .before .before .before .before .args .pen .at) (c .before .before .before .before .before .before .before .pre) .1
@@ -39,14 +27,8 @@ add-put-keys c = omega (arith, target-there (c .before .before .before .before .
 add-t16 : tie.Need-add-t16
 add-t16 c = omega (arith, target-there (c .before .before .before .before .before .before .before .before .before .before .args .letters) (now (c .before .before .before .before .before .before .before .before .before .before .args .words)) [] (c .before .before .before .before .before .before .before .before .before .before .args .pen .word) (c .before .before .before .before .before .before .before .before .before .before .args .pen .byte) (c .before .before .before .before .before .before .before .before .before .before .args .pen .at) (c .before .before .before .before .before .before .before .before .before .before .pre) .1)
 
-cast-put-keys : tie.Need-cast-put-keys
-cast-put-keys c = search needs
-
 put-keys-requires : tie.Need-put-keys-requires
 put-keys-requires c κs = let k = keys-ready (c .before .before .before .before .before .before .before .before .before .before .before .args .letters) (now (c .before .before .before .before .before .before .before .before .before .before .before .args .words)) [] (c .before .before .before .before .before .before .before .before .before .before .before .args .pen .word) (c .before .before .before .before .before .before .before .before .before .before .before .args .pen .byte) (c .before .before .before .before .before .before .before .before .before .before .before .args .pen .at) (c .before .before .before .before .before .before .before .before .before .before .before .pre) _ _ _ _ (c .before .before .before .before .before .before .before .before .word-of .ensures) (c .before .before .before .before .before .before .before .word-of2 .ensures) (c .before .before .before .before .before .before .word-of3 .ensures) (c .before .before .before .before .before .word-of4 .ensures) in (k .0, k .1, ready-in (c .before .before .before .put-head .kept .0) (k .2))
-
-same-length : tie.Need-same-length
-same-length c = search needs
 
 returns : tie.Need-returns
 returns c = target-done (c .before .before .before .before .before .before .before .before .before .before .before .before .before .before .args .letters) (now (c .before .before .before .before .before .before .before .before .before .before .before .before .before .before .args .words)) [] (c .before .before .before .before .before .before .before .before .before .before .before .before .before .before .args .pen .word) (c .before .before .before .before .before .before .before .before .before .before .before .before .before .before .args .pen .byte) (c .before .before .before .before .before .before .before .before .before .before .before .before .before .before .args .pen .at) (c .before .before .before .before .before .before .before .before .before .before .before .before .before .before .pre) _ _ _ _ (c .before .before .before .before .before .before .before .before .before .before .before .word-of .ensures) (c .before .before .before .before .before .before .before .before .before .before .word-of2 .ensures) (c .before .before .before .before .before .before .before .before .before .word-of3 .ensures) (c .before .before .before .before .before .before .before .before .word-of4 .ensures) (now (c .before .before .before .before .before .before .before .before .before .before .before .before .before .before .args .out)) (c .before .before .before .before .before .before .put-head .ensures) (c .before .before .put-keys .ensures .0) (c .before .before .put-keys .ensures .1)
@@ -54,18 +36,5 @@ returns c = target-done (c .before .before .before .before .before .before .befo
 pub put-target-spec : {M : Type 1} → statement M
 put-target-spec =
     tie.close
-    (tie.spec
-    word-of-requires
-    add-word-of
-    word-of-requires-2
-    add-word-of-2
-    word-of-requires-3
-    add-word-of-3
-    word-of-requires-4
-    put-head-requires
-    add-put-keys
-    add-t16
-    cast-put-keys
-    put-keys-requires
-    same-length
-    returns)
+    (tie.spec (search needs) add-word-of (search needs) add-word-of-2 (search needs) add-word-of-3 (search needs)
+    put-head-requires add-put-keys add-t16 (search needs) put-keys-requires (search needs) returns)

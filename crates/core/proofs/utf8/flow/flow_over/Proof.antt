@@ -18,17 +18,8 @@ abbrev μ-loop : tie.MeasureT-loop
 loop-holds : tie.Need-loop-holds Inv-loop μ-loop
 loop-holds c = (omega arith, flow-start _ _ _ (c .before .pre .2) (omega arith))
 
-shared-slice-read-next-state : tie.Need-shared-slice-read-next-state Inv-loop μ-loop
-shared-slice-read-next-state c = omega arith
-
 next-state-requires : tie.Need-next-state-requires Inv-loop μ-loop
 next-state-requires c κs = (c .before .before .loop .inv .1 .held, c .before .before .before .before .pre .3, c .before .before .before .before .pre .4)
-
-add-j : tie.Need-add-j Inv-loop μ-loop
-add-j c = search needs
-
-loop-less : tie.Need-loop-less Inv-loop μ-loop
-loop-less c = omega arith
 
 loop-again : tie.Need-loop-again Inv-loop μ-loop
 loop-again c = (omega arith, flow-turn _ _ _ _ _ _ (c .before .before .before .loop .inv .1) (omega arith) (c .next-state .ensures .0) (c .next-state .ensures .1))
@@ -39,13 +30,5 @@ returns c = let e : c .before .loop .j ≡ c .before .before .before .args .stop
 pub flow-over-spec : {M : Type 1} → statement M
 flow-over-spec =
     tie.close
-    (tie.spec
-    Inv-loop
-    μ-loop
-    loop-holds
-    shared-slice-read-next-state
-    next-state-requires
-    add-j
-    loop-less
-    loop-again
+    (tie.spec Inv-loop μ-loop loop-holds (λ c. omega arith) next-state-requires (search needs) (λ c. omega arith) loop-again
     returns)

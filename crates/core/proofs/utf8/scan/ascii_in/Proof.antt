@@ -22,18 +22,6 @@ abbrev μ-loop : tie.MeasureT-loop
 loop-holds : tie.Need-loop-holds Inv-loop μ-loop
 loop-holds c = (omega arith, rw (add-zero, sub-zero))
 
-add-all : tie.Need-add-all Inv-loop μ-loop
-add-all c = search needs
-
-shared-slice-read-all : tie.Need-shared-slice-read-all Inv-loop μ-loop
-shared-slice-read-all c = search needs
-
-add-k : tie.Need-add-k Inv-loop μ-loop
-add-k c = search needs
-
-loop-less : tie.Need-loop-less Inv-loop μ-loop
-loop-less c = omega arith
-
 loop-again : tie.Need-loop-again Inv-loop μ-loop
 loop-again c = (omega arith, every-turn ascii (now (c .before .before .before .args .s)) (c .before .before .before .args .at) (c .before .before .before .args .n) (c .before .before .loop .k) (c .before .before .loop .all) _ (c .before .before .before .pre) (c .before .loop-test .taken) (c .before .before .loop .inv .1))
 
@@ -43,13 +31,4 @@ returns c = every-done ascii (drop (c .before .before .args .at + c .before .loo
 pub ascii-in-spec : {M : Type 1} → statement M
 ascii-in-spec =
     tie.close
-    (tie.spec
-    Inv-loop
-    μ-loop
-    loop-holds
-    add-all
-    shared-slice-read-all
-    add-k
-    loop-less
-    loop-again
-    returns)
+    (tie.spec Inv-loop μ-loop loop-holds (search needs) (search needs) (search needs) (λ c. omega arith) loop-again returns)

@@ -20,29 +20,11 @@ abbrev μ-loop : tie.MeasureT-loop
 loop-holds : tie.Need-loop-holds Inv-loop μ-loop
 loop-holds c = (omega arith, λ k h. absurd (omega arith))
 
-sub-loop : tie.Need-sub-loop Inv-loop μ-loop
-sub-loop c = omega arith
-
-ascii-in-requires : tie.Need-ascii-in-requires Inv-loop μ-loop
-ascii-in-requires c κs = omega arith
-
-add-i : tie.Need-add-i Inv-loop μ-loop
-add-i c = omega arith
-
-loop-less : tie.Need-loop-less Inv-loop μ-loop
-loop-less c = omega arith
-
 loop-again : tie.Need-loop-again Inv-loop μ-loop
 loop-again c = (omega arith, bytes-on (λ x. ascii x ≡ true) (now (c .before .before .before .before .before .args .s)) _ 32 (c .before .before .before .loop .inv .1) (every-in ascii (now (c .before .before .before .before .before .args .s)) (c .before .before .before .loop .i) 32 (omega arith) (sym (c .before .ascii-in .ensures) ∙ c .if1 .taken)))
 
 returns : tie.Need-returns Inv-loop μ-loop
 returns c = every-fails ascii _ (c .before .before .before .loop .i) 32 (omega arith) (sym (c .before .ascii-in .ensures) ∙ c .if1 .left)
-
-sub-ascii-in : tie.Need-sub-ascii-in Inv-loop μ-loop
-sub-ascii-in c = omega arith
-
-ascii-in-requires-2 : tie.Need-ascii-in-requires-2 Inv-loop μ-loop
-ascii-in-requires-2 c κs = omega arith
 
 returns-2 : tie.Need-returns-2 Inv-loop μ-loop
 returns-2 c = every-last ascii (now (c .before .before .before .before .args .s)) (c .before .before .loop .i) 32 _ (c .before .before .before .before .pre) (omega arith) (c .before .before .loop .inv .1) (c .ascii-in2 .ensures)
@@ -50,16 +32,5 @@ returns-2 c = every-last ascii (now (c .before .before .before .before .args .s)
 pub ascii-long-spec : {M : Type 1} → statement M
 ascii-long-spec =
     tie.close
-    (tie.spec
-    Inv-loop
-    μ-loop
-    loop-holds
-    sub-loop
-    ascii-in-requires
-    add-i
-    loop-less
-    loop-again
-    returns
-    sub-ascii-in
-    ascii-in-requires-2
-    returns-2)
+    (tie.spec Inv-loop μ-loop loop-holds (λ c. omega arith) (λ c κs. omega arith) (λ c. omega arith) (λ c. omega arith) loop-again
+    returns (λ c. omega arith) (λ c κs. omega arith) returns-2)

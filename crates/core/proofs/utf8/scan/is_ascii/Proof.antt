@@ -1,7 +1,7 @@
 -- `utf8::scan::is_ascii` meets its contract.
 -- Assumes nothing.
 use Prim.Native.Nat.{ℕ, _<_, _≤_}
-use mathlib.Core.Path.{_≡_, sym, ap, _∙_}
+use mathlib.Core.Path.{_≡_, ap, _∙_}
 use mathlib.Core.Bool.{Bool}
 use mathlib.Core.List.{List}
 use native.Mathlib.Omega.{arith}
@@ -27,31 +27,14 @@ module _ (s : List ℕ) (r : Bool) where
   unfolding asciiSeen
   longer h e = rw (le-leb 8 (length s) (omega arith), lt-leb (length s) 32 h) e
 
-ascii-in-requires : tie.Need-ascii-in-requires
-ascii-in-requires c κs = search needs
-
 returns : tie.Need-returns
 returns c = fewer _ _ (c .before .if1 .taken) (c .ascii-in .ensures)
 
-plain-four-requires : tie.Need-plain-four-requires
-plain-four-requires c κs = search needs
-
 returns-2 : tie.Need-returns-2
 returns-2 c = between _ _ (c .before .before .if1 .left) (omega (arith, c .before .if2 .taken)) (c .plain-four .ensures)
-
-ascii-long-requires : tie.Need-ascii-long-requires
-ascii-long-requires c κs = search needs
 
 returns-3 : tie.Need-returns-3
 returns-3 c = longer _ _ (omega (arith, c .before .if2 .left)) (c .ascii-long .ensures)
 
 pub is-ascii-spec : {M : Type 1} → statement M
-is-ascii-spec =
-    tie.close
-    (tie.spec
-    ascii-in-requires
-    returns
-    plain-four-requires
-    returns-2
-    ascii-long-requires
-    returns-3)
+is-ascii-spec = tie.close (tie.spec (search needs) returns (search needs) returns-2 (search needs) returns-3)

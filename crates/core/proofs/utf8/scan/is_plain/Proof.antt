@@ -1,10 +1,9 @@
 -- `utf8::scan::is_plain` meets its contract.
 -- Assumes nothing.
 use Prim.Native.Nat.{ℕ, _<_, _≤_}
-use mathlib.Core.Path.{_≡_, refl}
+use mathlib.Core.Path.{_≡_}
 use mathlib.Core.Bool.{Bool, false}
 use mathlib.Core.List.{List}
-use native.Mathlib.Omega.{arith}
 use borrow.Author.Needs.{needs}
 use borrow.Author.Tests.{le-leb, lt-leb}
 use lib.ListN.{length}
@@ -31,11 +30,8 @@ returns c = fewer _ (c .if1 .taken)
 returns-2 : tie.Need-returns-2
 returns-2 c = longer _ (c .before .if1 .left) (c .if2 .taken)
 
-is-ascii-requires : tie.Need-is-ascii-requires
-is-ascii-requires c κs = search needs
-
 returns-3 : tie.Need-returns-3
 returns-3 c = between _ _ (c .before .before .if1 .left) (c .before .if2 .left) (c .is-ascii .ensures)
 
 pub is-plain-spec : {M : Type 1} → statement M
-is-plain-spec = tie.close (tie.spec returns returns-2 is-ascii-requires returns-3)
+is-plain-spec = tie.close (tie.spec returns returns-2 (search needs) returns-3)

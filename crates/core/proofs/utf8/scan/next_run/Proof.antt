@@ -6,23 +6,8 @@ use borrow.Author.Needs.{needs}
 use Rattle.core.proofs.utf8.scan.next_run.Statement.{statement}
 use Rattle.core.proofs.utf8.scan.next_run.Tie as tie
 
-far-run-requires : tie.Need-far-run-requires
-far-run-requires c κs = search needs
-
-returns : tie.Need-returns
-returns c = search needs
-
-near-requires : tie.Need-near-requires
-near-requires c κs = search needs
-
-walk-requires : tie.Need-walk-requires
-walk-requires c κs = search needs
-
 returns-2 : tie.Need-returns-2
 returns-2 c = let w = c .before .before .walk .ensures in run-end _ _ _ _ (w .2) (λ e. absurd (c .if2 .taken e)) (w .4)
-
-far-run-requires-2 : tie.Need-far-run-requires-2
-far-run-requires-2 c κs = search needs
 
 returns-3 : tie.Need-returns-3
 returns-3 c = let f = c .far-run2 .ensures in (f .0 ∙ c .before .before .before .walk .ensures .2, f .1)
@@ -30,11 +15,4 @@ returns-3 c = let f = c .far-run2 .ensures in (f .0 ∙ c .before .before .befor
 pub next-run-spec : {M : Type 1} → statement M
 next-run-spec =
     tie.close
-    (tie.spec
-    far-run-requires
-    returns
-    near-requires
-    walk-requires
-    returns-2
-    far-run-requires-2
-    returns-3)
+    (tie.spec (λ c κs. search needs) (search needs) (search needs) (λ c κs. search needs) returns-2 (λ c κs. search needs) returns-3)

@@ -1,13 +1,9 @@
 -- `utf8::scan::plain_block` meets its contract.
 -- Assumes nothing.
-use mathlib.Core.Path.{sym}
 use borrow.Author.Needs.{needs}
 use borrow.Author.Tests.{eq-eqb, ne-eqb}
 use Rattle.core.proofs.utf8.scan.plain_block.Statement.{statement}
 use Rattle.core.proofs.utf8.scan.plain_block.Tie as tie
-
-ascii-in-requires : tie.Need-ascii-in-requires
-ascii-in-requires c κs = search needs
 
 returns : tie.Need-returns
 returns c = rw (eq-eqb _ _ (c .before .if1 .taken)) (c .ascii-in .ensures)
@@ -16,4 +12,4 @@ returns-2 : tie.Need-returns-2
 returns-2 c = rw (ne-eqb _ _ (c .if1 .left))
 
 pub plain-block-spec : {M : Type 1} → statement M
-plain-block-spec = tie.close (tie.spec ascii-in-requires returns returns-2)
+plain-block-spec = tie.close (tie.spec (search needs) returns returns-2)

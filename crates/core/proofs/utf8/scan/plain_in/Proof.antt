@@ -30,18 +30,6 @@ abbrev μ-loop : tie.MeasureT-loop
 loop-holds : tie.Need-loop-holds Inv-loop μ-loop
 loop-holds c = (omega arith, rw (add-zero, sub-zero))
 
-add-b : tie.Need-add-b Inv-loop μ-loop
-add-b c = search needs
-
-shared-slice-read-b : tie.Need-shared-slice-read-b Inv-loop μ-loop
-shared-slice-read-b c = search needs
-
-add-k : tie.Need-add-k Inv-loop μ-loop
-add-k c = search needs
-
-loop-less : tie.Need-loop-less Inv-loop μ-loop
-loop-less c = omega arith
-
 loop-again : tie.Need-loop-again Inv-loop μ-loop
 loop-again c = (omega arith, turn (now (c .before .before .before .args .s)) (c .before .before .before .args .at) (c .before .before .before .args .n) (c .before .before .loop .k) (c .before .before .loop .all) _ (c .before .before .before .pre) (c .before .loop-test .taken) (c .before .before .loop .inv .1))
 
@@ -51,13 +39,4 @@ returns c = every-done plain (drop (c .before .before .args .at + c .before .loo
 pub plain-in-spec : {M : Type 1} → statement M
 plain-in-spec =
     tie.close
-    (tie.spec
-    Inv-loop
-    μ-loop
-    loop-holds
-    add-b
-    shared-slice-read-b
-    add-k
-    loop-less
-    loop-again
-    returns)
+    (tie.spec Inv-loop μ-loop loop-holds (search needs) (search needs) (search needs) (λ c. omega arith) loop-again returns)

@@ -22,37 +22,22 @@ abbrev μ-loop : tie.MeasureT-loop
 loop-holds : tie.Need-loop-holds Inv-loop μ-loop
 loop-holds c = (omega arith, omega arith, zero-state, rw (state-zero 0 refl) (inside-start _ _ (omega arith)), refl)
 
-shared-slice-read-next-state : tie.Need-shared-slice-read-next-state Inv-loop μ-loop
-shared-slice-read-next-state c = omega arith
-
 next-state-requires : tie.Need-next-state-requires Inv-loop μ-loop
 next-state-requires c κs = (c .before .before .loop .inv .2, c .before .before .before .before .pre .2, c .before .before .before .before .pre .3)
 
 sub-at-least-one : tie.Need-sub-at-least-one Inv-loop μ-loop
 sub-at-least-one c = omega (arith, c .before .before .before .before .loop .inv .3 .start)
 
-at-least-one-requires : tie.Need-at-least-one-requires Inv-loop μ-loop
-at-least-one-requires c κs = search needs
-
 returns : tie.Need-returns Inv-loop μ-loop
 returns c =
     let b = inside-turn (now (c .before .before .before .before .before .before .before .args .s)) _ _ _ _ (c .before .before .before .before .before .loop .inv .3) (omega arith) (c .before .before .next-state .ensures .1) .lost (state-lost _ (c .before .if1 .taken)) in
     (c .before .before .before .before .before .loop .inv .0, omega (arith, c .before .before .before .before .before .loop .inv .3 .start), c .before .before .before .before .before .loop .inv .4, λ e. absurd (omega (arith, c .at-least-one .ensures, e)), λ h. (c .at-least-one .ensures ∙ b .size, b .here))
-
-add-j : tie.Need-add-j Inv-loop μ-loop
-add-j c = omega arith
-
-loop-less : tie.Need-loop-less Inv-loop μ-loop
-loop-less c = omega arith
 
 loop-again : tie.Need-loop-again Inv-loop μ-loop
 loop-again c =
     let t = inside-turn (now (c .before .before .before .before .before .before .before .args .s)) _ _ _ _ (c .before .before .before .before .before .loop .inv .3) (omega arith) (c .before .before .next-state .ensures .1) in
     let z = state-zero _ (c .if2 .taken) in
     (omega (arith, c .before .before .before .before .before .loop .inv .3 .start), omega arith, c .before .before .next-state .ensures .0, inside-new _ _ _ (omega arith) z, inside-done _ _ _ _ t (c .before .before .before .before .before .loop .inv .3 .start) z ∙ c .before .before .before .before .before .loop .inv .4)
-
-loop-less-2 : tie.Need-loop-less-2 Inv-loop μ-loop
-loop-less-2 c = omega arith
 
 loop-again-2 : tie.Need-loop-again-2 Inv-loop μ-loop
 loop-again-2 c =
@@ -76,20 +61,5 @@ returns-3 c =
 pub walk-spec : {M : Type 1} → statement M
 walk-spec =
     tie.close
-    (tie.spec
-    Inv-loop
-    μ-loop
-    loop-holds
-    shared-slice-read-next-state
-    next-state-requires
-    sub-at-least-one
-    at-least-one-requires
-    returns
-    add-j
-    loop-less
-    loop-again
-    loop-less-2
-    loop-again-2
-    sub-t17
-    returns-2
-    returns-3)
+    (tie.spec Inv-loop μ-loop loop-holds (λ c. omega arith) next-state-requires sub-at-least-one (search needs) returns
+    (λ c. omega arith) (λ c. omega arith) loop-again (λ c. omega arith) loop-again-2 sub-t17 returns-2 returns-3)

@@ -6,12 +6,6 @@ use borrow.Author.Needs.{needs}
 use Rattle.core.proofs.utf8.step.match1.Statement.{statement}
 use Rattle.core.proofs.utf8.step.match1.Tie as tie
 
-shared-slice-read-inside : tie.Need-shared-slice-read-inside
-shared-slice-read-inside c = search needs
-
-inside-requires : tie.Need-inside-requires
-inside-requires c κs = search needs
-
 returns : tie.Need-returns
 returns c = matched-hit _ _ _ _ (c .before .before .before .if1 .taken) (sym (c .before .inside .ensures) ∙ c .if2 .taken) 0 (matched-none _)
 
@@ -22,5 +16,4 @@ returns-3 : tie.Need-returns-3
 returns-3 c = matched-past _ _ _ _ (c .if1 .left)
 
 pub match1-spec : {M : Type 1} → statement M
-match1-spec =
-    tie.close (tie.spec shared-slice-read-inside inside-requires returns returns-2 returns-3)
+match1-spec = tie.close (tie.spec (search needs) (search needs) returns returns-2 returns-3)

@@ -7,18 +7,6 @@ use borrow.Author.Needs.{needs}
 use Rattle.core.proofs.utf8.step.match2.Statement.{statement}
 use Rattle.core.proofs.utf8.step.match2.Tie as tie
 
-shared-slice-read-inside : tie.Need-shared-slice-read-inside
-shared-slice-read-inside c = search needs
-
-inside-requires : tie.Need-inside-requires
-inside-requires c κs = search needs
-
-add-match1 : tie.Need-add-match1
-add-match1 c = search needs
-
-match1-requires : tie.Need-match1-requires
-match1-requires c κs = search needs
-
 add-result : tie.Need-add-result
 add-result c = let h = matched-small _ _ _ (c .match1 .ensures) in omega arith
 
@@ -34,12 +22,4 @@ returns-3 c = matched-past _ _ _ _ (c .if1 .left)
 pub match2-spec : {M : Type 1} → statement M
 match2-spec =
     tie.close
-    (tie.spec
-    shared-slice-read-inside
-    inside-requires
-    add-match1
-    match1-requires
-    add-result
-    returns
-    returns-2
-    returns-3)
+    (tie.spec (search needs) (search needs) (search needs) (search needs) add-result returns returns-2 returns-3)

@@ -9,56 +9,26 @@ use borrow.Author.Needs.{needs}
 use Rattle.core.proofs.utf8.step.step_at.Statement.{statement}
 use Rattle.core.proofs.utf8.step.step_at.Tie as tie
 
-shared-slice-read-b : tie.Need-shared-slice-read-b
-shared-slice-read-b c = search needs
-
 returns : tie.Need-returns
 returns c = step-one _ _ (ascii-class _ (c .if1 .taken))
-
-class-in-requires : tie.Need-class-in-requires
-class-in-requires c κs = search needs
-
-add-next : tie.Need-add-next
-add-next c = search needs
-
-match1-requires : tie.Need-match1-requires
-match1-requires c κs = search needs
 
 judged-requires : tie.Need-judged-requires
 judged-requires c κs = let h = matched-small _ _ _ (c .match1 .ensures) in omega arith
 
-match2-requires : tie.Need-match2-requires
-match2-requires c κs = search needs
-
 judged-requires-2 : tie.Need-judged-requires-2
 judged-requires-2 c κs = let h = matched-small _ _ _ (c .match2 .ensures) in omega arith
-
-match2-requires-2 : tie.Need-match2-requires-2
-match2-requires-2 c κs = search needs
 
 judged-requires-3 : tie.Need-judged-requires-3
 judged-requires-3 c κs = let h = matched-small _ _ _ (c .match22 .ensures) in omega arith
 
-match2-requires-3 : tie.Need-match2-requires-3
-match2-requires-3 c κs = search needs
-
 judged-requires-4 : tie.Need-judged-requires-4
 judged-requires-4 c κs = let h = matched-small _ _ _ (c .match23 .ensures) in omega arith
-
-match3-requires : tie.Need-match3-requires
-match3-requires c κs = search needs
 
 judged-requires-5 : tie.Need-judged-requires-5
 judged-requires-5 c κs = let h = matched-small _ _ _ (c .match3 .ensures) in omega arith
 
-match3-requires-2 : tie.Need-match3-requires-2
-match3-requires-2 c κs = search needs
-
 judged-requires-6 : tie.Need-judged-requires-6
 judged-requires-6 c κs = let h = matched-small _ _ _ (c .match32 .ensures) in omega arith
-
-match3-requires-3 : tie.Need-match3-requires-3
-match3-requires-3 c κs = search needs
 
 judged-requires-7 : tie.Need-judged-requires-7
 judged-requires-7 c κs = let h = matched-small _ _ _ (c .match33 .ensures) in omega arith
@@ -105,31 +75,7 @@ returns-10 c =
 pub step-at-spec : {M : Type 1} → statement M
 step-at-spec =
     tie.close
-    (tie.spec
-    shared-slice-read-b
-    returns
-    class-in-requires
-    add-next
-    match1-requires
-    judged-requires
-    match2-requires
-    judged-requires-2
-    match2-requires-2
-    judged-requires-3
-    match2-requires-3
-    judged-requires-4
-    match3-requires
-    judged-requires-5
-    match3-requires-2
-    judged-requires-6
-    match3-requires-3
-    judged-requires-7
-    returns-2
-    returns-3
-    returns-4
-    returns-5
-    returns-6
-    returns-7
-    returns-8
-    returns-9
-    returns-10)
+    (tie.spec (search needs) returns (λ c κs. search needs) (search needs) (search needs) judged-requires (search needs) judged-requires-2
+    (search needs) judged-requires-3 (search needs) judged-requires-4 (search needs) judged-requires-5 (search needs)
+    judged-requires-6 (search needs) judged-requires-7 returns-2 returns-3 returns-4 returns-5 returns-6 returns-7 returns-8
+    returns-9 returns-10)
