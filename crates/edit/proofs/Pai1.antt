@@ -6,9 +6,9 @@ use mathlib.Core.List.{List, []}
 use lib.ListN.{length, take}
 use Rattle.core.specs.Outcome.{Outcome}
 use Rattle.core.proofs.Numbers.{sets-read}
-use Rattle.bflan.specs.Writing.{writing}
 use Rattle.bflan.proofs.round_trip.Verdicts.{written-there, accepted-within}
 use Rattle.bflan.specs.Layout.{written, size}
+use Rattle.bflan.specs.pai1.Calls.{writing}
 use Rattle.bflan.specs.pai1.Layout.{sectionLay}
 use Rattle.bflan.specs.Limits.{limit}
 use Rattle.bflan.specs.pai1.Limits.{Within}

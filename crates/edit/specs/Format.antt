@@ -6,14 +6,13 @@ use mathlib.Core.List.{List, [], _∷_}
 use lib.ListN.{length}
 use lib.Seq.{sets}
 use Rattle.core.specs.Outcome.{accepted}
-use Rattle.bflan.specs.Answer.{reading}
 use Rattle.bflan.specs.Layout.{written}
+use Rattle.bflan.specs.pai1.Calls.{reading, writing}
 use Rattle.bflan.specs.pai1.Layout.{sectionLay}
 use Rattle.bflan.specs.pai1.Places.{Spot, Found, locate, fieldOf, replaced}
 use Rattle.bflan.specs.Reader.{Res, Item}
 use Rattle.bflan.specs.pai1.Reading.{section}
 use Rattle.bflan.specs.pai1.Record.{PaneAnimInfo, words, texts}
-use Rattle.bflan.specs.Writing.{writing}
 use Rattle.bflan.specs.declared.place.Place.{Place}
 
 pub record Format : Type 1 where

@@ -16,8 +16,9 @@ use Rattle.core.specs.Part.{partOf}
 use Rattle.core.proofs.Numbers.{sets-read}
 use Rattle.bflan.specs.declared.fault.Fault.{Fault}
 use Rattle.bflan.specs.declared.fault.Fault.the-variants.{PastEnd, NoZero, NotPai1}
-use Rattle.bflan.specs.Answer.{refused, tooLong, tooShort, ofFault, filled, reading}
+use Rattle.bflan.specs.Answer.{refused, tooLong, tooShort, ofFault, filled, readingBy}
 use Rattle.bflan.specs.Judge.{Judged, fine, badWord, badText}
+use Rattle.bflan.specs.pai1.Calls.{reading, writing}
 use Rattle.bflan.specs.pai1.Judge.{section as judge}
 use Rattle.bflan.specs.Layout.{size, written}
 use Rattle.bflan.specs.pai1.Layout.{sectionLay}
@@ -27,7 +28,7 @@ use Rattle.bflan.specs.Reader.{Res, ok, stop, Item}
 use Rattle.bflan.specs.pai1.Reading.{section}
 use Rattle.bflan.specs.pai1.Record.{PaneAnimInfo, words, texts}
 use Rattle.bflan.specs.Items.{wordsOf, textsOf}
-use Rattle.bflan.specs.Writing.{intoOutput, judged, writing}
+use Rattle.bflan.specs.Writing.{intoOutput, judged, writingBy}
 use Rattle.bflan.proofs.Layouts.{size-written}
 use Rattle.bflan.proofs.round_trip.RoundTrip.{read-written}
 use Rattle.bflan.proofs.round_trip.Verdicts.{texts-size, written-there, accepted-within}
@@ -96,14 +97,14 @@ low-filled s w x (ok is end) =
     both LowRead (leb n (length w) && leb m (length x)) (accepted (n ∷ m ∷ []), sets w 0 (wordsOf s is), sets x 0 (textsOf s is)) (tooShort n m, w, x) (omega arith) (omega arith)
 
 low-reading : (s w x : List ℕ) → LowRead (reading s w x)
-unfolding reading
+unfolding readingBy
 low-reading s w x = both LowRead (leb (length s) limit) (filled s w x (section s 0)) (tooLong (length s), w, x) (low-filled s w x (section s 0)) (omega arith)
 
 -- the number is one of 0 to 9, and a refusal leaves the output as it was
 abbrev LowWritten : List ℕ → Outcome × List ℕ → Type 0
 LowWritten out r = (r .0 .number ≤ 9) × ((r .0 .number ≡ 0 → ⊥) → r .1 ≡ out)
 
-low-judged : (out : List ℕ) (v : Judged PaneAnimInfo) → LowWritten out (judged out v)
+low-judged : (out : List ℕ) (v : Judged PaneAnimInfo) → LowWritten out (judged sectionLay out v)
 unfolding judged intoOutput
 low-judged out (badWord i) = (omega arith, λ z. refl)
 low-judged out (badText i) = (omega arith, λ z. refl)
@@ -116,7 +117,7 @@ low-judged out (fine r i j) =
     (omega arith, λ z. refl)
 
 low-writing : (w x out : List ℕ) → LowWritten out (writing w x out)
-unfolding writing
+unfolding writingBy
 low-writing w x out = low-judged out (judge w x 0 0)
 
 -- the same of the program, which says no value of a refusal

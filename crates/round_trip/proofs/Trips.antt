@@ -20,12 +20,13 @@ use Rattle.bflan.specs.declared.read.ReadAnswer.{ReadAnswer}
 use Rattle.bflan.specs.declared.read.ReadAnswer.the-variants.{Accepted, Refused as ReadRefused, TooLong, TooShort}
 use Rattle.bflan.specs.declared.write.WriteAnswer.{WriteAnswer}
 use Rattle.bflan.specs.declared.write.WriteAnswer.the-variants.{Written, BadWord, BadText, OverLimit, OutputTooShort}
-use Rattle.bflan.specs.Answer.{tooLong, tooShort, ofFault, ofReading, filled, reading}
+use Rattle.bflan.specs.Answer.{tooLong, tooShort, ofFault, ofReading, filled, readingBy}
 use Rattle.bflan.specs.Limits.{limit}
 use Rattle.bflan.specs.Reader.{Res, ok, stop, Item}
+use Rattle.bflan.specs.pai1.Calls.{reading, writing}
 use Rattle.bflan.specs.pai1.Reading.{section}
 use Rattle.bflan.specs.Items.{wordsOf, textsOf}
-use Rattle.bflan.specs.Writing.{ofWriting, writing}
+use Rattle.bflan.specs.Writing.{ofWriting}
 use Rattle.bflan.proofs.read.ReadAnswer.{the-type as readType}
 use Rattle.bflan.proofs.write.WriteAnswer.{the-type as writeType}
 use Rattle.round_trip.specs.Trip.{ofTrip, said, most, writtenAgain, afterReading, trip}
@@ -127,7 +128,7 @@ module _ (s w x : List ℕ) (z : number (reading s w x) ≡ 0) where
   by-length false e = absurd (omega (arith, ap number e, z))
 
   pub accepted-fills : Filled s w x
-  unfolding reading
+  unfolding readingBy
   accepted-fills = by-length (leb (length s) limit) refl
 
 pub held : (s w x w′ x′ : List ℕ) (n m : ℕ) → (ofReading (Accepted n m), w′, x′) ≡ reading s w x → (n ≤ length w′) × (m ≤ length x′)

@@ -683,10 +683,10 @@ module _ (s : List ℕ) where
 
       pub locating-on : (t : Tally) (q : ℕ) (l : Located) → r ≡ Went t q → l ≡ ofSpot (locate s p) → l ≡ locating s p
       unfolding locating locatingIn
-      locating-on t q l e d = rw (le-leb (length s) limit h, whole s 0 t q (sym em ∙ e) .reads) d
+      locating-on t q l e d = rw (le-leb (length s) limit h, whole section s 0 t q (sym em ∙ e) .reads) d
 
       pub locating-section : (t : Tally) (q : ℕ) → r ≡ Went t q → SectionAt s
-      locating-section t q e = let w = whole s 0 t q (sym em ∙ e) in section-at s (w .items) (w .last) (w .reads)
+      locating-section t q e = let w = whole section s 0 t q (sym em ∙ e) in section-at s (w .items) (w .last) (w .reads)
 
     -- what an answer says
     pub record Spotted (at : ℕ) (f : Field) : Type 0 where

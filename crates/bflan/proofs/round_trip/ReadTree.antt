@@ -27,7 +27,8 @@ use Rattle.bflan.specs.pai1.Reading.{keyOf, curveOf, countOf, keys, targ
 use Rattle.bflan.specs.pai1.Record.{Standard, ExtendedUserData, PaneAnimInfo, keyWidths, targetCells, datumCells, infoCells, contentCells, textureCells, cells, words, texts}
 use Rattle.bflan.specs.Cells.{Cell, word as wordCell, wordsIn, bytesIn, each}
 use Rattle.bflan.specs.Items.{shownAt, wordsOf, textsOf}
-use Rattle.bflan.proofs.reader.Bounds.{Known, Gives, done, none, either, next, past, count-le, num-lt}
+use Rattle.bflan.proofs.reader.Bounds.{Known, Gives, done, none, either, next, past, num-lt}
+use Rattle.bflan.proofs.reader.SectionBounds.{count-le}
 use Rattle.bflan.proofs.letters.Codes.{letters-fit, target-fits, target-fits-kept, letters-is}
 use Rattle.bflan.proofs.reader.Emits.{shown-part}
 use Rattle.bflan.proofs.judge.Judging.{free-none, AllOf}
@@ -155,7 +156,7 @@ module _ (s : List ℕ) (bytes : Bytes s) (short : length s ≤ limit) where
   Word k v = v < 256 ^ k
 
   number : (k : ℕ) → Gives s (Word k) (num k)
-  number k = num-lt s bytes short k
+  number k = num-lt s bytes k
 
   -- n numbers of four bytes
   numbers-tree : (n : ℕ) → Gives s (AllOf (Word 4) n) (numbers n)

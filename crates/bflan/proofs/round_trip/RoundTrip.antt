@@ -22,7 +22,8 @@ use Rattle.core.proofs.Zeros.{none-free, ended-there, before-free}
 use Rattle.core.proofs.utf8.Laws.{decode-well}
 use lib.Seq.{sets}
 use Rattle.core.specs.Outcome.{accepted}
-use Rattle.bflan.specs.Answer.{reading, filled}
+use Rattle.bflan.specs.Answer.{filled, readingBy}
+use Rattle.bflan.specs.pai1.Calls.{reading}
 use Rattle.bflan.specs.pai1.Letters.{fleu}
 use Rattle.bflan.specs.Layout.{nothing, number, bytes, _⨾_, size, written, zeros, parts, table, ended}
 use Rattle.bflan.specs.pai1.Layout.{keyLay, targetLay, datumLay, infoHead, infoLay, infosOut, tableFrom, infosFrom, userLay, contentBody, contentLay, namesEnd, contentTable, sectionSize, sectionLay}
@@ -372,7 +373,7 @@ reads-back r w =
 -- the same of the call: with long enough tables it is accepted, and fills them with the record
 pub read-written : (r : PaneAnimInfo) → Within r → (w x : List ℕ) → length (words r) ≤ length w → length (texts r) ≤ length x
     → reading (written (sectionLay r)) w x ≡ (accepted (length (words r) ∷ length (texts r) ∷ []), sets w 0 (words r), sets x 0 (texts r))
-unfolding reading filled
+unfolding readingBy filled
 read-written r v w x hw hx =
     let b = reads-back r v in
     let short : length (written (sectionLay r)) ≤ 16777216 = omega (arith, size-written (sectionLay r), v .short) in

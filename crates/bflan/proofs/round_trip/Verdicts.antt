@@ -12,6 +12,7 @@ use lib.Seq.{sets}
 use Rattle.core.specs.Choice.{pick}
 use Rattle.core.specs.Outcome.{Outcome, accepted}
 use Rattle.bflan.specs.Judge.{Judged, fine, badWord, badText}
+use Rattle.bflan.specs.pai1.Calls.{writing}
 use Rattle.bflan.specs.pai1.Judge.{section}
 use Rattle.bflan.specs.Layout.{Layout, size, written, parts, ended}
 use Rattle.bflan.specs.pai1.Layout.{targetLay, datumLay, infoLay, contentBody, contentLay, sectionLay}
@@ -19,7 +20,7 @@ use Rattle.bflan.specs.Limits.{limit}
 use Rattle.bflan.specs.pai1.Limits.{Fine, Within}
 use Rattle.bflan.specs.pai1.Record.{AnimTarget, ExtendedUserDataAnim, AnimInfo, Standard, ExtendedUserData, AnimContent, PaneAnimInfo, targetCells, datumCells, infoCells, contentCells, textureCells, words, texts}
 use Rattle.bflan.specs.Cells.{Cell, word, bytesIn, each}
-use Rattle.bflan.specs.Writing.{overLimit, outputShort, intoOutput, judged, writing}
+use Rattle.bflan.specs.Writing.{overLimit, outputShort, intoOutput, judged, writingBy}
 use Rattle.bflan.proofs.judge.Judging.{byteCount, byte-counts, texture-bytes, datum-bytes, content-bytes, section-bytes, judge-flat, judge-accepts}
 
 -- ---- sizes
@@ -82,7 +83,7 @@ flat-once r q f g e d = fine-same (sym (judge-flat r f) ∙ fine-judged (words r
 
 pub written-there : (r : PaneAnimInfo) (out : List ℕ) → Within r → size (sectionLay r) ≤ length out
     → writing (words r) (texts r) out ≡ (accepted (size (sectionLay r) ∷ []), sets out 0 (written (sectionLay r)))
-unfolding writing judged intoOutput
+unfolding writingBy judged intoOutput
 written-there r out h l =
     rw (judge-flat r (h .fine), le-leb (size (sectionLay r)) limit (h .short), le-leb (size (sectionLay r)) (length out) l)
 
@@ -93,7 +94,7 @@ byRoom r out b = pick b (accepted (size (sectionLay r) ∷ []), sets out 0 (writ
 -- what is refused with 6, 7 or 8 is no record within the limits
 pub refused-beyond : (w x out : List ℕ) → 6 ≤ writing w x out .0 .number → writing w x out .0 .number ≤ 8
     → (r : PaneAnimInfo) → words r ≡ w → texts r ≡ x → Within r → ⊥
-unfolding writing judged intoOutput
+unfolding writingBy judged intoOutput
 refused-beyond w x out l u r e d h =
     let a : writing w x out ≡ byRoom r out (leb (size (sectionLay r)) (length out)) = rw (fine-judged w x r (h .fine) e d, le-leb (size (sectionLay r)) limit (h .short)) in
     go (leb (size (sectionLay r)) (length out)) (subst (λ z. 6 ≤ z .0 .number) a l) (subst (λ z. z .0 .number ≤ 8) a u)
@@ -112,7 +113,7 @@ pub record WrittenOf (w x out : List ℕ) : Type 0 where
   pub answer : writing w x out ≡ (accepted (size (sectionLay tree) ∷ []), sets out 0 (written (sectionLay tree)))
 
 pub accepted-within : (w x out : List ℕ) → writing w x out .0 .number ≡ 0 → WrittenOf w x out
-unfolding writing judged intoOutput
+unfolding writingBy judged intoOutput
 accepted-within w x out e = go (section w x 0 0) refl e
   where
     sized : (r : PaneAnimInfo) (i j : ℕ) → section w x 0 0 ≡ fine r i j → (a b : Bool) → leb (size (sectionLay r)) limit ≡ a → leb (size (sectionLay r)) (length out) ≡ b
@@ -131,7 +132,7 @@ accepted-within w x out e = go (section w x 0 0) refl e
     sized r i j h true false a b e = absurd (omega arith)
     sized r i j h false b a c e = absurd (omega arith)
 
-    go : (v : Judged PaneAnimInfo) → section w x 0 0 ≡ v → judged out v .0 .number ≡ 0 → WrittenOf w x out
+    go : (v : Judged PaneAnimInfo) → section w x 0 0 ≡ v → judged sectionLay out v .0 .number ≡ 0 → WrittenOf w x out
     go (fine r i j) h e = sized r i j h (leb (size (sectionLay r)) limit) (leb (size (sectionLay r)) (length out)) refl refl e
     go (badWord n) h e = absurd (omega arith)
     go (badText n) h e = absurd (omega arith)
