@@ -31,7 +31,8 @@ use Rattle.bflan.specs.Items.{wordsOf, textsOf}
 use Rattle.bflan.specs.Writing.{intoOutput, judged, writingBy}
 use Rattle.bflan.proofs.Layouts.{size-written}
 use Rattle.bflan.proofs.round_trip.RoundTrip.{read-written}
-use Rattle.bflan.proofs.round_trip.Verdicts.{texts-size, written-there, accepted-within}
+use Rattle.bflan.proofs.round_trip.Pai1.{judges, texts-size}
+use Rattle.bflan.proofs.round_trip.Verdicts.{written-there, accepted-within}
 use Rattle.round_trip.specs.Trip.{said, most, writtenAgain, afterReading, trip, refusal, repliedWith, replied, printed}
 use Rattle.round_trip.proofs.Trips.{Filled, accepted-fills}
 
@@ -43,7 +44,7 @@ module _ (r : PaneAnimInfo) (v : Within r) (w x out : List ℕ) (short : size (s
   unfolding said writtenAgain afterReading trip
   goes-through =
       let s : length (written (sectionLay r)) ≤ most = omega (arith, size-written (sectionLay r), short) in
-      rw (le-leb _ _ s, read-written r v w x hw hx, sets-read w 0 (words r) (omega (arith, hw)), sets-read x 0 (texts r) (omega (arith, hx)), written-there r out v ho)
+      rw (le-leb _ _ s, read-written r v w x hw hx, sets-read w 0 (words r) (omega (arith, hw)), sets-read x 0 (texts r) (omega (arith, hx)), written-there judges sectionLay r out v ho)
 
 -- what stands at the output's start is printed
 printed-start : (out v : List ℕ) → length v ≤ length out → partOf (sets out 0 v) 0 (length v) ≡ v
@@ -219,7 +220,7 @@ trip-accepted s w x out z =
     let f : Filled s w x = accepted-fills s w x (read-first (reading s w x) out (sym (ap (λ (r : Outcome × List ℕ). r .0 .number) e) ∙ z)) in
     let g : trip s w x out ≡ writtenAgain (f .words) (f .texts) out = e ∙ after-filled s w x out f in
     let y : writing (f .words) (f .texts) out .0 .number ≡ 0 = sym (again-number (f .words) (f .texts) out) ∙ sym (ap (λ (r : Outcome × List ℕ). r .0 .number) g) ∙ z in
-    let a = accepted-within (f .words) (f .texts) out y in
+    let a = accepted-within judges sectionLay (f .words) (f .texts) out y in
     let n : length (written (sectionLay (a .tree))) ≡ size (sectionLay (a .tree)) = size-written (sectionLay (a .tree)) in
     let fits : length (written (sectionLay (a .tree))) ≤ length out = omega (arith, n, a .room) in
     let h : trip s w x out ≡ (accepted (size (sectionLay (a .tree)) ∷ []), sets out 0 (written (sectionLay (a .tree)))) =

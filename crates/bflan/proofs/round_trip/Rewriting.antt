@@ -21,8 +21,8 @@ use Rattle.bflan.specs.declared.fault.Fault.{Fault}
 use Rattle.bflan.specs.declared.fault.Fault.the-variants.{PastEnd, NoZero, NotPai1}
 use Rattle.bflan.specs.Answer.{refused, tooLong, tooShort, ofFault, filled, readingBy}
 use Rattle.bflan.specs.pai1.Calls.{reading, writing}
-use Rattle.bflan.specs.pai1.Judge.{section as judge, content as judgeContent}
-use Rattle.bflan.specs.Judge.{nextWord as judgeWord, nextText as judgeText, times}
+use Rattle.bflan.specs.pai1.Judge.{pane, section as judge, content as judgeContent}
+use Rattle.bflan.specs.Judge.{nextWord as judgeWord, nextText as judgeText, times, whole}
 use Rattle.bflan.specs.Limits.{limit}
 use Rattle.bflan.specs.pai1.Layout.{sectionLay}
 use Rattle.bflan.specs.pai1.Limits.{Readable}
@@ -137,5 +137,5 @@ illNamed =
 pub ill-named : (out : List ℕ)
     → (reading illNamed (replicate 7 0) (replicate 30 0) .0 ≡ accepted (7 ∷ 30 ∷ []))
     × (writing (readWords illNamed (replicate 7 0) (replicate 30 0)) (readTexts illNamed (replicate 7 0) (replicate 30 0)) out ≡ (refused 6 (4 ∷ []), out))
-unfolding readWords readTexts readingBy filled wordsOf textsOf writingBy judged judge judgeWord judgeText judgeContent times section body contents content visit numbers num seekTo fixedText infoTable typeOf flagOf readOf get val seekOf fixedOf beforeZero rows within classOf laterOf matched more good pieceOf piecesAfter pieces shown decoded decode
+unfolding readWords readTexts readingBy filled wordsOf textsOf writingBy judged judge pane whole judgeWord judgeText judgeContent times section body contents content visit numbers num seekTo fixedText infoTable typeOf flagOf readOf get val seekOf fixedOf beforeZero rows within classOf laterOf matched more good pieceOf piecesAfter pieces shown decoded decode
 ill-named out = (refl, refl)
