@@ -12,7 +12,7 @@ use Rattle.core.specs.Outcome.{Outcome, accepted, refusedPast, refusedNoZero}
 use Rattle.core.specs.Part.{inside, partOf, partPtr}
 use Rattle.core.specs.Utf8.{decode, wellFormed}
 use Rattle.bflan.specs.declared.fault.Fault.{Fault}
-use Rattle.bflan.specs.declared.fault.Fault.the-variants.{PastEnd, NoZero, NotPai1}
+use Rattle.bflan.specs.declared.fault.Fault.the-variants.{PastEnd, NoZero, OtherLetters}
 use Rattle.bflan.specs.declared.read.ReadAnswer.{ReadAnswer}
 use Rattle.bflan.specs.declared.read.ReadAnswer.the-variants.{Accepted, Refused, TooLong, TooShort}
 use Rattle.bflan.specs.declared.find.FindAnswer.{FindAnswer}
@@ -26,8 +26,8 @@ use Rattle.bflan.specs.Items.{wordsOf, textsOf, textsIn}
 abbrev pub refused : ℕ → List ℕ → Outcome
 refused n vs = record { number = n; values = vs }
 
-abbrev pub notPai1 : ℕ → Outcome
-notPai1 letters = refused 1 (letters ∷ [])
+abbrev pub otherLetters : ℕ → Outcome
+otherLetters letters = refused 1 (letters ∷ [])
 
 abbrev pub tooLong : ℕ → Outcome
 tooLong size = refused 2 (size ∷ [])
@@ -41,7 +41,7 @@ noPlace = refused 10 (0 ∷ [])
 unfoldable pub ofFault : Fault → Outcome
 ofFault (PastEnd offset requested) = refusedPast offset requested
 ofFault (NoZero start) = refusedNoZero start
-ofFault (NotPai1 letters) = notPai1 letters
+ofFault (OtherLetters letters) = otherLetters letters
 
 unfoldable pub ofReading : ReadAnswer → Outcome
 ofReading (Accepted words bytes) = accepted (words ∷ bytes ∷ [])

@@ -15,7 +15,7 @@ use Rattle.core.specs.Outcome.{Outcome, accepted}
 use Rattle.core.specs.Part.{partOf}
 use Rattle.core.proofs.Numbers.{sets-read}
 use Rattle.bflan.specs.declared.fault.Fault.{Fault}
-use Rattle.bflan.specs.declared.fault.Fault.the-variants.{PastEnd, NoZero, NotPai1}
+use Rattle.bflan.specs.declared.fault.Fault.the-variants.{PastEnd, NoZero, OtherLetters}
 use Rattle.bflan.specs.Answer.{refused, tooLong, tooShort, ofFault, filled, readingBy}
 use Rattle.bflan.specs.Judge.{Judged, fine, badWord, badText}
 use Rattle.bflan.specs.pai1.Calls.{reading, writing}
@@ -84,7 +84,7 @@ low-fault : (f : Fault) → ofFault f .number ≤ 9
 unfolding ofFault
 low-fault (PastEnd offset requested) = omega arith
 low-fault (NoZero start) = omega arith
-low-fault (NotPai1 letters) = omega arith
+low-fault (OtherLetters letters) = omega arith
 
 abbrev LowRead : Outcome × List ℕ × List ℕ → Type 0
 LowRead r = r .0 .number ≤ 9

@@ -15,7 +15,7 @@ use types.Run.{OneOf, miss}
 use Rattle.core.specs.Choice.{pick}
 use Rattle.core.specs.Outcome.{Outcome, accepted}
 use Rattle.bflan.specs.declared.fault.Fault.{Fault}
-use Rattle.bflan.specs.declared.fault.Fault.the-variants.{PastEnd, NoZero, NotPai1}
+use Rattle.bflan.specs.declared.fault.Fault.the-variants.{PastEnd, NoZero, OtherLetters}
 use Rattle.bflan.specs.declared.read.ReadAnswer.{ReadAnswer}
 use Rattle.bflan.specs.declared.read.ReadAnswer.the-variants.{Accepted, Refused as ReadRefused, TooLong, TooShort}
 use Rattle.bflan.specs.declared.write.WriteAnswer.{WriteAnswer}
@@ -63,7 +63,7 @@ fault-said : (f : Fault) (w x out : List ℕ) → (ofTrip (Refused (ofFault f .n
 unfolding ofTrip said ofFault afterReading
 fault-said (PastEnd offset requested) w x out = refl
 fault-said (NoZero start) w x out = refl
-fault-said (NotPai1 letters) w x out = refl
+fault-said (OtherLetters letters) w x out = refl
 
 unread : (a : ReadAnswer) (w x out : List ℕ) → OneOf (1 ∷ 2 ∷ 3 ∷ []) (tagOf readType a) → (ofTrip (Refused (ofReading a .number)), out) ≡ afterReading (ofReading a, w, x) out
 unfolding ofTrip said ofReading afterReading
@@ -108,7 +108,7 @@ module _ (s w x : List ℕ) (z : number (reading s w x) ≡ 0) where
   unfolding ofFault
   filled-fault (PastEnd offset requested) e = absurd (omega (arith, ap number e, z))
   filled-fault (NoZero start) e = absurd (omega (arith, ap number e, z))
-  filled-fault (NotPai1 letters) e = absurd (omega (arith, ap number e, z))
+  filled-fault (OtherLetters letters) e = absurd (omega (arith, ap number e, z))
 
   filled-both : (ws xs : List ℕ) (a b : Bool) → leb (length ws) (length w) ≡ a → leb (length xs) (length x) ≡ b
       → reading s w x ≡ pick (a && b) (accepted (length ws ∷ length xs ∷ []), sets w 0 ws, sets x 0 xs) (tooShort (length ws) (length xs), w, x)

@@ -14,7 +14,7 @@ use Rattle.core.specs.Text.{beforeZero, endedOf}
 use Rattle.core.specs.declared.text.TextAt.{TextAt}
 use Rattle.core.specs.declared.text.TextAt.the-variants.{Text, Past as TextPast, Unended}
 use Rattle.core.proofs.Zeros.{ended-text}
-use Rattle.bflan.specs.declared.fault.Fault.the-variants.{NotPai1}
+use Rattle.bflan.specs.declared.fault.Fault.the-variants.{OtherLetters}
 use Rattle.bflan.specs.pai1.FieldValues.{numbersIn}
 use Rattle.bflan.specs.pai1.Letters.{fleu, lettersOf, targetOf}
 use Rattle.bflan.specs.pai1.Layout.{keySkip}
@@ -296,7 +296,7 @@ module _ (s : List ℕ) where
   unfolding section
   section-shows = number s 4 0 4 _ refl (λ l4. number s 4 4 8 _ refl (λ l8. kind (eqb (get 4 s 0) pai1)))
     where
-      kind : (t : Bool) → If (Shows cells (recordAt s)) (given t (body (get 4 s 4)) (fail (NotPai1 (get 4 s 0))) s 8)
+      kind : (t : Bool) → If (Shows cells (recordAt s)) (given t (body (get 4 s 4)) (fail (OtherLetters (get 4 s 0))) s 8)
       kind true = body-shown (get 4 s 4)
       kind false = record { holds = tt }
 

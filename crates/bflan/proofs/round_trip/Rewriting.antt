@@ -18,7 +18,7 @@ use Rattle.core.specs.Text.{beforeZero, fixedOf}
 use Rattle.core.specs.Utf8.{rows, within, classOf, laterOf, matched, more, good, pieceOf, piecesAfter, pieces, shown, decoded, decode}
 use Rattle.core.proofs.Numbers.{Bytes, sets-read}
 use Rattle.bflan.specs.declared.fault.Fault.{Fault}
-use Rattle.bflan.specs.declared.fault.Fault.the-variants.{PastEnd, NoZero, NotPai1}
+use Rattle.bflan.specs.declared.fault.Fault.the-variants.{PastEnd, NoZero, OtherLetters}
 use Rattle.bflan.specs.Answer.{refused, tooLong, tooShort, ofFault, filled, readingBy}
 use Rattle.bflan.specs.pai1.Calls.{reading, writing}
 use Rattle.bflan.specs.pai1.Judge.{pane, section as judge, content as judgeContent}
@@ -52,7 +52,7 @@ fault-number : (f : Fault) → ofFault f .number ≡ 0 → ⊥
 unfolding ofFault
 fault-number (PastEnd offset requested) e = omega arith
 fault-number (NoZero start) e = omega arith
-fault-number (NotPai1 letters) e = omega arith
+fault-number (OtherLetters letters) e = omega arith
 
 -- what is accepted was filled in
 accepted-filled : (s w x : List ℕ) → reading s w x .0 .number ≡ 0 → Filled s w x
