@@ -1,3 +1,4 @@
 pub mod JudgeParts
 pub mod Judging
+pub mod Laws
 pub mod Measures

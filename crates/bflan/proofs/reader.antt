@@ -7,6 +7,7 @@ pub mod InfoParts
 pub mod Inversion
 pub mod KeyRuns
 pub mod Rows
+pub mod SectionBounds
 pub mod SectionParts
 pub mod TargetParts
 pub mod Walks

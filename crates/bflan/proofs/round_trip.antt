@@ -1,4 +1,5 @@
 pub mod FlatOnce
+pub mod Pai1
 pub mod ReadBack
 pub mod ReadParts
 pub mod ReadTree

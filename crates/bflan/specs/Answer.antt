@@ -1,4 +1,4 @@
--- The public calls of reading: for any arguments what they answer, and what the lists that they may change hold afterwards (document 01,
+-- Calls of reading, of any format: for any arguments what they answer, and what the lists that they may change hold afterwards (document 01,
 -- 'Flat record', 'Texts on screen' and the refusals' table). The order of the refusals is the order of the cases.
 use Prim.Native.Nat.{ℕ, _+_}
 use denote.Ref.{RefT, now}
@@ -12,14 +12,13 @@ use Rattle.core.specs.Outcome.{Outcome, accepted, refusedPast, refusedNoZero}
 use Rattle.core.specs.Part.{inside, partOf, partPtr}
 use Rattle.core.specs.Utf8.{decode, wellFormed}
 use Rattle.bflan.specs.declared.fault.Fault.{Fault}
-use Rattle.bflan.specs.declared.fault.Fault.the-variants.{PastEnd, NoZero, NotPai1}
+use Rattle.bflan.specs.declared.fault.Fault.the-variants.{PastEnd, NoZero, OtherLetters}
 use Rattle.bflan.specs.declared.read.ReadAnswer.{ReadAnswer}
 use Rattle.bflan.specs.declared.read.ReadAnswer.the-variants.{Accepted, Refused, TooLong, TooShort}
 use Rattle.bflan.specs.declared.find.FindAnswer.{FindAnswer}
 use Rattle.bflan.specs.declared.find.FindAnswer.the-variants.{Found, Refused as FindRefused, TooLong as FindTooLong, NoSuchText, ScratchTooShort}
 use Rattle.bflan.specs.Limits.{limit}
-use Rattle.bflan.specs.Reader.{Res, ok, stop, Item}
-use Rattle.bflan.specs.pai1.Reading.{section}
+use Rattle.bflan.specs.Reader.{Res, ok, stop, P, Item}
 use Rattle.bflan.specs.Items.{wordsOf, textsOf, textsIn}
 
 -- ---- numbers and values
@@ -27,8 +26,8 @@ use Rattle.bflan.specs.Items.{wordsOf, textsOf, textsIn}
 abbrev pub refused : ℕ → List ℕ → Outcome
 refused n vs = record { number = n; values = vs }
 
-abbrev pub notPai1 : ℕ → Outcome
-notPai1 letters = refused 1 (letters ∷ [])
+abbrev pub otherLetters : ℕ → Outcome
+otherLetters letters = refused 1 (letters ∷ [])
 
 abbrev pub tooLong : ℕ → Outcome
 tooLong size = refused 2 (size ∷ [])
@@ -42,7 +41,7 @@ noPlace = refused 10 (0 ∷ [])
 unfoldable pub ofFault : Fault → Outcome
 ofFault (PastEnd offset requested) = refusedPast offset requested
 ofFault (NoZero start) = refusedNoZero start
-ofFault (NotPai1 letters) = notPai1 letters
+ofFault (OtherLetters letters) = otherLetters letters
 
 unfoldable pub ofReading : ReadAnswer → Outcome
 ofReading (Accepted words bytes) = accepted (words ∷ bytes ∷ [])
@@ -66,8 +65,9 @@ filled s w x (ok is end) =
     (accepted (length (wordsOf s is) ∷ length (textsOf s is) ∷ []), sets w 0 (wordsOf s is), sets x 0 (textsOf s is))
     (tooShort (length (wordsOf s is)) (length (textsOf s is)), w, x)
 
-unfoldable pub reading : List ℕ → List ℕ → List ℕ → Outcome × List ℕ × List ℕ
-reading s w x = pick (leb (length s) limit) (filled s w x (section s 0)) (tooLong (length s), w, x)
+-- by the format's reader
+unfoldable pub readingBy : P (List Item) → List ℕ → List ℕ → List ℕ → Outcome × List ℕ × List ℕ
+readingBy p s w x = pick (leb (length s) limit) (filled s w x (p s 0)) (tooLong (length s), w, x)
 
 -- ---- finding a text: the answer, and the scratch
 
@@ -85,8 +85,8 @@ unfoldable pub found : List ℕ → ℕ → List ℕ → Res (List Item) → Out
 found s t x (stop f) = (ofFault f, x)
 found s t x (ok is end) = pick (ltb t (length (textsIn is))) (shownIn s x (getD (textsIn is) t (0, 0))) (noPlace, x)
 
-unfoldable pub finding : List ℕ → ℕ → List ℕ → Outcome × List ℕ
-finding s t x = pick (leb (length s) limit) (found s t x (section s 0)) (tooLong (length s), x)
+unfoldable pub findingBy : P (List Item) → List ℕ → ℕ → List ℕ → Outcome × List ℕ
+findingBy p s t x = pick (leb (length s) limit) (found s t x (p s 0)) (tooLong (length s), x)
 
 -- ---- the part that a text's three numbers say, of the section or of the scratch, and where it lies
 

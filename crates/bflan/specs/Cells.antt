@@ -18,6 +18,10 @@ bytesIn [] = []
 bytesIn (word v ∷ cs) = bytesIn cs
 bytesIn (chars t ∷ cs) = t ++ bytesIn cs
 
+-- a text by itself
+unfoldable pub textCells : List ℕ → List Cell
+textCells t = chars t ∷ []
+
 unfoldable pub each : {X : Type 0} → (X → List Cell) → List X → List Cell
 each f [] = []
 each f (x ∷ xs) = f x ++ each f xs

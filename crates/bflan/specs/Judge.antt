@@ -71,8 +71,13 @@ row (k ∷ ks) = do
   vs ← row ks
   ret (v ∷ vs)
 
--- ---- the parts, in the order of their words
-
 -- no word and then no text byte is over
 unfoldable pub ends : J ℕ
 ends = λ w x i j. pick (ltb i (length w)) (badWord i) (pick (ltb j (length x)) (badText j) (fine 0 i j))
+
+-- a value that is all there is
+unfoldable pub whole : {X : Type 0} → J X → J X
+whole p = do
+  x ← p
+  _ ← ends
+  ret x

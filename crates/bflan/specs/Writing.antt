@@ -1,5 +1,5 @@
--- The public call of writing: for any arguments what it answers, and what the output holds afterwards (document 01, 'Writing' and the
--- refusals' table, 6 to 9).
+-- A call of writing, of any format: for any arguments what it answers, and what the output holds afterwards (document 01, 'Writing' and
+-- the refusals' table, 6 to 9).
 use Prim.Native.Nat.{ℕ}
 use mathlib.Core.List.{List, [], _∷_}
 use lib.Dec.{leb}
@@ -10,12 +10,9 @@ use Rattle.core.specs.Outcome.{Outcome, accepted}
 use Rattle.bflan.specs.declared.write.WriteAnswer.{WriteAnswer}
 use Rattle.bflan.specs.declared.write.WriteAnswer.the-variants.{Written, BadWord, BadText, OverLimit, OutputTooShort}
 use Rattle.bflan.specs.Answer.{refused}
-use Rattle.bflan.specs.Judge.{Judged, fine, badWord, badText}
-use Rattle.bflan.specs.pai1.Judge.{section}
-use Rattle.bflan.specs.Layout.{size, written}
-use Rattle.bflan.specs.pai1.Layout.{sectionLay}
+use Rattle.bflan.specs.Judge.{Judged, fine, badWord, badText, J}
+use Rattle.bflan.specs.Layout.{Layout, size, written}
 use Rattle.bflan.specs.Limits.{limit}
-use Rattle.bflan.specs.pai1.Record.{PaneAnimInfo}
 
 -- ---- numbers and values
 
@@ -45,10 +42,12 @@ intoOutput out len bytes =
     pick (leb len limit) (pick (leb len (length out)) (accepted (len ∷ []), sets out 0 bytes) (outputShort len, out))
     (overLimit, out)
 
-unfoldable pub judged : List ℕ → Judged PaneAnimInfo → Outcome × List ℕ
-judged out (badWord index) = (badWordAt index, out)
-judged out (badText index) = (badTextAt index, out)
-judged out (fine r words texts) = intoOutput out (size (sectionLay r)) (written (sectionLay r))
+-- by the format's layout and its judge
+module _ {A : Type 0} (lay : A → Layout) where
+  unfoldable pub judged : List ℕ → Judged A → Outcome × List ℕ
+  judged out (badWord index) = (badWordAt index, out)
+  judged out (badText index) = (badTextAt index, out)
+  judged out (fine a words texts) = intoOutput out (size (lay a)) (written (lay a))
 
-unfoldable pub writing : List ℕ → List ℕ → List ℕ → Outcome × List ℕ
-writing words texts out = judged out (section words texts 0 0)
+  unfoldable pub writingBy : J A → List ℕ → List ℕ → List ℕ → Outcome × List ℕ
+  writingBy p words texts out = judged out (p words texts 0 0)

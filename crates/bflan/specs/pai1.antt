@@ -1,3 +1,4 @@
+pub mod Calls
 pub mod FieldValues
 pub mod Judge
 pub mod Layout

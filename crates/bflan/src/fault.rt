@@ -4,6 +4,6 @@ pub enum Fault {
     PastEnd(usize, usize),
     // A text without a zero: its start.
     NoZero(usize),
-    // Letters other than `pai1`.
-    NotPai1(u32),
+    // Letters other than the section's own.
+    OtherLetters(u32),
 }

@@ -1,14 +1,13 @@
 // Judging a record's words and texts, and measuring the section that they make.
 ghost use mathlib.Core.Path.{_≡_};
 ghost use Prim.Native.Nat.{ℕ, _+_, _*_, _<_};
-ghost use lib.ListN.{length};
 ghost use Rattle.bflan.specs.Judge.{ends};
-ghost use Rattle.bflan.specs.pai1.Judge.{section};
-ghost use Rattle.bflan.specs.Layout.{size, parts};
-ghost use Rattle.bflan.specs.pai1.Layout.{contentLay, sectionLay};
+ghost use Rattle.bflan.specs.pai1.Judge.{pane, section};
+ghost use Rattle.bflan.specs.Layout.{size};
+ghost use Rattle.bflan.specs.pai1.Layout.{sectionLay};
 ghost use Rattle.bflan.specs.inner.Measure.{verdictOf};
 ghost use Rattle.bflan.specs.inner.Measure.{filledUp};
-ghost use Rattle.bflan.specs.inner.JudgeParts.{contentsAndEnd, afterHead};
+ghost use Rattle.bflan.specs.inner.JudgeParts.{afterHead};
 ghost use Rattle.bflan.specs.pai1.Record.{PaneAnimInfo};
 ghost use Rattle.bflan.specs.inner.Walk.{sat};
 use crate::judge::content::contents;
@@ -61,18 +60,6 @@ fn ends(words: &[u32], texts: &[u8], i: usize, j: usize) -> Verdict
     })
 }
 
-// `n` contents with their table, and nothing behind them.
-fn ending(words: &[u32], texts: &[u8], i: usize, j: usize, n: usize) -> Verdict
-    requires { ⌜ n < 65536 ⌝ }
-    ensures { λ r. ⌜ r ≡ verdictOf (λ cs. 4 * length cs + size (parts contentLay cs)) (contentsAndEnd n (now (words .entry)) (now (texts .entry)) i j) ⌝ }
-{
-    match contents(words, texts, i, j, n) {
-        Verdict::BadWord(k) => Verdict::BadWord(k),
-        Verdict::BadText(k) => Verdict::BadText(k),
-        Verdict::Fine(m) => grown(ends(words, texts, m.word, m.byte), add(4 * n, m.size)),
-    }
-}
-
 // Where the content table stands behind `n` texture names of `size` bytes.
 fn table_behind(n: usize, size: usize) -> usize
     requires { ⌜ n < 65536 ⌝ }
@@ -81,7 +68,7 @@ fn table_behind(n: usize, size: usize) -> usize
     filled_up(add(20 + 4 * n, size))
 }
 
-// What is behind a section's first four words: `nt` texture names and `nc` contents.
+// What is behind a record's first four words: `nt` texture names and `nc` contents.
 fn headed(words: &[u32], texts: &[u8], i: usize, j: usize, nt: usize, nc: usize) -> Verdict
     requires { ⌜ (nt < 65536) × (nc < 65536) ⌝ }
     ensures { λ r. ⌜ ((frames looping : ℕ) → r ≡ verdictOf (λ (a : PaneAnimInfo). size (sectionLay a)) (afterHead frames looping nt nc (now (words .entry)) (now (texts .entry)) i j)) ⌝ }
@@ -90,29 +77,43 @@ fn headed(words: &[u32], texts: &[u8], i: usize, j: usize, nt: usize, nc: usize)
         Verdict::BadWord(k) => Verdict::BadWord(k),
         Verdict::BadText(k) => Verdict::BadText(k),
         Verdict::Fine(m) => grown(
-            ending(words, texts, m.word, m.byte, nc),
-            table_behind(nt, m.size),
+            contents(words, texts, m.word, m.byte, nc),
+            add(table_behind(nt, m.size), 4 * nc),
         ),
     }
 }
 
-// The section that the words and texts make.
+// The record that the words from `i` on and the texts from `j` on make, whatever follows.
+fn judge_info(words: &[u32], texts: &[u8], i: usize, j: usize) -> Verdict
+    ensures { λ r. ⌜ r ≡ verdictOf (λ (a : PaneAnimInfo). size (sectionLay a)) (pane (now (words .entry)) (now (texts .entry)) i j) ⌝ }
+{
+    if !below(words, i, 65536) {
+        return Verdict::BadWord(i);
+    }
+    let looping = i + 1;
+    if !below(words, looping, 2) {
+        return Verdict::BadWord(looping);
+    }
+    let names = looping + 1;
+    if !below(words, names, 65536) {
+        return Verdict::BadWord(names);
+    }
+    let count = names + 1;
+    if !below(words, count, 65536) {
+        return Verdict::BadWord(count);
+    }
+    let nt = word_of(words, names) as usize;
+    let nc = word_of(words, count) as usize;
+    headed(words, texts, count + 1, j, nt, nc)
+}
+
+// The section that the words and texts make, all of them.
 pub(crate) fn judge_section(words: &[u32], texts: &[u8]) -> Verdict
     ensures { λ r. ⌜ r ≡ verdictOf (λ (a : PaneAnimInfo). size (sectionLay a)) (section (now (words .entry)) (now (texts .entry)) 0 0) ⌝ }
 {
-    if !below(words, 0, 65536) {
-        return Verdict::BadWord(0);
+    match judge_info(words, texts, 0, 0) {
+        Verdict::BadWord(k) => Verdict::BadWord(k),
+        Verdict::BadText(k) => Verdict::BadText(k),
+        Verdict::Fine(m) => grown(ends(words, texts, m.word, m.byte), m.size),
     }
-    if !below(words, 1, 2) {
-        return Verdict::BadWord(1);
-    }
-    if !below(words, 2, 65536) {
-        return Verdict::BadWord(2);
-    }
-    if !below(words, 3, 65536) {
-        return Verdict::BadWord(3);
-    }
-    let nt = word_of(words, 2) as usize;
-    let nc = word_of(words, 3) as usize;
-    headed(words, texts, 4, 0, nt, nc)
 }

@@ -1,6 +1,7 @@
 // Writing a record as a section.
 ghost use mathlib.Core.Path.{_≡_};
-ghost use Rattle.bflan.specs.Writing.{ofWriting, writing};
+ghost use Rattle.bflan.specs.Writing.{ofWriting};
+ghost use Rattle.bflan.specs.pai1.Calls.{writing};
 use crate::judge::Verdict;
 use crate::judge::judge_section;
 use crate::read::LIMIT;

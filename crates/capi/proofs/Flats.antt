@@ -7,7 +7,7 @@ use lib.ListN.{take, replicate}
 use Rattle.core.specs.Outcome.{Outcome}
 use Rattle.bflan.specs.Answer.{ofFault}
 use Rattle.bflan.specs.declared.fault.Fault.{Fault}
-use Rattle.bflan.specs.declared.fault.Fault.the-variants.{PastEnd, NoZero, NotPai1}
+use Rattle.bflan.specs.declared.fault.Fault.the-variants.{PastEnd, NoZero, OtherLetters}
 use Rattle.capi.specs.Flat.{flat, counted}
 
 fewer : (n : ℕ) (vs : List ℕ) → take 3 (take 4 (n ∷ vs ++ replicate 4 0)) ≡ take 3 (n ∷ vs ++ replicate 3 0)
@@ -25,7 +25,7 @@ fifth : (f : Fault) → flat 4 (ofFault f) ++ (0 ∷ []) ≡ flat 5 (counted (of
 unfolding flat counted ofFault
 fifth (PastEnd offset requested) = refl
 fifth (NoZero start) = refl
-fifth (NotPai1 letters) = refl
+fifth (OtherLetters letters) = refl
 
 pub fault-of-five : (a b c d : ℕ) (f : Fault) → (a ∷ b ∷ c ∷ d ∷ []) ≡ flat 4 (ofFault f) → (a ∷ b ∷ c ∷ d ∷ 0 ∷ []) ≡ flat 5 (counted (ofFault f))
 fault-of-five a b c d f e = ap (λ (l : List ℕ). l ++ (0 ∷ [])) e ∙ fifth f

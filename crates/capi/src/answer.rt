@@ -34,7 +34,7 @@ fn of_fault(f: Fault) -> Numbers
     match f {
         Fault::PastEnd(offset, requested) => Numbers(3, offset, requested, 0),
         Fault::NoZero(start) => Numbers(4, start, 0, 0),
-        Fault::NotPai1(letters) => Numbers(1, letters as usize, 0, 0),
+        Fault::OtherLetters(letters) => Numbers(1, letters as usize, 0, 0),
     }
 }
 

@@ -10,7 +10,7 @@ pub fn number_of(f: Fault) -> usize
     ensures { λ r. ⌜ r ≡ ofFault f .number ⌝ }
 {
     match f {
-        Fault::NotPai1(_letters) => 1,
+        Fault::OtherLetters(_letters) => 1,
         Fault::PastEnd(_offset, _requested) => 3,
         Fault::NoZero(_start) => 4,
     }

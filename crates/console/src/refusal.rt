@@ -9,7 +9,7 @@ use bflan::fault::Fault;
 pub fn say_refused(f: Fault) {
     say_number(b"refused ", number_of(f));
     match f {
-        Fault::NotPai1(letters) => say_number(b" (", letters as usize),
+        Fault::OtherLetters(letters) => say_number(b" (", letters as usize),
         Fault::PastEnd(offset, requested) => {
             say_number(b" (", offset);
             say_number(b", ", requested);
@@ -55,7 +55,7 @@ fn say_letters(letters: u32) {
 // Says why, up to the line's end. The crate pai1 has the same sentences.
 pub fn say_why(f: Fault) {
     match f {
-        Fault::NotPai1(letters) => {
+        Fault::OtherLetters(letters) => {
             say(b": the section's letters are \"");
             say_letters(letters);
             say(b"\" and not \"pai1\"\n");

@@ -15,9 +15,10 @@ use Rattle.core.specs.Text.{beforeZero, firstFault, fixedOf, endedOf}
 use Rattle.core.specs.Utf8.{rows as utf8Rows, within, classOf, laterOf, matched, more, good, pieceOf, piecesAfter, pieces, shown, decoded, decode, leading, sound as soundOf}
 use Rattle.core.proofs.Exercises.{TextExercise, textExercises}
 use Rattle.core.proofs.Floats.{pattern-back}
-use Rattle.bflan.specs.Answer.{ofFault, filled, reading}
-use Rattle.bflan.specs.Judge.{nextWord, nextChars, nextText, times, row, ends}
-use Rattle.bflan.specs.pai1.Judge.{target, datum, info, content, section as judgeSection}
+use Rattle.bflan.specs.Answer.{ofFault, filled, readingBy}
+use Rattle.bflan.specs.Judge.{nextWord, nextChars, nextText, times, row, ends, whole}
+use Rattle.bflan.specs.pai1.Calls.{reading, writing}
+use Rattle.bflan.specs.pai1.Judge.{target, datum, info, content, pane, section as judgeSection}
 use Rattle.bflan.specs.Layout.{size, written, parts, table, ended, row as rowLay}
 use Rattle.bflan.specs.pai1.Layout.{keySkip, keyLay, targetLay, datumLay, infoHead, infoLay, dataOut, infosOut, tableFrom, infosFrom, userLay, contentBody, contentLay, namesEnd, contentTable, sectionSize, sectionLay}
 use Rattle.bflan.specs.pai1.Letters.{listings, fleu, kindOf, lettersOf, targetOf, lettersFit, targetFits}
@@ -26,7 +27,7 @@ use Rattle.bflan.specs.Reader.{num, seekTo, skip, fixedText, endedText, oneEnde
 use Rattle.bflan.specs.pai1.Reading.{curveOf, countOf, keys, target as readTarget, datum as readDatum, info as readInfo, typeOf, infoTable, content as readContent, texture, contents, flagOf, body, section as readSection}
 use Rattle.bflan.specs.pai1.Record.{keyWidths}
 use Rattle.bflan.specs.Items.{wordsOf, textsOf}
-use Rattle.bflan.specs.Writing.{intoOutput, judged, writing}
+use Rattle.bflan.specs.Writing.{intoOutput, judged, writingBy}
 use Rattle.bflan.specs.declared.place.Place.the-variants.{Key}
 use Rattle.bflan.proofs.Exercises.{stepped, SectionExercise, both, reads, refused, sectionExercises}
 use Rattle.edit.specs.declared.edit.Change.{Change}
@@ -82,5 +83,5 @@ AllSolved [] = Unit {0}
 AllSolved (e ∷ es) = Solved e × AllSolved es
 
 pub all-solved : AllSolved exercises
-unfolding le val get readOf seekOf beforeZero firstFault fixedOf endedOf paddingOf utf8Rows within classOf laterOf matched more good pieceOf piecesAfter pieces shown decoded decode leading soundOf nextWord nextChars nextText times row target datum info content ends judgeSection ofFault filled reading wordsOf textsOf size written parts table keySkip keyLay targetLay ended datumLay infoHead infoLay dataOut infosOut tableFrom infosFrom userLay contentBody contentLay namesEnd contentTable sectionSize sectionLay rowLay listings fleu kindOf lettersOf targetOf lettersFit targetFits widths total fitWidths allowed fit stride keyIn targetIn infoTableIn infoIn contentIn locate num seekTo skip fixedText endedText oneEnded numbers many visit curveOf countOf keys readTarget readDatum readInfo typeOf infoTable readContent texture contents flagOf body readSection keyWidths intoOutput judged writing placeOf atSpot onReading editing capacity padded entryOf
+unfolding le val get readOf seekOf beforeZero firstFault fixedOf endedOf paddingOf utf8Rows within classOf laterOf matched more good pieceOf piecesAfter pieces shown decoded decode leading soundOf nextWord nextChars nextText times row target datum info content pane ends whole judgeSection ofFault filled readingBy wordsOf textsOf size written parts table keySkip keyLay targetLay ended datumLay infoHead infoLay dataOut infosOut tableFrom infosFrom userLay contentBody contentLay namesEnd contentTable sectionSize sectionLay rowLay listings fleu kindOf lettersOf targetOf lettersFit targetFits widths total fitWidths allowed fit stride keyIn targetIn infoTableIn infoIn contentIn locate num seekTo skip fixedText endedText oneEnded numbers many visit curveOf countOf keys readTarget readDatum readInfo typeOf infoTable readContent texture contents flagOf body readSection keyWidths intoOutput judged writingBy placeOf atSpot onReading editing capacity padded entryOf
 all-solved = (refl, (refl, (refl, ((refl, refl), ((refl, refl), ((refl, refl), ((refl, refl), (refl, (refl, (refl, (refl, (refl, (ap (λ (vs : List ℕ). editing pai1 stepped (0 ∷ 0 ∷ 0 ∷ 0 ∷ 0 ∷ []) 0 (Key 0 0 0 0) vs) value-zero, tt)))))))))))))

@@ -6,9 +6,10 @@ use mathlib.Core.List.{List, []}
 use lib.ListN.{length, take}
 use Rattle.core.specs.Outcome.{Outcome}
 use Rattle.core.proofs.Numbers.{sets-read}
-use Rattle.bflan.specs.Writing.{writing}
+use Rattle.bflan.proofs.round_trip.Pai1.{judges}
 use Rattle.bflan.proofs.round_trip.Verdicts.{written-there, accepted-within}
 use Rattle.bflan.specs.Layout.{written, size}
+use Rattle.bflan.specs.pai1.Calls.{writing}
 use Rattle.bflan.specs.pai1.Layout.{sectionLay}
 use Rattle.bflan.specs.Limits.{limit}
 use Rattle.bflan.specs.pai1.Limits.{Within}
@@ -40,7 +41,7 @@ finds r w p = go (finding r w p)
 afresh : (r : PaneAnimInfo) → Within r → Writes (written (sectionLay r)) r
 afresh r w out l =
     let n : length (written (sectionLay r)) ≡ size (sectionLay r) = size-written (sectionLay r) in
-    rw n (written-there r out w (rw (← n) l))
+    rw n (written-there judges sectionLay r out w (rw (← n) l))
 
 laws : Laws pai1 Within Reads Writes
 laws =
@@ -70,7 +71,7 @@ pub record Starts (w x out : List ℕ) : Type 0 where
 
 pub written-agrees : (w x out : List ℕ) → writing w x out .0 .number ≡ 0 → Starts w x out
 written-agrees w x out e =
-    let a = accepted-within w x out e in
+    let a = accepted-within judges sectionLay w x out e in
     let s : List ℕ = written (sectionLay (a .tree)) in
     let n : length s ≡ size (sectionLay (a .tree)) = size-written (sectionLay (a .tree)) in
     let fits : 0 + length s ≤ length out = omega (arith, n, a .room) in

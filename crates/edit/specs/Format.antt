@@ -6,14 +6,17 @@ use mathlib.Core.List.{List, [], _∷_}
 use lib.ListN.{length}
 use lib.Seq.{sets}
 use Rattle.core.specs.Outcome.{accepted}
-use Rattle.bflan.specs.Answer.{reading}
-use Rattle.bflan.specs.Layout.{written}
+use Rattle.bflan.specs.Answer.{readingBy}
+use Rattle.bflan.specs.Cells.{Cell, wordsIn, bytesIn}
+use Rattle.bflan.specs.Judge.{J}
+use Rattle.bflan.specs.Layout.{Layout, written}
+use Rattle.bflan.specs.Reader.{Res, P, Item}
+use Rattle.bflan.specs.Writing.{writingBy}
+use Rattle.bflan.specs.pai1.Judge.{section as judge}
 use Rattle.bflan.specs.pai1.Layout.{sectionLay}
 use Rattle.bflan.specs.pai1.Places.{Spot, Found, locate, fieldOf, replaced}
-use Rattle.bflan.specs.Reader.{Res, Item}
 use Rattle.bflan.specs.pai1.Reading.{section}
-use Rattle.bflan.specs.pai1.Record.{PaneAnimInfo, words, texts}
-use Rattle.bflan.specs.Writing.{writing}
+use Rattle.bflan.specs.pai1.Record.{PaneAnimInfo, cells}
 use Rattle.bflan.specs.declared.place.Place.{Place}
 
 pub record Format : Type 1 where
@@ -41,12 +44,22 @@ pai1 =
       bytes = λ r. written (sectionLay r);
     }
 
--- reading these bytes with long enough tables is accepted, and fills them with the record
-abbrev pub Reads : List ℕ → PaneAnimInfo → Type 0
-Reads s r =
-    (w x : List ℕ) → length (words r) ≤ length w → length (texts r) ≤ length x
-    → reading s w x ≡ (accepted (length (words r) ∷ length (texts r) ∷ []), sets w 0 (words r), sets x 0 (texts r))
+-- of any format, by its cells and its reader, or its layout and its judge
+module _ {A : Type 0} (cellsOf : A → List Cell) where
+  -- reading these bytes with long enough tables is accepted, and fills them with the record
+  abbrev pub ReadsBy : P (List Item) → List ℕ → A → Type 0
+  ReadsBy p s r =
+      (w x : List ℕ) → length (wordsIn (cellsOf r)) ≤ length w → length (bytesIn (cellsOf r)) ≤ length x
+      → readingBy p s w x
+      ≡ (accepted (length (wordsIn (cellsOf r)) ∷ length (bytesIn (cellsOf r)) ∷ []), sets w 0 (wordsIn (cellsOf r)), sets x 0 (bytesIn (cellsOf r)))
 
--- writing the record into a long enough output is accepted, and gives these bytes
+  -- writing the record into a long enough output is accepted, and gives these bytes
+  abbrev pub WritesBy : (A → Layout) → J A → List ℕ → A → Type 0
+  WritesBy lay p s r =
+      (out : List ℕ) → length s ≤ length out → writingBy lay p (wordsIn (cellsOf r)) (bytesIn (cellsOf r)) out ≡ (accepted (length s ∷ []), sets out 0 s)
+
+abbrev pub Reads : List ℕ → PaneAnimInfo → Type 0
+Reads s r = ReadsBy cells section s r
+
 abbrev pub Writes : List ℕ → PaneAnimInfo → Type 0
-Writes s r = (out : List ℕ) → length s ≤ length out → writing (words r) (texts r) out ≡ (accepted (length s ∷ []), sets out 0 s)
+Writes s r = WritesBy cells sectionLay judge s r

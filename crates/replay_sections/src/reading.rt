@@ -25,7 +25,7 @@ pub(crate) fn of_fault(f: Fault) -> Answer {
     match f {
         Fault::PastEnd(offset, requested) => Answer(3, offset, requested),
         Fault::NoZero(start) => Answer(4, start, 0),
-        Fault::NotPai1(letters) => Answer(1, letters as usize, 0),
+        Fault::OtherLetters(letters) => Answer(1, letters as usize, 0),
     }
 }
 

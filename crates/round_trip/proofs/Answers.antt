@@ -15,9 +15,10 @@ use Rattle.core.specs.Outcome.{Outcome, accepted}
 use Rattle.core.specs.Part.{partOf}
 use Rattle.core.proofs.Numbers.{sets-read}
 use Rattle.bflan.specs.declared.fault.Fault.{Fault}
-use Rattle.bflan.specs.declared.fault.Fault.the-variants.{PastEnd, NoZero, NotPai1}
-use Rattle.bflan.specs.Answer.{refused, tooLong, tooShort, ofFault, filled, reading}
+use Rattle.bflan.specs.declared.fault.Fault.the-variants.{PastEnd, NoZero, OtherLetters}
+use Rattle.bflan.specs.Answer.{refused, tooLong, tooShort, ofFault, filled, readingBy}
 use Rattle.bflan.specs.Judge.{Judged, fine, badWord, badText}
+use Rattle.bflan.specs.pai1.Calls.{reading, writing}
 use Rattle.bflan.specs.pai1.Judge.{section as judge}
 use Rattle.bflan.specs.Layout.{size, written}
 use Rattle.bflan.specs.pai1.Layout.{sectionLay}
@@ -27,10 +28,11 @@ use Rattle.bflan.specs.Reader.{Res, ok, stop, Item}
 use Rattle.bflan.specs.pai1.Reading.{section}
 use Rattle.bflan.specs.pai1.Record.{PaneAnimInfo, words, texts}
 use Rattle.bflan.specs.Items.{wordsOf, textsOf}
-use Rattle.bflan.specs.Writing.{intoOutput, judged, writing}
+use Rattle.bflan.specs.Writing.{intoOutput, judged, writingBy}
 use Rattle.bflan.proofs.Layouts.{size-written}
 use Rattle.bflan.proofs.round_trip.RoundTrip.{read-written}
-use Rattle.bflan.proofs.round_trip.Verdicts.{texts-size, written-there, accepted-within}
+use Rattle.bflan.proofs.round_trip.Pai1.{judges, texts-size}
+use Rattle.bflan.proofs.round_trip.Verdicts.{written-there, accepted-within}
 use Rattle.round_trip.specs.Trip.{said, most, writtenAgain, afterReading, trip, refusal, repliedWith, replied, printed}
 use Rattle.round_trip.proofs.Trips.{Filled, accepted-fills}
 
@@ -42,7 +44,7 @@ module _ (r : PaneAnimInfo) (v : Within r) (w x out : List ℕ) (short : size (s
   unfolding said writtenAgain afterReading trip
   goes-through =
       let s : length (written (sectionLay r)) ≤ most = omega (arith, size-written (sectionLay r), short) in
-      rw (le-leb _ _ s, read-written r v w x hw hx, sets-read w 0 (words r) (omega (arith, hw)), sets-read x 0 (texts r) (omega (arith, hx)), written-there r out v ho)
+      rw (le-leb _ _ s, read-written r v w x hw hx, sets-read w 0 (words r) (omega (arith, hw)), sets-read x 0 (texts r) (omega (arith, hx)), written-there judges sectionLay r out v ho)
 
 -- what stands at the output's start is printed
 printed-start : (out v : List ℕ) → length v ≤ length out → partOf (sets out 0 v) 0 (length v) ≡ v
@@ -82,7 +84,7 @@ low-fault : (f : Fault) → ofFault f .number ≤ 9
 unfolding ofFault
 low-fault (PastEnd offset requested) = omega arith
 low-fault (NoZero start) = omega arith
-low-fault (NotPai1 letters) = omega arith
+low-fault (OtherLetters letters) = omega arith
 
 abbrev LowRead : Outcome × List ℕ × List ℕ → Type 0
 LowRead r = r .0 .number ≤ 9
@@ -96,14 +98,14 @@ low-filled s w x (ok is end) =
     both LowRead (leb n (length w) && leb m (length x)) (accepted (n ∷ m ∷ []), sets w 0 (wordsOf s is), sets x 0 (textsOf s is)) (tooShort n m, w, x) (omega arith) (omega arith)
 
 low-reading : (s w x : List ℕ) → LowRead (reading s w x)
-unfolding reading
+unfolding readingBy
 low-reading s w x = both LowRead (leb (length s) limit) (filled s w x (section s 0)) (tooLong (length s), w, x) (low-filled s w x (section s 0)) (omega arith)
 
 -- the number is one of 0 to 9, and a refusal leaves the output as it was
 abbrev LowWritten : List ℕ → Outcome × List ℕ → Type 0
 LowWritten out r = (r .0 .number ≤ 9) × ((r .0 .number ≡ 0 → ⊥) → r .1 ≡ out)
 
-low-judged : (out : List ℕ) (v : Judged PaneAnimInfo) → LowWritten out (judged out v)
+low-judged : (out : List ℕ) (v : Judged PaneAnimInfo) → LowWritten out (judged sectionLay out v)
 unfolding judged intoOutput
 low-judged out (badWord i) = (omega arith, λ z. refl)
 low-judged out (badText i) = (omega arith, λ z. refl)
@@ -116,7 +118,7 @@ low-judged out (fine r i j) =
     (omega arith, λ z. refl)
 
 low-writing : (w x out : List ℕ) → LowWritten out (writing w x out)
-unfolding writing
+unfolding writingBy
 low-writing w x out = low-judged out (judge w x 0 0)
 
 -- the same of the program, which says no value of a refusal
@@ -218,7 +220,7 @@ trip-accepted s w x out z =
     let f : Filled s w x = accepted-fills s w x (read-first (reading s w x) out (sym (ap (λ (r : Outcome × List ℕ). r .0 .number) e) ∙ z)) in
     let g : trip s w x out ≡ writtenAgain (f .words) (f .texts) out = e ∙ after-filled s w x out f in
     let y : writing (f .words) (f .texts) out .0 .number ≡ 0 = sym (again-number (f .words) (f .texts) out) ∙ sym (ap (λ (r : Outcome × List ℕ). r .0 .number) g) ∙ z in
-    let a = accepted-within (f .words) (f .texts) out y in
+    let a = accepted-within judges sectionLay (f .words) (f .texts) out y in
     let n : length (written (sectionLay (a .tree))) ≡ size (sectionLay (a .tree)) = size-written (sectionLay (a .tree)) in
     let fits : length (written (sectionLay (a .tree))) ≤ length out = omega (arith, n, a .room) in
     let h : trip s w x out ≡ (accepted (size (sectionLay (a .tree)) ∷ []), sets out 0 (written (sectionLay (a .tree)))) =

@@ -15,17 +15,18 @@ use types.Run.{OneOf, miss}
 use Rattle.core.specs.Choice.{pick}
 use Rattle.core.specs.Outcome.{Outcome, accepted}
 use Rattle.bflan.specs.declared.fault.Fault.{Fault}
-use Rattle.bflan.specs.declared.fault.Fault.the-variants.{PastEnd, NoZero, NotPai1}
+use Rattle.bflan.specs.declared.fault.Fault.the-variants.{PastEnd, NoZero, OtherLetters}
 use Rattle.bflan.specs.declared.read.ReadAnswer.{ReadAnswer}
 use Rattle.bflan.specs.declared.read.ReadAnswer.the-variants.{Accepted, Refused as ReadRefused, TooLong, TooShort}
 use Rattle.bflan.specs.declared.write.WriteAnswer.{WriteAnswer}
 use Rattle.bflan.specs.declared.write.WriteAnswer.the-variants.{Written, BadWord, BadText, OverLimit, OutputTooShort}
-use Rattle.bflan.specs.Answer.{tooLong, tooShort, ofFault, ofReading, filled, reading}
+use Rattle.bflan.specs.Answer.{tooLong, tooShort, ofFault, ofReading, filled, readingBy}
 use Rattle.bflan.specs.Limits.{limit}
 use Rattle.bflan.specs.Reader.{Res, ok, stop, Item}
+use Rattle.bflan.specs.pai1.Calls.{reading, writing}
 use Rattle.bflan.specs.pai1.Reading.{section}
 use Rattle.bflan.specs.Items.{wordsOf, textsOf}
-use Rattle.bflan.specs.Writing.{ofWriting, writing}
+use Rattle.bflan.specs.Writing.{ofWriting}
 use Rattle.bflan.proofs.read.ReadAnswer.{the-type as readType}
 use Rattle.bflan.proofs.write.WriteAnswer.{the-type as writeType}
 use Rattle.round_trip.specs.Trip.{ofTrip, said, most, writtenAgain, afterReading, trip}
@@ -62,7 +63,7 @@ fault-said : (f : Fault) (w x out : List ℕ) → (ofTrip (Refused (ofFault f .n
 unfolding ofTrip said ofFault afterReading
 fault-said (PastEnd offset requested) w x out = refl
 fault-said (NoZero start) w x out = refl
-fault-said (NotPai1 letters) w x out = refl
+fault-said (OtherLetters letters) w x out = refl
 
 unread : (a : ReadAnswer) (w x out : List ℕ) → OneOf (1 ∷ 2 ∷ 3 ∷ []) (tagOf readType a) → (ofTrip (Refused (ofReading a .number)), out) ≡ afterReading (ofReading a, w, x) out
 unfolding ofTrip said ofReading afterReading
@@ -107,7 +108,7 @@ module _ (s w x : List ℕ) (z : number (reading s w x) ≡ 0) where
   unfolding ofFault
   filled-fault (PastEnd offset requested) e = absurd (omega (arith, ap number e, z))
   filled-fault (NoZero start) e = absurd (omega (arith, ap number e, z))
-  filled-fault (NotPai1 letters) e = absurd (omega (arith, ap number e, z))
+  filled-fault (OtherLetters letters) e = absurd (omega (arith, ap number e, z))
 
   filled-both : (ws xs : List ℕ) (a b : Bool) → leb (length ws) (length w) ≡ a → leb (length xs) (length x) ≡ b
       → reading s w x ≡ pick (a && b) (accepted (length ws ∷ length xs ∷ []), sets w 0 ws, sets x 0 xs) (tooShort (length ws) (length xs), w, x)
@@ -127,7 +128,7 @@ module _ (s w x : List ℕ) (z : number (reading s w x) ≡ 0) where
   by-length false e = absurd (omega (arith, ap number e, z))
 
   pub accepted-fills : Filled s w x
-  unfolding reading
+  unfolding readingBy
   accepted-fills = by-length (leb (length s) limit) refl
 
 pub held : (s w x w′ x′ : List ℕ) (n m : ℕ) → (ofReading (Accepted n m), w′, x′) ≡ reading s w x → (n ≤ length w′) × (m ≤ length x′)

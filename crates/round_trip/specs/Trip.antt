@@ -8,8 +8,8 @@ use lib.Seq.{sets}
 use Rattle.core.specs.Choice.{pick}
 use Rattle.core.specs.Outcome.{Outcome, accepted}
 use Rattle.core.specs.Part.{partOf}
-use Rattle.bflan.specs.Answer.{refused, reading}
-use Rattle.bflan.specs.Writing.{writing}
+use Rattle.bflan.specs.Answer.{refused}
+use Rattle.bflan.specs.pai1.Calls.{reading, writing}
 use Rattle.console.specs.declared.input.Input.{Input}
 use Rattle.console.specs.declared.input.Input.the-variants.{Bytes, Failed}
 use Rattle.round_trip.specs.declared.Trip.{Trip}

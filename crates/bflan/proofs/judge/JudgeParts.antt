@@ -14,14 +14,14 @@ use Rattle.core.specs.Text.{firstFault}
 use Rattle.bflan.specs.declared.judge.Mark.{Mark}
 use Rattle.bflan.specs.declared.judge.Verdict.{Verdict}
 use Rattle.bflan.specs.declared.judge.Verdict.the-variants.{Fine, BadWord, BadText}
-use Rattle.bflan.specs.Judge.{Judged, fine, badWord, badText, J, andThen, ret, nextWord, nextChars, nextText, times, wide, row, ends}
-use Rattle.bflan.specs.pai1.Judge.{target, datum, info, content, section}
+use Rattle.bflan.specs.Judge.{Judged, fine, badWord, badText, J, andThen, ret, nextWord, nextChars, nextText, times, wide, row, ends, whole}
+use Rattle.bflan.specs.pai1.Judge.{target, datum, info, content, pane}
 use Rattle.bflan.specs.pai1.Letters.{fleu, lettersFit, targetFits}
 use Rattle.bflan.specs.Layout.{zeros, number, size, parts, ended}
 use Rattle.bflan.specs.pai1.Layout.{targetLay, datumLay, infoHead, infoLay, infosOut, tableFrom, infosFrom, contentBody, contentLay, namesEnd, contentTable, sectionLay, keySkip, keyLay}
 use Rattle.bflan.specs.inner.Measure.{verdictOf}
 use Rattle.bflan.specs.inner.Measure.{fits, grown, filledUp, padded}
-use Rattle.bflan.specs.inner.JudgeParts.{ValuesAndKey, valuesAndKey, afterName, contentsAndEnd, afterHead}
+use Rattle.bflan.specs.inner.JudgeParts.{ValuesAndKey, valuesAndKey, afterName, afterHead}
 use Rattle.bflan.specs.pai1.Places.{total}
 use Rattle.bflan.specs.pai1.Record.{AnimTarget, Standard, AnimInfo, AnimContent, PaneAnimInfo, keyWidths}
 use Rattle.bflan.specs.inner.Walk.{sat}
@@ -366,36 +366,33 @@ module _ (w x : List ℕ) (i j : ℕ) where
   unfolding ends verdictOf
   ends-fine h k = rw (le-ltb i (length w) h, le-ltb j (length x) k)
 
-abbrev pub endingSize : List AnimContent → ℕ
-endingSize cs = 4 * length cs + size (parts contentLay cs)
+-- a value that is all there is has the value's size
+module _ {A : Type 0} (s : A → ℕ) (p : J A) (w x : List ℕ) (i j : ℕ) where
+  pub whole-word : (k : ℕ) → verdictOf s (p w x i j) ≡ BadWord k → BadWord k ≡ verdictOf s (whole p w x i j)
+  unfolding whole verdictOf
+  whole-word k e = rw (was-word s (p w x i j) k e)
 
-module _ (n : ℕ) (w x : List ℕ) (i j : ℕ) where
-  pub ending-word : (k : ℕ) → verdictOf (λ cs. size (parts contentLay cs)) (times n content w x i j) ≡ BadWord k → BadWord k ≡ verdictOf endingSize (contentsAndEnd n w x i j)
-  unfolding contentsAndEnd verdictOf
-  ending-word k e = rw (was-word (λ cs. size (parts contentLay cs)) (times n content w x i j) k e)
+  pub whole-text : (k : ℕ) → verdictOf s (p w x i j) ≡ BadText k → BadText k ≡ verdictOf s (whole p w x i j)
+  unfolding whole verdictOf
+  whole-text k e = rw (was-text s (p w x i j) k e)
 
-  pub ending-text : (k : ℕ) → verdictOf (λ cs. size (parts contentLay cs)) (times n content w x i j) ≡ BadText k → BadText k ≡ verdictOf endingSize (contentsAndEnd n w x i j)
-  unfolding contentsAndEnd verdictOf
-  ending-text k e = rw (was-text (λ cs. size (parts contentLay cs)) (times n content w x i j) k e)
-
-  pub ending-fine : (m : Mark) (k : ℕ) (v : Verdict) → verdictOf (λ cs. size (parts contentLay cs)) (times n content w x i j) ≡ Fine m → k ≡ sat (4 * n + m .size)
-      → v ≡ verdictOf (λ z. 0) (ends w x (m .word) (m .byte)) → grown k v ≡ verdictOf endingSize (contentsAndEnd n w x i j)
-  unfolding contentsAndEnd
-  ending-fine m k v e ek ev = let z = was-fine (λ cs. size (parts contentLay cs)) (times n content w x i j) m e in go (z .value) (z .is) (z .sized)
+  pub whole-fine : (m : Mark) (v : Verdict) → verdictOf s (p w x i j) ≡ Fine m → v ≡ verdictOf (λ z. 0) (ends w x (m .word) (m .byte))
+      → grown (m .size) v ≡ verdictOf s (whole p w x i j)
+  unfolding whole
+  whole-fine m v e ev = let z = was-fine s (p w x i j) m e in go (z .value) (z .is) (z .sized)
     where
-      go : (cs : List AnimContent) → times n content w x i j ≡ fine cs (m .word) (m .byte) → m .size ≡ sat (size (parts contentLay cs)) → grown k v ≡ verdictOf endingSize (contentsAndEnd n w x i j)
-      go cs is sized =
-          let l = times-length content w x n i j is in
-          let q : k ≡ sat (endingSize cs) = omega (arith, ek, sized, l) in
-          ap (λ (k : ℕ). grown k v) q ∙ grown-sat (endingSize cs) v
-          ∙ rw is (then-grown endingSize (λ z. 0) (ends w x (m .word) (m .byte)) w x (endingSize cs) v (λ z. cs) ev (λ z u u′ d. omega arith))
+      go : (a : A) → p w x i j ≡ fine a (m .word) (m .byte) → m .size ≡ sat (s a) → grown (m .size) v ≡ verdictOf s (whole p w x i j)
+      go a is sized =
+          ap (λ (k : ℕ). grown k v) sized ∙ grown-sat (s a) v
+          ∙ rw is (then-grown s (λ z. 0) (ends w x (m .word) (m .byte)) w x (s a) v (λ z. a) ev (λ z u u′ d. omega arith))
 
 -- ---- a section
 
 abbrev made : ℕ → ℕ → List (List ℕ) → List AnimContent → PaneAnimInfo
 made frames looping ts cs = record { frames = frames; looping = looping; textures = ts; contents = cs }
 
-section-size : (r : PaneAnimInfo) → filledUp (20 + (4 * length (r .textures) + size (parts ended (r .textures)))) + endingSize (r .contents) ≡ size (sectionLay r)
+section-size : (r : PaneAnimInfo)
+    → filledUp (20 + (4 * length (r .textures) + size (parts ended (r .textures)))) + 4 * length (r .contents) + size (parts contentLay (r .contents)) ≡ size (sectionLay r)
 unfolding sectionLay contentTable namesEnd size filledUp
 section-size r =
     let n : ℕ = 20 + (4 * length (r .textures) + size (parts ended (r .textures))) in
@@ -413,10 +410,11 @@ module _ (frames looping nt nc : ℕ) (w x : List ℕ) (i j : ℕ) where
   unfolding afterHead verdictOf
   headed-text k e = rw (was-text (λ ts. size (parts ended ts)) (times nt (nextText (wide 4)) w x i j) k e)
 
-  pub headed-fine : (m : Mark) (k : ℕ) (v : Verdict) → verdictOf (λ ts. size (parts ended ts)) (times nt (nextText (wide 4)) w x i j) ≡ Fine m → k ≡ sat (filledUp (20 + (4 * nt + m .size)))
-      → v ≡ verdictOf endingSize (contentsAndEnd nc w x (m .word) (m .byte)) → grown k v ≡ verdictOf (λ (a : PaneAnimInfo). size (sectionLay a)) (afterHead frames looping nt nc w x i j)
+  pub headed-fine : (m : Mark) (t k : ℕ) (v : Verdict) → verdictOf (λ ts. size (parts ended ts)) (times nt (nextText (wide 4)) w x i j) ≡ Fine m → t ≡ sat (filledUp (20 + (4 * nt + m .size)))
+      → k ≡ sat (t + 4 * nc) → v ≡ verdictOf (λ cs. size (parts contentLay cs)) (times nc content w x (m .word) (m .byte))
+      → grown k v ≡ verdictOf (λ (a : PaneAnimInfo). size (sectionLay a)) (afterHead frames looping nt nc w x i j)
   unfolding afterHead
-  headed-fine m k v e ek ev = let z = was-fine (λ ts. size (parts ended ts)) (times nt (nextText (wide 4)) w x i j) m e in go (z .value) (z .is) (z .sized)
+  headed-fine m t k v e et ek ev = let z = was-fine (λ ts. size (parts ended ts)) (times nt (nextText (wide 4)) w x i j) m e in go (z .value) (z .is) (z .sized)
     where
       go : (ts : List (List ℕ)) → times nt (nextText (wide 4)) w x i j ≡ fine ts (m .word) (m .byte) → m .size ≡ sat (size (parts ended ts))
           → grown k v ≡ verdictOf (λ (a : PaneAnimInfo). size (sectionLay a)) (afterHead frames looping nt nc w x i j)
@@ -425,56 +423,36 @@ module _ (frames looping nt nc : ℕ) (w x : List ℕ) (i j : ℕ) where
           let n : ℕ = 20 + (4 * length ts + size (parts ended ts)) in
           let o : ℕ = 20 + (4 * nt + m .size) in
           let s : sat o ≡ sat n = omega (arith, sized, l) in
-          let q : k ≡ sat (filledUp n) = ek ∙ sym (sat-filled o) ∙ ap (λ (z : ℕ). sat (filledUp z)) s ∙ sat-filled n in
-          ap (λ (k : ℕ). grown k v) q ∙ grown-sat (filledUp n) v
+          let q : t ≡ sat (filledUp n) = et ∙ sym (sat-filled o) ∙ ap (λ (z : ℕ). sat (filledUp z)) s ∙ sat-filled n in
+          let f : ℕ = filledUp n in
+          let d : k ≡ sat (f + 4 * nc) = omega (arith, ek, q) in
+          ap (λ (k : ℕ). grown k v) d ∙ grown-sat (f + 4 * nc) v
           ∙ rw is
-          (then-grown (λ (a : PaneAnimInfo). size (sectionLay a)) endingSize (contentsAndEnd nc w x (m .word) (m .byte)) w x (filledUp n) v (made frames looping ts) ev
-          (λ cs u u′ d. section-size (made frames looping ts cs)))
+          (then-grown (λ (a : PaneAnimInfo). size (sectionLay a)) (λ cs. size (parts contentLay cs)) (times nc content w x (m .word) (m .byte)) w x (f + 4 * nc) v (made frames looping ts) ev
+          (λ cs u u′ d. ap (λ (k : ℕ). f + 4 * k + size (parts contentLay cs)) (sym (times-length content w x nc (m .word) (m .byte) d)) ∙ section-size (made frames looping ts cs)))
 
-module _ (w x : List ℕ) where
-  pub section-first : fits (wide 2) w 0 ≡ false → BadWord 0 ≡ verdictOf (λ (a : PaneAnimInfo). size (sectionLay a)) (section w x 0 0)
-  unfolding section verdictOf
-  section-first e = rw (word-bad (wide 2) w x 0 0 e)
+module _ (w x : List ℕ) (i j : ℕ) where
+  pub pane-first : fits (wide 2) w i ≡ false → BadWord i ≡ verdictOf (λ (a : PaneAnimInfo). size (sectionLay a)) (pane w x i j)
+  unfolding pane verdictOf
+  pane-first e = rw (word-bad (wide 2) w x i j e)
 
-  pub section-second : fits (wide 2) w 0 ≡ true → fits (λ b. leb b 1) w 1 ≡ false → BadWord 1 ≡ verdictOf (λ (a : PaneAnimInfo). size (sectionLay a)) (section w x 0 0)
-  unfolding section verdictOf
-  section-second e1 e = rw (word-fine (wide 2) w x 0 0 e1, word-bad (λ b. leb b 1) w x 1 0 e)
+  module _ (e1 : fits (wide 2) w i ≡ true) where
+    pub pane-second : fits (λ b. leb b 1) w (i + 1) ≡ false → BadWord (i + 1) ≡ verdictOf (λ (a : PaneAnimInfo). size (sectionLay a)) (pane w x i j)
+    unfolding pane verdictOf
+    pane-second e = rw (word-fine (wide 2) w x i j e1, word-bad (λ b. leb b 1) w x (i + 1) j e)
 
-  pub section-third : fits (wide 2) w 0 ≡ true → fits (λ b. leb b 1) w 1 ≡ true → fits (wide 2) w 2 ≡ false → BadWord 2 ≡ verdictOf (λ (a : PaneAnimInfo). size (sectionLay a)) (section w x 0 0)
-  unfolding section verdictOf
-  section-third e1 e2 e = rw (word-fine (wide 2) w x 0 0 e1, word-fine (λ b. leb b 1) w x 1 0 e2, word-bad (wide 2) w x 2 0 e)
+    module _ (e2 : fits (λ b. leb b 1) w (i + 1) ≡ true) where
+      pub pane-third : fits (wide 2) w (i + 1 + 1) ≡ false → BadWord (i + 1 + 1) ≡ verdictOf (λ (a : PaneAnimInfo). size (sectionLay a)) (pane w x i j)
+      unfolding pane verdictOf
+      pane-third e = rw (word-fine (wide 2) w x i j e1, word-fine (λ b. leb b 1) w x (i + 1) j e2, word-bad (wide 2) w x (i + 1 + 1) j e)
 
-  pub section-fourth : fits (wide 2) w 0 ≡ true → fits (λ b. leb b 1) w 1 ≡ true → fits (wide 2) w 2 ≡ true → fits (wide 2) w 3 ≡ false → BadWord 3 ≡ verdictOf (λ (a : PaneAnimInfo). size (sectionLay a)) (section w x 0 0)
-  unfolding section verdictOf
-  section-fourth e1 e2 e3 e = rw (word-fine (wide 2) w x 0 0 e1, word-fine (λ b. leb b 1) w x 1 0 e2, word-fine (wide 2) w x 2 0 e3, word-bad (wide 2) w x 3 0 e)
+      module _ (e3 : fits (wide 2) w (i + 1 + 1) ≡ true) where
+        pub pane-fourth : fits (wide 2) w (i + 1 + 1 + 1) ≡ false → BadWord (i + 1 + 1 + 1) ≡ verdictOf (λ (a : PaneAnimInfo). size (sectionLay a)) (pane w x i j)
+        unfolding pane verdictOf
+        pane-fourth e = rw (word-fine (wide 2) w x i j e1, word-fine (λ b. leb b 1) w x (i + 1) j e2, word-fine (wide 2) w x (i + 1 + 1) j e3, word-bad (wide 2) w x (i + 1 + 1 + 1) j e)
 
-  -- the contents' end is judged before the record is made
-  ended-made : (frames looping : ℕ) (ts : List (List ℕ)) (r : Judged (List AnimContent))
-      → andThen (andThen r (λ cs w x i j. andThen (ends w x i j) (λ z. ret cs) w x) w x) (λ cs. ret (made frames looping ts cs)) w x
-      ≡ andThen r (λ cs w x i j. andThen (ends w x i j) (λ z. ret (made frames looping ts cs)) w x) w x
-  ended-made frames looping ts (fine cs i j) = go (ends w x i j)
-    where
-      go : (r : Judged ℕ) → andThen (andThen r (λ z. ret cs) w x) (λ cs. ret (made frames looping ts cs)) w x
-          ≡ andThen r (λ z. ret (made frames looping ts cs)) w x
-      go (fine z u v) = refl
-      go (badWord u) = refl
-      go (badText u) = refl
-  ended-made frames looping ts (badWord i) = refl
-  ended-made frames looping ts (badText j) = refl
-
-  headed-is : (frames looping nt nc i j : ℕ) → afterHead frames looping nt nc w x i j
-      ≡ andThen (times nt (nextText (wide 4)) w x i j) (λ ts w x i j. andThen (times nc content w x i j) (λ cs w x i j. andThen (ends w x i j) (λ z. ret (made frames looping ts cs)) w x) w x) w x
-  unfolding afterHead contentsAndEnd
-  headed-is frames looping nt nc i j = go (times nt (nextText (wide 4)) w x i j)
-    where
-      go : (r : Judged (List (List ℕ))) → andThen r (λ ts w x i j. andThen (contentsAndEnd nc w x i j) (λ cs. ret (made frames looping ts cs)) w x) w x
-          ≡ andThen r (λ ts w x i j. andThen (times nc content w x i j) (λ cs w x i j. andThen (ends w x i j) (λ z. ret (made frames looping ts cs)) w x) w x) w x
-      go (fine ts u v) = ended-made frames looping ts (times nc content w x u v)
-      go (badWord u) = refl
-      go (badText u) = refl
-
-  pub section-whole : fits (wide 2) w 0 ≡ true → fits (λ b. leb b 1) w 1 ≡ true → fits (wide 2) w 2 ≡ true → fits (wide 2) w 3 ≡ true → (nt nc : ℕ) → nt ≡ getD w 2 0 → nc ≡ getD w 3 0
-      → afterHead (getD w 0 0) (getD w 1 0) nt nc w x 4 0 ≡ section w x 0 0
-  unfolding section
-  section-whole e1 e2 e3 e4 nt nc et ec =
-      rw (word-fine (wide 2) w x 0 0 e1, word-fine (λ b. leb b 1) w x 1 0 e2, word-fine (wide 2) w x 2 0 e3, word-fine (wide 2) w x 3 0 e4, ← et, ← ec) (headed-is (getD w 0 0) (getD w 1 0) nt nc 4 0)
+        pub pane-on : fits (wide 2) w (i + 1 + 1 + 1) ≡ true → (nt nc : ℕ) → nt ≡ getD w (i + 1 + 1) 0 → nc ≡ getD w (i + 1 + 1 + 1) 0
+            → afterHead (getD w i 0) (getD w (i + 1) 0) nt nc w x (i + 1 + 1 + 1 + 1) j ≡ pane w x i j
+        unfolding pane afterHead
+        pane-on e4 nt nc et ec =
+            rw (word-fine (wide 2) w x i j e1, word-fine (λ b. leb b 1) w x (i + 1) j e2, word-fine (wide 2) w x (i + 1 + 1) j e3, word-fine (wide 2) w x (i + 1 + 1 + 1) j e4, ← et, ← ec)

@@ -326,7 +326,6 @@ module _ (s : List ℕ) where
 module _ (s : List ℕ) (is : List Item) (end : ℕ) (reads : section s 0 ≡ ok is end) (r : PaneAnimInfo) (readable : Readable r) (ew : words r ≡ wordsOf s is) (ex : texts r ≡ textsOf s is) where
   -- it is the record that the bytes are
   read-record : r ≡ recordAt s
-  unfolding words texts
   read-record =
       shape-once r (recordAt s) (fine-shape 84 r readable) (record-shape s) (ew ∙ words-shown s is ∙ ap wordsIn (section-shown s is end reads))
       (ex ∙ texts-shown s is ∙ ap bytesIn (section-shown s is end reads))

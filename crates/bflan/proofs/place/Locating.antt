@@ -14,7 +14,7 @@ use Rattle.core.specs.declared.run.Run.{Run}
 use Rattle.core.specs.declared.run.Run.the-variants.{Next, Cut}
 use Rattle.core.proofs.Runs.{table-fits, numbers-next}
 use Rattle.bflan.specs.declared.fault.Fault.{Fault}
-use Rattle.bflan.specs.declared.fault.Fault.the-variants.{NotPai1}
+use Rattle.bflan.specs.declared.fault.Fault.the-variants.{OtherLetters}
 use Rattle.bflan.specs.declared.place.Field.{Field}
 use Rattle.bflan.specs.declared.place.Field.the-variants.{FrameCount as frames, Looping as looping, Layer as layer, Target as number′, Key as key, Value as value}
 use Rattle.bflan.specs.declared.place.Place.{Place}
@@ -288,7 +288,7 @@ module _ (s : List ℕ) where
   unfolding section
   section-if = number s 4 0 4 _ refl (λ l4. number s 4 4 8 _ refl (λ l8. kind (eqb (get 4 s 0) pai1)))
     where
-      kind : (t : Bool) → If (λ is j. SectionAt s) (given t (body (get 4 s 4)) (fail (NotPai1 (get 4 s 0))) s 8)
+      kind : (t : Bool) → If (λ is j. SectionAt s) (given t (body (get 4 s 4)) (fail (OtherLetters (get 4 s 0))) s 8)
       kind true = body-at (get 4 s 4)
       kind false = no _
 
@@ -683,10 +683,10 @@ module _ (s : List ℕ) where
 
       pub locating-on : (t : Tally) (q : ℕ) (l : Located) → r ≡ Went t q → l ≡ ofSpot (locate s p) → l ≡ locating s p
       unfolding locating locatingIn
-      locating-on t q l e d = rw (le-leb (length s) limit h, whole s 0 t q (sym em ∙ e) .reads) d
+      locating-on t q l e d = rw (le-leb (length s) limit h, whole section s 0 t q (sym em ∙ e) .reads) d
 
       pub locating-section : (t : Tally) (q : ℕ) → r ≡ Went t q → SectionAt s
-      locating-section t q e = let w = whole s 0 t q (sym em ∙ e) in section-at s (w .items) (w .last) (w .reads)
+      locating-section t q e = let w = whole section s 0 t q (sym em ∙ e) in section-at s (w .items) (w .last) (w .reads)
 
     -- what an answer says
     pub record Spotted (at : ℕ) (f : Field) : Type 0 where

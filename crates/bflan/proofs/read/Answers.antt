@@ -1,4 +1,4 @@
--- What the public calls answer, by what the walks under them say.
+-- What calls of reading and of finding a text answer, of any format, by what the walks under them say.
 -- Assumes nothing.
 use Prim.Native.Nat.{ℕ, _+_, _-_, _<_, _≤_}
 use mathlib.Core.Path.{_≡_, refl, ap, sym, _∙_}
@@ -19,13 +19,12 @@ use Rattle.bflan.specs.declared.reader.tally.Walk.{Walk}
 use Rattle.bflan.specs.declared.reader.tally.Walk.the-variants.{Went, Stopped}
 use Rattle.bflan.specs.declared.read.ReadAnswer.the-variants.{Accepted, Refused, TooLong, TooShort}
 use Rattle.bflan.specs.declared.find.FindAnswer.the-variants.{Found, Refused as FindRefused, TooLong as FindTooLong, NoSuchText, ScratchTooShort}
-use Rattle.bflan.specs.Reader.{Res, ok, stop, Item}
-use Rattle.bflan.specs.pai1.Reading.{section}
+use Rattle.bflan.specs.Reader.{Res, ok, stop, P, Item}
 use Rattle.bflan.specs.Items.{wordsOf, textsOf}
 use Rattle.bflan.specs.inner.Walk.{emptyTally, tallied, walkOf, walked}
-use Rattle.bflan.specs.Answer.{ofReading, ofFinding, shown, shownIn, filled, reading, found, finding, textPart, textPtr}
+use Rattle.bflan.specs.Answer.{ofReading, ofFinding, shown, shownIn, filled, found, textPart, textPtr, findingBy, readingBy}
 use Rattle.bflan.specs.Items.{textsIn}
-use Rattle.core.proofs.Numbers.{Bytes}
+use Rattle.bflan.proofs.reader.Bounds.{Gives, given-ok, Countable}
 use Rattle.bflan.proofs.reader.Walks.{on-no, on-tally, no-fault}
 use Rattle.bflan.proofs.reader.Counts.{Fresh, whole-words, whole-bytes, whole-texts, whole-start, whole-len, whole-inside}
 
@@ -61,42 +60,50 @@ went-not : (s : List ℕ) (u t : Tally) (f : Fault) (p : ℕ) → walkOf s u [] 
 unfolding walkOf
 went-not s u t f p e = on-no _ _ _ (sym e)
 
--- what the tally of a section says, of which text k was wanted
-pub record Whole (s : List ℕ) (k : ℕ) (t : Tally) : Type 0 where
-  pub items : List Item
-  pub last : ℕ
-  pub reads : section s 0 ≡ ok items last
-  pub counts : t ≡ tallied s (emptyTally k) items
-
-pub whole : (s : List ℕ) (k : ℕ) (t : Tally) (p : ℕ) → walkOf s (emptyTally k) [] [] (section s 0) .0 ≡ Went t p → Whole s k t
-whole s k t p e = go (section s 0) refl e
-  where
-    go : (res : Res (List Item)) → section s 0 ≡ res → walkOf s (emptyTally k) [] [] res .0 ≡ Went t p → Whole s k t
-    go (ok is q) er em = record { items = is; last = q; reads = er; counts = went s (emptyTally k) t is q p em }
-    go (stop f) er em = absurd (went-not s (emptyTally k) t f p em)
-
 new : (k : ℕ) → Fresh k (emptyTally k)
 new k = (refl, refl, refl, refl)
 
-module _ (s : List ℕ) (b : Bytes s) (h : length s ≤ 16777216) (k : ℕ) (t : Tally) (m : Whole s k t) where
-  whole-w : t .words ≡ length (wordsOf s (m .items))
-  whole-w = ap (λ (z : Tally). z .words) (m .counts) ∙ whole-words s b h (m .items) (m .last) (m .reads) (emptyTally k) k (new k)
+-- of any reader
+module _ (p : P (List Item)) where
+  -- what the tally of a section says, of which text k was wanted
+  pub record Whole (s : List ℕ) (k : ℕ) (t : Tally) : Type 0 where
+    pub items : List Item
+    pub last : ℕ
+    pub reads : p s 0 ≡ ok items last
+    pub counts : t ≡ tallied s (emptyTally k) items
 
-  whole-b : t .bytes ≡ length (textsOf s (m .items))
-  whole-b = ap (λ (z : Tally). z .bytes) (m .counts) ∙ whole-bytes s b h (m .items) (m .last) (m .reads) (emptyTally k) k (new k)
+  pub whole : (s : List ℕ) (k : ℕ) (t : Tally) (q : ℕ) → walkOf s (emptyTally k) [] [] (p s 0) .0 ≡ Went t q → Whole s k t
+  whole s k t q e = go (p s 0) refl e
+    where
+      go : (res : Res (List Item)) → p s 0 ≡ res → walkOf s (emptyTally k) [] [] res .0 ≡ Went t q → Whole s k t
+      go (ok is l) er em = record { items = is; last = l; reads = er; counts = went s (emptyTally k) t is l q em }
+      go (stop f) er em = absurd (went-not s (emptyTally k) t f q em)
 
-  whole-t : t .texts ≡ length (textsIn (m .items))
-  whole-t = ap (λ (z : Tally). z .texts) (m .counts) ∙ whole-texts s b h (m .items) (m .last) (m .reads) (emptyTally k) k (new k)
+  module _ (s : List ℕ) (h : length s ≤ 16777216) (g : Gives s (Countable s) p) (k : ℕ) (t : Tally) (m : Whole s k t) where
+    held : Countable s (m .items)
+    held = given-ok g (m .reads)
 
-  module _ (l : k < length (textsIn (m .items))) where
-    whole-s : t .start ≡ getD (textsIn (m .items)) k (0, 0) .0
-    whole-s = ap (λ (z : Tally). z .start) (m .counts) ∙ whole-start s b h (m .items) (m .last) (m .reads) (emptyTally k) k (new k) l
+    whole-w : t .words ≡ length (wordsOf s (m .items))
+    whole-w = ap (λ (z : Tally). z .words) (m .counts) ∙ whole-words s h (m .items) held (emptyTally k) k (new k)
 
-    whole-l : t .len ≡ getD (textsIn (m .items)) k (0, 0) .1
-    whole-l = ap (λ (z : Tally). z .len) (m .counts) ∙ whole-len s b h (m .items) (m .last) (m .reads) (emptyTally k) k (new k) l
+    whole-b : t .bytes ≡ length (textsOf s (m .items))
+    whole-b = ap (λ (z : Tally). z .bytes) (m .counts) ∙ whole-bytes s h (m .items) held (emptyTally k) k (new k)
 
-    whole-i : t .start + t .len ≤ length s
-    whole-i = rw (m .counts) (whole-inside s b h (m .items) (m .last) (m .reads) (emptyTally k) k (new k) l)
+    whole-t : t .texts ≡ length (textsIn (m .items))
+    whole-t = ap (λ (z : Tally). z .texts) (m .counts) ∙ whole-texts s h (m .items) held (emptyTally k) k (new k)
+
+    met : k < t .texts → k < length (textsIn (m .items))
+    met l = omega (arith, whole-t, l)
+
+    module _ (l : k < length (textsIn (m .items))) where
+      whole-s : t .start ≡ getD (textsIn (m .items)) k (0, 0) .0
+      whole-s = ap (λ (z : Tally). z .start) (m .counts) ∙ whole-start s h (m .items) held (emptyTally k) k (new k) l
+
+      whole-l : t .len ≡ getD (textsIn (m .items)) k (0, 0) .1
+      whole-l = ap (λ (z : Tally). z .len) (m .counts) ∙ whole-len s h (m .items) held (emptyTally k) k (new k) l
+
+      whole-i : t .start + t .len ≤ length s
+      whole-i = rw (m .counts) (whole-inside s h (m .items) held (emptyTally k) k (new k) l)
 
 -- ---- reading
 
@@ -114,44 +121,41 @@ filled-texts : (s w x : List ℕ) (is : List Item) (p a b : ℕ) → a ≡ lengt
 unfolding ofReading filled
 filled-texts s w x is p a b ea eb ha hb = rw (sym ea, sym eb, le-leb _ _ ha, lt-leb _ _ hb)
 
-pub reading-long : (s w x : List ℕ) → 16777216 < length s → (ofReading (TooLong (length s)), w, x) ≡ reading s w x
-unfolding ofReading reading
-reading-long s w x h = rw (lt-leb _ _ h)
+module _ (p : P (List Item)) (s w x : List ℕ) where
+  pub reading-long : 16777216 < length s → (ofReading (TooLong (length s)), w, x) ≡ readingBy p s w x
+  unfolding ofReading readingBy
+  reading-long h = rw (lt-leb _ _ h)
 
-module _ (s w x : List ℕ) (h : length s ≤ 16777216) where
-  by-section : reading s w x ≡ filled s w x (section s 0)
-  unfolding reading
-  by-section = rw (le-leb _ _ h)
+  module _ (h : length s ≤ 16777216) where
+    by-result : readingBy p s w x ≡ filled s w x (p s 0)
+    unfolding readingBy
+    by-result = rw (le-leb _ _ h)
 
-  pub reading-stop : (t : Tally) (f : Fault) → walkOf s t [] [] (section s 0) .0 ≡ Stopped f → (ofReading (Refused f), w, x) ≡ reading s w x
-  unfolding ofReading filled
-  reading-stop t f e = rw (by-section, stopped s t (section s 0) f e)
+    pub reading-stop : (t : Tally) (f : Fault) → walkOf s t [] [] (p s 0) .0 ≡ Stopped f → (ofReading (Refused f), w, x) ≡ readingBy p s w x
+    unfolding ofReading filled
+    reading-stop t f e = rw (by-result, stopped s t (p s 0) f e)
 
-  module _ (b : Bytes s) (k : ℕ) (t : Tally) (p : ℕ) (e : walkOf s (emptyTally k) [] [] (section s 0) .0 ≡ Went t p) where
-    m : Whole s k t
-    m = whole s k t p e
+    module _ (g : Gives s (Countable s) p) (k : ℕ) (t : Tally) (q : ℕ) (e : walkOf s (emptyTally k) [] [] (p s 0) .0 ≡ Went t q) where
+      m : Whole p s k t
+      m = whole p s k t q e
 
-    by-items : reading s w x ≡ filled s w x (ok (m .items) (m .last))
-    by-items = by-section ∙ ap (filled s w x) (m .reads)
+      by-items : readingBy p s w x ≡ filled s w x (ok (m .items) (m .last))
+      by-items = by-result ∙ ap (filled s w x) (m .reads)
 
-    pub reading-on : (r : Walk) (u : Tally) (w′ x′ : List ℕ) → t .words ≤ length w → t .bytes ≤ length x → u ≡ emptyTally k → walked r w′ x′ ≡ walkOf s u w x (section s 0)
-        → (ofReading (Accepted (t .words) (t .bytes)), w′, x′) ≡ reading s w x
-    reading-on r u w′ x′ ha hb eu er =
-        let e′ : walked r w′ x′ ≡ walkOf s (emptyTally k) w x (ok (m .items) (m .last)) = er ∙ ap (λ (z : Tally). walkOf s z w x (section s 0)) eu ∙ ap (walkOf s (emptyTally k) w x) (m .reads) in
-        let z = tables r s (emptyTally k) w x w′ x′ (m .items) (m .last) e′ in
-        rw (by-items, z .0, z .1) (filled-both s w x (m .items) (m .last) _ _ (whole-w s b h k t m) (whole-b s b h k t m) ha hb)
+      pub reading-on : (r : Walk) (u : Tally) (w′ x′ : List ℕ) → t .words ≤ length w → t .bytes ≤ length x → u ≡ emptyTally k → walked r w′ x′ ≡ walkOf s u w x (p s 0)
+          → (ofReading (Accepted (t .words) (t .bytes)), w′, x′) ≡ readingBy p s w x
+      reading-on r u w′ x′ ha hb eu er =
+          let e′ : walked r w′ x′ ≡ walkOf s (emptyTally k) w x (ok (m .items) (m .last)) = er ∙ ap (λ (z : Tally). walkOf s z w x (p s 0)) eu ∙ ap (walkOf s (emptyTally k) w x) (m .reads) in
+          let z = tables r s (emptyTally k) w x w′ x′ (m .items) (m .last) e′ in
+          rw (by-items, z .0, z .1) (filled-both s w x (m .items) (m .last) _ _ (whole-w p s h g k t m) (whole-b p s h g k t m) ha hb)
 
-    pub reading-words : length w < t .words → (ofReading (TooShort (t .words) (t .bytes)), w, x) ≡ reading s w x
-    reading-words ha = filled-words s w x (m .items) (m .last) _ _ (whole-w s b h k t m) (whole-b s b h k t m) ha ∙ sym by-items
+      pub reading-words : length w < t .words → (ofReading (TooShort (t .words) (t .bytes)), w, x) ≡ readingBy p s w x
+      reading-words ha = filled-words s w x (m .items) (m .last) _ _ (whole-w p s h g k t m) (whole-b p s h g k t m) ha ∙ sym by-items
 
-    pub reading-texts : t .words ≤ length w → length x < t .bytes → (ofReading (TooShort (t .words) (t .bytes)), w, x) ≡ reading s w x
-    reading-texts ha hb = filled-texts s w x (m .items) (m .last) _ _ (whole-w s b h k t m) (whole-b s b h k t m) ha hb ∙ sym by-items
+      pub reading-texts : t .words ≤ length w → length x < t .bytes → (ofReading (TooShort (t .words) (t .bytes)), w, x) ≡ readingBy p s w x
+      reading-texts ha hb = filled-texts s w x (m .items) (m .last) _ _ (whole-w p s h g k t m) (whole-b p s h g k t m) ha hb ∙ sym by-items
 
 -- ---- finding a text
-
-pub finding-long : (s : List ℕ) (k : ℕ) (x : List ℕ) → 16777216 < length s → (ofFinding (FindTooLong (length s)), x) ≡ finding s k x
-unfolding ofFinding finding
-finding-long s k x h = rw (lt-leb _ _ h)
 
 found-none : (s : List ℕ) (k : ℕ) (x : List ℕ) (is : List Item) (p : ℕ) → length (textsIn is) ≤ k → (ofFinding NoSuchText, x) ≡ found s k x (ok is p)
 unfolding ofFinding found
@@ -164,35 +168,41 @@ found-there s k x is p h = rw (lt-ltb _ _ h)
 shown-place : (s x : List ℕ) (p : ℕ × ℕ) (a len : ℕ) → a ≡ p .0 → len ≡ p .1 → shownIn s x p ≡ shown a (slice a (a + len) s) x
 shown-place s x p a len ea el = rw (sym ea, sym el)
 
-module _ (s : List ℕ) (k : ℕ) (h : length s ≤ 16777216) where
-  in-section : (x : List ℕ) → finding s k x ≡ found s k x (section s 0)
-  unfolding finding
-  in-section x = rw (le-leb _ _ h)
+-- it lies in the section
+pub finding-inside : (p : P (List Item)) (s : List ℕ) (k : ℕ) (h : length s ≤ 16777216) (g : Gives s (Countable s) p) (t : Tally) (q : ℕ)
+    → walkOf s (emptyTally k) [] [] (p s 0) .0 ≡ Went t q → k < t .texts → t .start + t .len ≤ length s
+finding-inside p s k h g t q e l = let m = whole p s k t q e in whole-i p s h g k t m (met p s h g k t m l)
 
-  pub finding-stop : (x : List ℕ) (f : Fault) → walkOf s (emptyTally k) [] [] (section s 0) .0 ≡ Stopped f → (ofFinding (FindRefused f), x) ≡ finding s k x
-  unfolding ofFinding found
-  finding-stop x f e = rw (in-section x, stopped s (emptyTally k) (section s 0) f e)
+module _ (p : P (List Item)) (s : List ℕ) (k : ℕ) (x : List ℕ) where
+  pub finding-long : 16777216 < length s → (ofFinding (FindTooLong (length s)), x) ≡ findingBy p s k x
+  unfolding ofFinding findingBy
+  finding-long h = rw (lt-leb _ _ h)
 
-  module _ (b : Bytes s) (t : Tally) (p : ℕ) (e : walkOf s (emptyTally k) [] [] (section s 0) .0 ≡ Went t p) where
-    n : Whole s k t
-    n = whole s k t p e
+  module _ (h : length s ≤ 16777216) where
+    in-result : findingBy p s k x ≡ found s k x (p s 0)
+    unfolding findingBy
+    in-result = rw (le-leb _ _ h)
 
-    in-items : (x : List ℕ) → finding s k x ≡ found s k x (ok (n .items) (n .last))
-    in-items x = in-section x ∙ ap (found s k x) (n .reads)
+    pub finding-stop : (f : Fault) → walkOf s (emptyTally k) [] [] (p s 0) .0 ≡ Stopped f → (ofFinding (FindRefused f), x) ≡ findingBy p s k x
+    unfolding ofFinding found
+    finding-stop f e = rw (in-result, stopped s (emptyTally k) (p s 0) f e)
 
-    pub finding-none : (x : List ℕ) → t .texts ≤ k → (ofFinding NoSuchText, x) ≡ finding s k x
-    finding-none x l =
-        let g : length (textsIn (n .items)) ≤ k = omega (arith, whole-t s b h k t n, l) in
-        found-none s k x (n .items) (n .last) g ∙ sym (in-items x)
+    module _ (g : Gives s (Countable s) p) (t : Tally) (q : ℕ) (e : walkOf s (emptyTally k) [] [] (p s 0) .0 ≡ Went t q) where
+      n : Whole p s k t
+      n = whole p s k t q e
 
-    met : k < t .texts → k < length (textsIn (n .items))
-    met l = omega (arith, whole-t s b h k t n, l)
+      in-items : findingBy p s k x ≡ found s k x (ok (n .items) (n .last))
+      in-items = in-result ∙ ap (found s k x) (n .reads)
 
-    pub finding-inside : k < t .texts → t .start + t .len ≤ length s
-    finding-inside l = whole-i s b h k t n (met l)
+      pub finding-none : t .texts ≤ k → (ofFinding NoSuchText, x) ≡ findingBy p s k x
+      finding-none l =
+          let c : length (textsIn (n .items)) ≤ k = omega (arith, whole-t p s h g k t n, l) in
+          found-none s k x (n .items) (n .last) c ∙ sym in-items
 
-    pub finding-there : (x : List ℕ) → k < t .texts → finding s k x ≡ shown (t .start) (slice (t .start) (t .start + t .len) s) x
-    finding-there x l = in-items x ∙ found-there s k x (n .items) (n .last) (met l) ∙ shown-place s x _ _ _ (whole-s s b h k t n (met l)) (whole-l s b h k t n (met l))
+      pub finding-there : k < t .texts → findingBy p s k x ≡ shown (t .start) (slice (t .start) (t .start + t .len) s) x
+      finding-there l =
+          let c = met p s h g k t n l in
+          in-items ∙ found-there s k x (n .items) (n .last) c ∙ shown-place s x _ _ _ (whole-s p s h g k t n c) (whole-l p s h g k t n c)
 
 -- a text of these bytes that starts at a
 module _ (a : ℕ) (bytes x : List ℕ) where

@@ -1,13 +1,11 @@
--- How much a section of at most 16,777,216 bytes can hold: so many items and texts at most, and each text lies in the section.
+-- How much a reading of a section can give: so many items and texts at most, and each text lies in the section. Of any format.
 -- Assumes nothing.
 use Prim.Native.Nat.{ℕ, zero, suc, _+_, _*_, _^_, _<_, _≤_}
 use mathlib.Core.Path.{_≡_, refl, ap}
 use mathlib.Core.Bool.{Bool, true, false}
 use mathlib.Core.List.{List, [], _∷_, _++_, map}
 use native.Mathlib.Omega.{arith}
-use lib.Dec.{leb, eqb}
 use lib.ListN.{length, getD, length-append, length-map}
-use Rattle.core.specs.Choice.{pick}
 use Rattle.core.specs.Number.{readOf}
 use Rattle.core.specs.Run.{numbersOf, numbersAt}
 use Rattle.core.specs.Text.{fixedOf, endedOf}
@@ -22,9 +20,7 @@ use Rattle.core.proofs.Runs.{length-numbers, numbers-next}
 use Rattle.core.proofs.Zeros.{fixed-text, ended-text}
 use Rattle.bflan.specs.declared.fault.Fault.{Fault}
 use Rattle.bflan.specs.Items.{textsIn}
-use Rattle.bflan.specs.pai1.Letters.{fleu}
-use Rattle.bflan.specs.Reader.{Res, ok, stop, P, andThen, _>>=_, ret, given, fail, here, Item, word, text, asNumber, asText, num, seekTo, skip, fixedText, endedText, oneEnded, numbers, many, visit}
-use Rattle.bflan.specs.pai1.Reading.{keyOf, curveOf, countOf, keys, target, datum, info, infoTable, content, texture, pai1, contents, body, section}
+use Rattle.bflan.specs.Reader.{Res, ok, stop, P, andThen, _>>=_, ret, given, fail, Item, word, text, asNumber, asText, num, fixedText, endedText, oneEnded, numbers, many, visit}
 use Rattle.bflan.proofs.reader.KeyRuns.{asNumbers, numbers-run}
 
 -- ---- what holds of what a reading gives, wherever it starts, unless it is stopped
@@ -35,6 +31,9 @@ Known Q (stop f) = Unit
 
 pub record Gives (s : List ℕ) {A : Type 0} (Q : A → Type 0) (p : P A) : Type 0 where
   pub from : (i : ℕ) → Known Q (p s i)
+
+pub given-ok : {s : List ℕ} {A : Type 0} {Q : A → Type 0} {p : P A} {i j : ℕ} {v : A} → Gives s Q p → p s i ≡ ok v j → Q v
+given-ok {i = i} g e = rw e at (g .from i)
 
 -- a reading's last line, and a stop
 module _ (s : List ℕ) {A : Type 0} {Q : A → Type 0} where
@@ -92,18 +91,18 @@ inside-append s (t ∷ ts) us h g zero = h 0
 inside-append s (t ∷ ts) us h g (suc k) = inside-append s ts us (λ j. h (suc j)) g k
 
 module _ (s : List ℕ) where
-  wider : {a b c d : ℕ} {is : List Item} → Small s a b is → a ≤ c → b ≤ d → Small s c d is
+  pub wider : {a b c d : ℕ} {is : List Item} → Small s a b is → a ≤ c → b ≤ d → Small s c d is
   wider h x y = record { items = omega (arith, h .items); texts = omega (arith, h .texts); inside = h .inside }
 
-  small-none : (a b : ℕ) → Small s a b []
+  pub small-none : (a b : ℕ) → Small s a b []
   unfolding textsIn
   small-none a b = record { items = omega arith; texts = omega arith; inside = λ k. omega arith }
 
-  small-word : (v : ℕ) {a b : ℕ} {is : List Item} → Small s a b is → Small s (suc a) b (word v ∷ is)
+  pub small-word : (v : ℕ) {a b : ℕ} {is : List Item} → Small s a b is → Small s (suc a) b (word v ∷ is)
   unfolding textsIn
   small-word v h = record { items = omega (arith, h .items); texts = h .texts; inside = h .inside }
 
-  small-text : (a n : ℕ) → a + n ≤ length s → Small s 1 1 (text a n ∷ [])
+  pub small-text : (a n : ℕ) → a + n ≤ length s → Small s 1 1 (text a n ∷ [])
   unfolding textsIn
   small-text a n h = record { items = omega arith; texts = omega arith; inside = at }
     where
@@ -111,10 +110,10 @@ module _ (s : List ℕ) where
       at zero = h
       at (suc k) = omega arith
 
-  small-words : (vs : List ℕ) → Small s (length vs) 0 (map word vs)
+  pub small-words : (vs : List ℕ) → Small s (length vs) 0 (map word vs)
   small-words vs = record { items = omega (arith, length-map vs word); texts = rw (texts-words vs) (omega arith); inside = rw (texts-words vs) (λ k. omega arith) }
 
-  small-append : {a b c d : ℕ} {is js : List Item} → Small s a b is → Small s c d js → Small s (a + c) (b + d) (is ++ js)
+  pub small-append : {a b c d : ℕ} {is js : List Item} → Small s a b is → Small s c d js → Small s (a + c) (b + d) (is ++ js)
   small-append {is = is} {js = js} h g =
       record {
         items = omega (arith, h .items, g .items, length-append is js);
@@ -123,19 +122,19 @@ module _ (s : List ℕ) where
       }
 
   -- parts one after another
-  many-small : (a b : ℕ) (p : P (List Item)) → Gives s (Small s a b) p → (n : ℕ) → Gives s (Small s (n * a) (n * b)) (many n p)
+  pub many-small : (a b : ℕ) (p : P (List Item)) → Gives s (Small s a b) p → (n : ℕ) → Gives s (Small s (n * a) (n * b)) (many n p)
   unfolding many
   many-small a b p h zero = done s [] (small-none (0 * a) (0 * b))
   many-small a b p h (suc n) = next s _ h (λ x hx. next s _ (many-small a b p h n) (λ xs hs. done s (x ++ xs) (wider (small-append hx hs) (omega arith) (omega arith))))
 
-  visit-small : (a b base : ℕ) (p : ℕ → P (List Item)) → ((at : ℕ) → Gives s (Small s a b) (p at)) → (os : List ℕ) → Gives s (Small s (length os * a) (length os * b)) (visit base p os)
+  pub visit-small : (a b base : ℕ) (p : ℕ → P (List Item)) → ((at : ℕ) → Gives s (Small s a b) (p at)) → (os : List ℕ) → Gives s (Small s (length os * a) (length os * b)) (visit base p os)
   unfolding visit
   visit-small a b base p h [] = done s [] (small-none (0 * a) (0 * b))
   visit-small a b base p h (o ∷ os) = next s _ (h (base + o)) (λ x hx. next s _ (visit-small a b base p h os) (λ xs hs. done s (x ++ xs) (wider (small-append hx hs) (omega arith) (omega arith))))
 
   -- ---- single reads
 
-  ended-small : Gives s (Small s 1 1) oneEnded
+  pub ended-small : Gives s (Small s 1 1) oneEnded
   unfolding oneEnded endedText
   ended-small = record { from = λ i. go i (endedOf s i) refl }
     where
@@ -144,7 +143,7 @@ module _ (s : List ℕ) where
       go i (TextPast o k) e = tt
       go i (Unended a) e = tt
 
-  fixed-small : (n : ℕ) → Gives s (λ t. Small s 1 1 (t ∷ [])) (fixedText n)
+  pub fixed-small : (n : ℕ) → Gives s (λ t. Small s 1 1 (t ∷ [])) (fixedText n)
   unfolding fixedText
   fixed-small n = record { from = λ i. go i (fixedOf n s i) refl }
     where
@@ -153,40 +152,23 @@ module _ (s : List ℕ) where
       go i (TextPast o k) e = tt
       go i (Unended a) e = tt
 
-  texture-small : (base : ℕ) → Gives s (Small s 1 1) (texture base)
-  unfolding texture
-  texture-small base = past s (seekTo base) _ (λ at. ended-small)
-
-  numbers-fit : (n : ℕ) → Gives s (λ vs. (length vs ≡ n) × (4 * n ≤ length s)) (numbers n)
+  pub numbers-fit : (n : ℕ) → Gives s (λ vs. (length vs ≡ n) × (4 * n ≤ length s)) (numbers n)
   numbers-fit n = record { from = λ i. rw (numbers-run n s i) (go i (numbersOf n s i) refl) }
     where
       go : (i : ℕ) (r : Run) → numbersOf n s i ≡ r → Known (λ vs. (length vs ≡ n) × (4 * n ≤ length s)) (asNumbers r (numbersAt n s i))
       go i (Next q) e = (length-numbers n s i, omega (arith, numbers-next n s i q e .0))
       go i (Cut o k) e = tt
 
-  key-small : (c : ℕ) → Gives s (Small s 3 0) (keyOf c)
-  key-small zero = past s (num 4) _ (λ value. done s _ (small-word value (small-none 2 0)))
-  key-small (suc zero) = past s (num 4) _ (λ frame. past s (num 2) _ (λ value. past s (skip 2) _ (λ k. done s _ (small-word frame (small-word value (small-none 1 0))))))
-  key-small (suc (suc c)) = past s (num 4) _ (λ frame. past s (num 4) _ (λ value. past s (num 4) _ (λ slope. done s _ (small-word frame (small-word value (small-word slope (small-none 0 0)))))))
+-- ---- the counts
 
--- ---- level by level: the counts fit one byte or two, and the numbers of a list are all in the section
-
-pub count-le : (curve n : ℕ) → countOf curve n ≤ n
-unfolding countOf
-count-le curve n = go (leb curve 2)
-  where
-    go : (t : Bool) → pick t n 0 ≤ n
-    go true = omega arith
-    go false = omega arith
-
-wider-all : (s : List ℕ) {a b : ℕ} (c d : ℕ) {p : P (List Item)} → Gives s (Small s a b) p → a ≤ c → b ≤ d → Gives s (Small s c d) p
+pub wider-all : (s : List ℕ) {a b : ℕ} (c d : ℕ) {p : P (List Item)} → Gives s (Small s a b) p → a ≤ c → b ≤ d → Gives s (Small s c d) p
 wider-all s {a} {b} c d {p} g x y = record { from = λ i. go (p s i) (g .from i) }
   where
     go : (r : Res (List Item)) → Known (Small s a b) r → Known (Small s c d) r
     go (ok is j) k = wider s k x y
     go (stop f) k = tt
 
-module _ (s : List ℕ) (bytes : Bytes s) (fits : length s ≤ 16777216) where
+module _ (s : List ℕ) (bytes : Bytes s) where
   pub num-lt : (k : ℕ) → Gives s (λ v. v < 256 ^ k) (num k)
   unfolding num
   num-lt k = record { from = λ i. go i (readOf k s i) refl }
@@ -195,69 +177,6 @@ module _ (s : List ℕ) (bytes : Bytes s) (fits : length s ≤ 16777216) where
       go i (Value v q) e = read-lt k s i v q bytes e
       go i (ReadPast o m) e = tt
 
-  keys-small : (curve n : ℕ) → n < 65536 → Gives s (Small s 196605 0) (keys curve n)
-  unfolding keys
-  keys-small curve n h =
-      let c = count-le curve n in
-      wider-all s 196605 0 (many-small s 3 0 (keyOf (curveOf curve)) (key-small s (curveOf curve)) (countOf curve n)) (omega arith) (omega arith)
-
-  target-small : (letters base : ℕ) → Gives s (Small s 196609 0) (target letters base)
-  unfolding target
-  target-small letters base =
-      past s (seekTo base) _ (λ at. past s (num 1) _ (λ layer. past s (num 1) _ (λ raw. past s (num 1) _ (λ curve. past s (num 1) _ (λ r.
-      next s _ (num-lt 2) (λ n h. past s (num 2) _ (λ r. past s (num 4) _ (λ offset. past s (seekTo (base + offset)) _ (λ at.
-      next s _ (keys-small curve n h) (λ ks k. done s _ (small-word s _ (small-word s _ (small-word s _ (small-word s _ k))))))))))))))
-
-  datum-small : Gives s (Small s 4194310 1) datum
-  unfolding datum
-  datum-small =
-      past s (num 4) _ (λ size. past s (num 2) _ (λ one. past s (num 2) _ (λ two. past s (num 4) _ (λ base. past s (num 4) _ (λ three.
-      next s _ (numbers-fit s (3 * base)) (λ vs h. past s here _ (λ at. past s (num 4) _ (λ offset. past s (seekTo (at + offset)) _ (λ start.
-      next s _ (ended-small s) (λ key k.
-      done s _ (wider s (small-word s _ (small-word s _ (small-word s _ (small-word s _ (small-word s _ (small-append s (small-words s vs) k)))))) (omega (arith, h .0, h .1)) (omega arith))))))))))))
-
-  info-small : (base : ℕ) → Gives s (Small s 1069549052 255) (info base)
-  unfolding info
-  info-small base =
-      past s (seekTo base) _ (λ at. past s (num 4) _ (λ letters. next s _ (num-lt 1) (λ n h. past s (num 1) _ (λ r. past s (num 2) _ (λ r.
-      either s (eqb letters fleu)
-      (next s _ (many-small s 4194310 1 datum datum-small n) (λ ds k. done s _ (wider s (small-word s _ (small-word s _ k)) (omega arith) (omega arith))))
-      (next s _ (numbers-fit s n) (λ os e. next s _ (visit-small s 196609 0 base (target letters) (target-small letters) os) (λ ts k. done s _ (wider s (small-word s _ (small-word s _ k)) (omega (arith, e .0)) (omega arith))))))))))
-
-  content-small : (base : ℕ) → Gives s (Small s 272735008263 65026) (content base)
-  unfolding content
-  content-small base =
-      past s (seekTo base) _ (λ at. next s _ (fixed-small s 28) (λ name t. next s _ (num-lt 1) (λ n h. past s (num 1) _ (λ type. past s (num 2) _ (λ r. past s (infoTable base type) _ (λ at.
-      next s _ (numbers-fit s n) (λ os e. next s _ (visit-small s 1069549052 255 base info info-small os) (λ is k.
-      done s _ (wider s (small-append s t (small-word s _ (small-word s _ k))) (omega (arith, e .0)) (omega (arith, e .0)))))))))))
-
-  contents-small : (table n : ℕ) → n < 65536 → Gives s (Small s 17873688766515705 4261478910) (contents table n)
-  unfolding contents
-  contents-small table n h =
-      past s (seekTo table) _ (λ at. next s _ (numbers-fit s n) (λ os e.
-      wider-all s _ _ (visit-small s 272735008263 65026 0 content content-small os) (omega (arith, e .0)) (omega (arith, e .0))))
-
-  body-small : (size : ℕ) → Gives s (Small s 17873688766581244 4261544445) (body size)
-  unfolding body
-  body-small size =
-      past s (num 2) _ (λ frames. past s (num 1) _ (λ looping. past s (num 1) _ (λ r. next s _ (num-lt 2) (λ nt h. next s _ (num-lt 2) (λ nc g. past s (num 4) _ (λ table. past s here _ (λ start.
-      next s _ (numbers-fit s nt) (λ os e. next s _ (visit-small s 1 1 start texture (texture-small s) os) (λ ts k. next s _ (contents-small table nc g) (λ cs l. past s (seekTo size) _ (λ end.
-      done s _ (wider s (small-word s _ (small-word s _ (small-word s _ (small-word s _ (small-append s k l))))) (omega (arith, e .0)) (omega (arith, e .0))))))))))))))
-
-  section-gives : Gives s (Small s 144115188075855872 8589934592) section
-  unfolding section
-  section-gives =
-      past s (num 4) _ (λ letters. past s (num 4) _ (λ size.
-      either s (eqb letters pai1) (wider-all s _ _ (body-small size) (omega arith) (omega arith)) (none s _)))
-
-  -- ---- the section
-
-  module _ (is : List Item) (p : ℕ) (e : section s 0 ≡ ok is p) where
-    pub section-small : Small s 144115188075855872 8589934592 is
-    section-small = rw e at (section-gives .from 0)
-
-    pub section-most : (length is ≤ 144115188075855872) × (length (textsIn is) ≤ 8589934592)
-    section-most = (section-small .items, section-small .texts)
-
-    pub section-inside : Inside s (textsIn is)
-    section-inside = section-small .inside
+-- items whose counts a usize holds
+abbrev pub Countable : List ℕ → List Item → Type 0
+Countable s is = Small s 144115188075855872 8589934592 is

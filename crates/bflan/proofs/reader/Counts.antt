@@ -1,5 +1,5 @@
 -- Items as counts: how many words and text bytes they have, and what a tally says of them while its counts fit.
--- A section of at most 16,777,216 bytes is read whole with counts that fit. Assumes nothing.
+-- Assumes nothing.
 use Prim.Native.Nat.{ℕ, zero, suc, _+_, _*_, _<_, _≤_}
 use mathlib.Core.Path.{_≡_, refl, ap, _∙_}
 use mathlib.Core.List.{List, [], _∷_}
@@ -7,15 +7,13 @@ use native.Mathlib.Omega.{arith}
 use borrow.Author.Tests.{eq-eqb, ne-eqb}
 use lib.ListN.{length, getD, take, length-append, length-take, length-drop}
 use lib.Seq.{slice}
-use Rattle.core.proofs.Numbers.{Bytes}
 use Rattle.core.proofs.utf8.Laws.{decode-bound}
 use Rattle.bflan.specs.declared.reader.tally.Tally.{Tally}
 use Rattle.bflan.specs.Items.{textsIn}
-use Rattle.bflan.specs.Reader.{ok, Item, word, text}
-use Rattle.bflan.specs.pai1.Reading.{section}
+use Rattle.bflan.specs.Reader.{Item, word, text}
 use Rattle.bflan.specs.Items.{shownAt, wordsOf, textsOf}
 use Rattle.bflan.specs.inner.Walk.{withWords, withText, tallied}
-use Rattle.bflan.proofs.reader.Bounds.{section-most, section-inside}
+use Rattle.bflan.proofs.reader.Bounds.{Countable}
 
 -- ---- words and text bytes
 
@@ -114,18 +112,16 @@ module _ (s : List ℕ) (is : List Item) (t : Tally) (k : ℕ) (new : Fresh k t)
   pub fresh-place : k < length (textsIn is) → placeOf (tallied s t is) ≡ getD (textsIn is) k (0, 0)
   fresh-place h = place-met s t is k (omega (arith, new .2, new .3)) h (room .texts)
 
--- ---- the same of a section that was read whole
+-- ---- the same of items whose counts fit
 
-module _ (s : List ℕ) (bytes : Bytes s) (fits : length s ≤ 16777216) (is : List Item) (p : ℕ) (e : section s 0 ≡ ok is p) where
+module _ (s : List ℕ) (fits : length s ≤ 16777216) (is : List Item) (m : Countable s is) where
   -- what the tables need
   pub needs-bound : (length (wordsOf s is) ≤ 144115188075855872) × (length (textsOf s is) ≤ 576460752303423488)
-  needs-bound =
-      let m = section-most s bytes fits is p e in
-      (omega (arith, m .0, words-length s is), omega (arith, m .1, texts-most s fits is))
+  needs-bound = (omega (arith, m .items, words-length s is), omega (arith, m .texts, texts-most s fits is))
 
   module _ (t : Tally) (k : ℕ) (new : Fresh k t) where
     whole-room : Room s t is
-    whole-room = let m = section-most s bytes fits is p e in fresh-room s is t k new fits (m .0) (m .1)
+    whole-room = fresh-room s is t k new fits (m .items) (m .texts)
 
     pub whole-words : tallied s t is .words ≡ length (wordsOf s is)
     whole-words = fresh-words s is t k new whole-room
@@ -148,4 +144,4 @@ module _ (s : List ℕ) (bytes : Bytes s) (fits : length s ≤ 16777216) (is : L
 
       -- and that text lies in the section
       pub whole-inside : tallied s t is .start + tallied s t is .len ≤ length s
-      whole-inside = rw (whole-start, whole-len) (section-inside s bytes fits is p e k)
+      whole-inside = rw (whole-start, whole-len) (m .inside k)

@@ -12,11 +12,11 @@ use lib.ListN.{length, getD, take, drop, length-take, length-drop}
 use lib.Seq.{drop-cons}
 use Rattle.core.specs.Choice.{pick}
 use Rattle.core.specs.Text.{firstFault}
-use Rattle.bflan.specs.Judge.{Judged, fine, badWord, badText, J, andThen, _>>=_, ret, given, nextWord, nextChars, nextText, times, wide, row, ends}
-use Rattle.bflan.specs.pai1.Judge.{target, datum, info, content, section}
+use Rattle.bflan.specs.Judge.{Judged, fine, badWord, badText, J, andThen, _>>=_, ret, given, nextWord, nextChars, nextText, times, wide, row, ends, whole}
+use Rattle.bflan.specs.pai1.Judge.{target, datum, info, content, pane, section}
 use Rattle.bflan.specs.pai1.Letters.{fleu, lettersFit, targetFits}
 use Rattle.bflan.specs.pai1.Record.{AnimTarget, ExtendedUserDataAnim, AnimInfo, Standard, ExtendedUserData, AnimContent, PaneAnimInfo, keyWidths}
-use Rattle.bflan.proofs.judge.Judging.{fine-to, no-word, no-text}
+use Rattle.bflan.proofs.judge.Laws.{fine-to, no-word, no-text}
 
 -- ---- a walk of two parts
 
@@ -250,16 +250,27 @@ ends-at w x i j {u} {k} {l} e = go (ltb i (length w)) (ltb j (length x)) e
     go false true e = no-text e
     go false false e = fine-to (λ (u k l : ℕ). (k ≡ i) × (l ≡ j)) e (refl, refl)
 
-pub section-at : (w x : List ℕ) {r : PaneAnimInfo} {k l : ℕ} → section w x 0 0 ≡ fine r k l → SectionAt w x r k l
-unfolding section
-section-at w x e =
+-- a value that is all there is was judged fine
+pub whole-at : {A : Type 0} (p : J A) (w x : List ℕ) (i j : ℕ) {a : A} {k l : ℕ} → whole p w x i j ≡ fine a k l → p w x i j ≡ fine a k l
+unfolding whole
+whole-at {A} p w x i j e =
+    opened w x i j p _ e λ v m n b e.
+    opened w x m n ends _ e λ u y z c e.
+    let f = ends-at w x m n c in
+    fine-to (λ (a : A) (k l : ℕ). p w x i j ≡ fine a k l) e (rw (f .0, f .1) b)
+
+pane-at : (w x : List ℕ) {r : PaneAnimInfo} {k l : ℕ} → pane w x 0 0 ≡ fine r k l → SectionAt w x r k l
+unfolding pane
+pane-at w x e =
     opened-word w x 0 0 (wide 2) _ e λ h q e.
     opened-word w x 1 0 (λ b. leb b 1) _ e λ h q e.
     opened-word w x 2 0 (wide 2) _ e λ h q e.
     opened-word w x 3 0 (wide 2) _ e λ h q e.
     opened w x 4 0 (times (getD w 2 0) (nextText (wide 4))) _ e λ ts m n a e.
     opened w x m n (times (getD w 3 0) content) _ e λ cs o p b e.
-    opened w x o p ends _ e λ u y z c e.
-    let f = ends-at w x o p c in
     fine-to (λ (r : PaneAnimInfo) (k l : ℕ). SectionAt w x r k l) e
-    (record { word = m; byte = n; there = omega (arith, h); frames = refl; looping = refl; textures = a; contents = rw (f .0, f .1) b })
+    (record { word = m; byte = n; there = omega (arith, h); frames = refl; looping = refl; textures = a; contents = b })
+
+pub section-at : (w x : List ℕ) {r : PaneAnimInfo} {k l : ℕ} → section w x 0 0 ≡ fine r k l → SectionAt w x r k l
+unfolding section
+section-at w x e = pane-at w x (whole-at pane w x 0 0 e)

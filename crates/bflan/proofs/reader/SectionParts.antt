@@ -14,7 +14,7 @@ use Rattle.core.specs.Seek.{seekOf}
 use Rattle.core.specs.declared.run.Run.the-variants.{Next, Cut}
 use Rattle.core.specs.declared.seek.Sought.the-variants.{At, Past as SoughtPast}
 use Rattle.bflan.specs.declared.fault.Fault.{Fault}
-use Rattle.bflan.specs.declared.fault.Fault.the-variants.{PastEnd, NotPai1}
+use Rattle.bflan.specs.declared.fault.Fault.the-variants.{PastEnd, OtherLetters}
 use Rattle.bflan.specs.declared.reader.section.SectionHead.{SectionHead}
 use Rattle.bflan.specs.declared.reader.section.SectionHeader.{SectionHeader}
 use Rattle.bflan.specs.declared.reader.tally.Tally.{Tally}
@@ -203,7 +203,7 @@ module _ (s : List ℕ) where
 
   -- a section by its header
   behindHeader : SectionHeader → List ℕ → ℕ → Res (List Item)
-  behindHeader h = given (eqb (h .magic) pai1) (body (h .size)) (fail (NotPai1 (h .magic)))
+  behindHeader h = given (eqb (h .magic) pai1) (body (h .size)) (fail (OtherLetters (h .magic)))
 
   section-row : section s 0 ≡ rowThen (4 ∷ 4 ∷ []) (λ vs. behindHeader (headerOf vs)) s 0
   unfolding section behindHeader rowThen
@@ -216,7 +216,7 @@ module _ (s : List ℕ) where
   section-short f e = section-header ∙ ap (λ (r : Res SectionHeader). andThen r behindHeader s) (sym e)
 
   module _ (h : SectionHeader) (e : ok h 8 ≡ header s 0) where
-    pub section-other : (h .magic ≡ pai1 → ⊥) → section s 0 ≡ stop (NotPai1 (h .magic))
+    pub section-other : (h .magic ≡ pai1 → ⊥) → section s 0 ≡ stop (OtherLetters (h .magic))
     unfolding behindHeader
     section-other n = section-header ∙ ap (λ (r : Res SectionHeader). andThen r behindHeader s) (sym e) ∙ rw (ne-eqb (h .magic) pai1 n)
 

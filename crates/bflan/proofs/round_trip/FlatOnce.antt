@@ -10,9 +10,9 @@ use lib.ListN.{length}
 use Rattle.bflan.specs.pai1.Letters.{fleu}
 use Rattle.bflan.specs.Limits.{All, Fits}
 use Rattle.bflan.specs.pai1.Limits.{FineTarget, FineDatum, FineInfo, FineNamed, FineBut}
-use Rattle.bflan.specs.pai1.Record.{AnimTarget, ExtendedUserDataAnim, AnimInfo, Standard, ExtendedUserData, AnimContent, PaneAnimInfo, keyWidths, targetCells, datumCells, infoCells, contentCells, textureCells, cells, words, texts}
-use Rattle.bflan.specs.Cells.{Cell, word, chars, wordsIn, bytesIn, each}
-use Rattle.bflan.proofs.judge.Judging.{all-map}
+use Rattle.bflan.specs.pai1.Record.{AnimTarget, ExtendedUserDataAnim, AnimInfo, Standard, ExtendedUserData, AnimContent, PaneAnimInfo, keyWidths, targetCells, datumCells, infoCells, contentCells, cells, words, texts}
+use Rattle.bflan.specs.Cells.{Cell, word, chars, wordsIn, bytesIn, each, textCells}
+use Rattle.bflan.proofs.judge.Laws.{all-map}
 
 -- ---- lists
 
@@ -75,8 +75,8 @@ module _ {X : Type 0} (cellsOf : X → List Cell) (Q : X → Type 0) (once : Onc
 
 -- ---- the parts
 
-text-once : Once textureCells (λ t. Unit)
-unfolding textureCells
+text-once : Once textCells (λ t. Unit)
+unfolding textCells
 text-once t u p q a b h = same-first-text t u a b h
 
 -- as many words as the curve says
@@ -179,14 +179,14 @@ same-record {r} {q} e1 e2 e3 e4 =
     ∙ ap₂ (λ (ts : List (List ℕ)) (cs : List AnimContent). record { frames = q .frames; looping = q .looping; textures = ts; contents = cs }) e3 e4
 
 pub shape-once : (r q : PaneAnimInfo) → Shape r → Shape q → words r ≡ words q → texts r ≡ texts q → r ≡ q
-unfolding words texts cells
+unfolding cells
 shape-once r q f g ew et =
     let h : Same (cells r) (cells q) = record { sameWords = ew; sameBytes = et } in
     let h1 = same-first-word (r .frames) (q .frames) _ _ h in
     let h2 = same-first-word (r .looping) (q .looping) _ _ (h1 .1) in
     let h3 = same-first-word (length (r .textures)) (length (q .textures)) _ _ (h2 .1) in
     let h4 = same-first-word (length (r .contents)) (length (q .contents)) _ _ (h3 .1) in
-    let h5 = each-once textureCells (λ t. Unit) text-once (r .textures) (q .textures) (h3 .0) (all-any (r .textures)) (all-any (q .textures)) _ _ (h4 .1) in
+    let h5 = each-once textCells (λ t. Unit) text-once (r .textures) (q .textures) (h3 .0) (all-any (r .textures)) (all-any (q .textures)) _ _ (h4 .1) in
     let z : Same (each contentCells (r .contents) ++ []) (each contentCells (q .contents) ++ []) = rw (append-nil (each contentCells (r .contents)), append-nil (each contentCells (q .contents))) (h5 .1) in
     let h6 = each-once contentCells ContentShape content-once (r .contents) (q .contents) (h4 .0) f g [] [] z in
     same-record (h1 .0) (h2 .0) (h5 .0) (h6 .0)

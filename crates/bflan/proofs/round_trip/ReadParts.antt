@@ -14,15 +14,15 @@ use Rattle.core.specs.Text.{beforeZero, endedOf}
 use Rattle.core.specs.declared.text.TextAt.{TextAt}
 use Rattle.core.specs.declared.text.TextAt.the-variants.{Text, Past as TextPast, Unended}
 use Rattle.core.proofs.Zeros.{ended-text}
-use Rattle.bflan.specs.declared.fault.Fault.the-variants.{NotPai1}
+use Rattle.bflan.specs.declared.fault.Fault.the-variants.{OtherLetters}
 use Rattle.bflan.specs.pai1.FieldValues.{numbersIn}
 use Rattle.bflan.specs.pai1.Letters.{fleu, lettersOf, targetOf}
 use Rattle.bflan.specs.pai1.Layout.{keySkip}
 use Rattle.bflan.specs.pai1.Places.{total, stride, infoTableIn}
 use Rattle.bflan.specs.Reader.{Res, ok, stop, P, andThen, _>>=_, ret, given, fail, Item, word, text, asText, skip, endedText, oneEnded, numbers, many, visit}
 use Rattle.bflan.specs.pai1.Reading.{keyOf, curveOf, countOf, keys, target, datum, info, typeOf, infoTable, content, texture, pai1, flagOf, contents, body, section}
-use Rattle.bflan.specs.pai1.Record.{AnimTarget, ExtendedUserDataAnim, AnimInfo, Standard, ExtendedUserData, AnimContent, PaneAnimInfo, keyWidths, targetCells, datumCells, infoCells, contentCells, textureCells, cells}
-use Rattle.bflan.specs.Cells.{Cell, word as wordCell, chars, each}
+use Rattle.bflan.specs.pai1.Record.{AnimTarget, ExtendedUserDataAnim, AnimInfo, Standard, ExtendedUserData, AnimContent, PaneAnimInfo, keyWidths, targetCells, datumCells, infoCells, contentCells, cells}
+use Rattle.bflan.specs.Cells.{Cell, word as wordCell, chars, each, textCells}
 use Rattle.bflan.specs.Items.{shownAt}
 use Rattle.bflan.proofs.reader.ContentParts.{nameSize}
 use Rattle.bflan.proofs.place.Locating.{If, if-ok, yes, next, after, number, sought, table, name, stride-three, table-at}
@@ -135,16 +135,16 @@ module _ (s : List ℕ) where
       yes (shows-more cellsOf (part (base + get 4 s at)) (partsAt s part base n (at + 4)) x xs hx hs)))
 
   -- a text that ends at a zero, and a texture
-  ended-shown : (i : ℕ) → If (Shows textureCells (endedAt s i)) (oneEnded s i)
-  unfolding oneEnded endedText textureCells shownIn endedAt
+  ended-shown : (i : ℕ) → If (Shows textCells (endedAt s i)) (oneEnded s i)
+  unfolding oneEnded endedText textCells shownIn endedAt
   ended-shown i = go (endedOf s i) refl
     where
-      go : (r : TextAt) → endedOf s i ≡ r → If (Shows textureCells (endedAt s i)) (andThen (asText i r) (λ t. ret (t ∷ [])) s)
+      go : (r : TextAt) → endedOf s i ≡ r → If (Shows textCells (endedAt s i)) (andThen (asText i r) (λ t. ret (t ∷ [])) s)
       go (Text n q) e = yes (rw (ended-text s i n q e .text))
       go (TextPast o k) e = record { holds = tt }
       go (Unended a) e = record { holds = tt }
 
-  texture-shown : (b i : ℕ) → If (Shows textureCells (endedAt s b)) (texture b s i)
+  texture-shown : (b i : ℕ) → If (Shows textCells (endedAt s b)) (texture b s i)
   unfolding texture
   texture-shown b i = sought s b i _ (λ l. ended-shown b)
 
@@ -185,10 +185,10 @@ module _ (s : List ℕ) where
       (λ ks j h. yes (target-cells letters b ks (unfold targetAt in h))))))))))))
 
   -- data
-  datum-cells : (p : ℕ) (key : List Item) → shownIn s key ≡ textureCells (datumAt s p .key)
+  datum-cells : (p : ℕ) (key : List Item) → shownIn s key ≡ textCells (datumAt s p .key)
       → shownIn s (word (get 4 s p) ∷ word (get 2 s (p + 4)) ∷ word (get 2 s (p + 6)) ∷ word (get 4 s (p + 8)) ∷ word (get 4 s (p + 12)) ∷ (map word (numbersAt (3 * get 4 s (p + 8)) s (p + 16)) ++ key))
       ≡ datumCells (datumAt s p)
-  unfolding datumCells textureCells datumAt shownIn
+  unfolding datumCells textCells datumAt shownIn
   datum-cells p key h =
       ap (λ (cs : List Cell). wordCell (get 4 s p) ∷ wordCell (get 2 s (p + 4)) ∷ wordCell (get 2 s (p + 6)) ∷ wordCell (get 4 s (p + 8)) ∷ wordCell (get 4 s (p + 12)) ∷ cs)
       (shown-append s (map word (numbersAt (3 * get 4 s (p + 8)) s (p + 16))) key ∙ ap₂ (λ (a b : List Cell). a ++ b) (shown-words s (numbersAt (3 * get 4 s (p + 8)) s (p + 16))) h)
@@ -274,7 +274,7 @@ module _ (s : List ℕ) where
   contents-shown to n i = sought s to i _ (λ l. table s n to _ l (λ m. parts-shown contentCells (contentAt s) 0 content content-shown n to (to + 4 * n)))
 
   -- the section
-  section-cells : (ts cs : List Item) → shownIn s ts ≡ each textureCells (recordAt s .textures) → shownIn s cs ≡ each contentCells (recordAt s .contents)
+  section-cells : (ts cs : List Item) → shownIn s ts ≡ each textCells (recordAt s .textures) → shownIn s cs ≡ each contentCells (recordAt s .contents)
       → shownIn s (word (get 2 s 8) ∷ word (flagOf (get 1 s 10)) ∷ word (get 2 s 12) ∷ word (get 2 s 14) ∷ (ts ++ cs)) ≡ cells (recordAt s)
   unfolding cells recordAt shownIn
   section-cells ts cs h k =
@@ -288,7 +288,7 @@ module _ (s : List ℕ) where
   body-shown size =
       number s 2 8 10 _ refl (λ l10. number s 1 10 11 _ refl (λ l11. number s 1 11 12 _ refl (λ l12. number s 2 12 14 _ refl (λ l14. number s 2 14 16 _ refl (λ l16. number s 4 16 20 _ refl (λ l20.
       table s (get 2 s 12) 20 _ l20 (λ l.
-      after s (visit 20 texture (numbersAt (get 2 s 12) s 20) s (20 + 4 * get 2 s 12)) _ (parts-shown textureCells (endedAt s) 20 texture texture-shown (get 2 s 12) 20 (20 + 4 * get 2 s 12)) (λ ts k ht.
+      after s (visit 20 texture (numbersAt (get 2 s 12) s 20) s (20 + 4 * get 2 s 12)) _ (parts-shown textCells (endedAt s) 20 texture texture-shown (get 2 s 12) 20 (20 + 4 * get 2 s 12)) (λ ts k ht.
       after s (contents (get 4 s 16) (get 2 s 14) s k) _ (contents-shown (get 4 s 16) (get 2 s 14) k) (λ cs m hc.
       sought s size m _ (λ z. yes (section-cells ts cs (unfold recordAt in ht) (unfold recordAt in hc))))))))))))
 
@@ -296,7 +296,7 @@ module _ (s : List ℕ) where
   unfolding section
   section-shows = number s 4 0 4 _ refl (λ l4. number s 4 4 8 _ refl (λ l8. kind (eqb (get 4 s 0) pai1)))
     where
-      kind : (t : Bool) → If (Shows cells (recordAt s)) (given t (body (get 4 s 4)) (fail (NotPai1 (get 4 s 0))) s 8)
+      kind : (t : Bool) → If (Shows cells (recordAt s)) (given t (body (get 4 s 4)) (fail (OtherLetters (get 4 s 0))) s 8)
       kind true = body-shown (get 4 s 4)
       kind false = record { holds = tt }
 

@@ -24,13 +24,14 @@ use Rattle.bflan.specs.Limits.{limit, Fits, FineText}
 use Rattle.bflan.specs.pai1.Limits.{FineTarget, FineDatum, FineInfo, FineNamed, Readable}
 use Rattle.bflan.specs.Reader.{ok, P, andThen, _>>=_, ret, given, here, Item, word, text, asText, num, seekTo, skip, fixedText, endedText, oneEnded, numbers, many, visit}
 use Rattle.bflan.specs.pai1.Reading.{keyOf, curveOf, countOf, keys, target, datum, info, typeOf, infoTable, content, texture, pai1, flagOf, contents, body, section}
-use Rattle.bflan.specs.pai1.Record.{Standard, ExtendedUserData, PaneAnimInfo, keyWidths, targetCells, datumCells, infoCells, contentCells, textureCells, cells, words, texts}
-use Rattle.bflan.specs.Cells.{Cell, word as wordCell, wordsIn, bytesIn, each}
+use Rattle.bflan.specs.pai1.Record.{Standard, ExtendedUserData, PaneAnimInfo, keyWidths, targetCells, datumCells, infoCells, contentCells, cells, words, texts}
+use Rattle.bflan.specs.Cells.{Cell, word as wordCell, wordsIn, bytesIn, each, textCells}
 use Rattle.bflan.specs.Items.{shownAt, wordsOf, textsOf}
-use Rattle.bflan.proofs.reader.Bounds.{Known, Gives, done, none, either, next, past, count-le, num-lt}
+use Rattle.bflan.proofs.reader.Bounds.{Known, Gives, done, none, either, next, past, num-lt}
+use Rattle.bflan.proofs.reader.SectionBounds.{count-le}
 use Rattle.bflan.proofs.letters.Codes.{letters-fit, target-fits, target-fits-kept, letters-is}
 use Rattle.bflan.proofs.reader.Emits.{shown-part}
-use Rattle.bflan.proofs.judge.Judging.{free-none, AllOf}
+use Rattle.bflan.proofs.judge.Laws.{free-none, AllOf}
 use Rattle.bflan.proofs.round_trip.ReadBack.{shownIn, shown-append, shown-words, words-shown, texts-shown}
 
 -- ---- texts
@@ -155,7 +156,7 @@ module _ (s : List ℕ) (bytes : Bytes s) (short : length s ≤ limit) where
   Word k v = v < 256 ^ k
 
   number : (k : ℕ) → Gives s (Word k) (num k)
-  number k = num-lt s bytes short k
+  number k = num-lt s bytes k
 
   -- n numbers of four bytes
   numbers-tree : (n : ℕ) → Gives s (AllOf (Word 4) n) (numbers n)
@@ -164,23 +165,23 @@ module _ (s : List ℕ) (bytes : Bytes s) (short : length s ≤ limit) where
   numbers-tree (suc n) = next s _ (number 4) (λ v h. next s _ (numbers-tree n) (λ vs k. done s (v ∷ vs) ((h, k .0), ap suc (k .1))))
 
   -- a text by itself
-  text-tree : (a n : ℕ) → FineText (shownAt s a n) → Tree s textureCells FineText (text a n ∷ [])
-  unfolding textureCells shownIn
+  text-tree : (a n : ℕ) → FineText (shownAt s a n) → Tree s textCells FineText (text a n ∷ [])
+  unfolding textCells shownIn
   text-tree a n f = record { tree = shownAt s a n; good = f; shows = refl }
 
   -- a text that ends at a zero, and a texture
-  ended-tree : Gives s (Tree s textureCells FineText) oneEnded
+  ended-tree : Gives s (Tree s textCells FineText) oneEnded
   unfolding oneEnded endedText
   ended-tree = record { from = λ i. go i (endedOf s i) refl }
     where
-      go : (i : ℕ) (r : TextAt) → endedOf s i ≡ r → Known (Tree s textureCells FineText) (andThen (asText i r) (λ t. ret (t ∷ [])) s)
+      go : (i : ℕ) (r : TextAt) → endedOf s i ≡ r → Known (Tree s textCells FineText) (andThen (asText i r) (λ t. ret (t ∷ [])) s)
       go i (Text n q) e =
           let f = ended-text s i n q e in
           text-tree i n (shown-fine s i n short (rw (f .text) (before-text (drop i s))) (rw (f .text) (before-le (drop i s))) .0)
       go i (TextPast o k) e = tt
       go i (Unended a) e = tt
 
-  texture-tree : (base : ℕ) → Gives s (Tree s textureCells FineText) (texture base)
+  texture-tree : (base : ℕ) → Gives s (Tree s textCells FineText) (texture base)
   unfolding texture
   texture-tree base = past s (seekTo base) _ (λ at. ended-tree)
 
@@ -200,11 +201,11 @@ module _ (s : List ℕ) (bytes : Bytes s) (short : length s ≤ limit) where
       let f = shown-fine s i m short (ap beforeZero (sym t) ∙ z) d in
       (f .0, omega (arith, l, f .1))
 
-  fixed-tree : (n : ℕ) → Gives s (λ t. Tree s textureCells (Name n) (t ∷ [])) (fixedText n)
-  unfolding fixedText textureCells shownIn
+  fixed-tree : (n : ℕ) → Gives s (λ t. Tree s textCells (Name n) (t ∷ [])) (fixedText n)
+  unfolding fixedText textCells shownIn
   fixed-tree n = record { from = λ i. go i (fixedOf n s i) refl }
     where
-      go : (i : ℕ) (r : TextAt) → fixedOf n s i ≡ r → Known (λ t. Tree s textureCells (Name n) (t ∷ [])) (asText i r)
+      go : (i : ℕ) (r : TextAt) → fixedOf n s i ≡ r → Known (λ t. Tree s textCells (Name n) (t ∷ [])) (asText i r)
       go i (Text m q) e = record { tree = shownAt s i m; good = fixed-fine n i m (fixed-text n s i m q e .text); shows = refl }
       go i (TextPast o k) e = tt
       go i (Unended a) e = tt
@@ -251,9 +252,9 @@ module _ (s : List ℕ) (bytes : Bytes s) (short : length s ≤ limit) where
 
   -- an extended datum
   datum-from : (size one two base three : ℕ) (vs : List ℕ) (key : List Item) → Word 4 size → Word 2 one → Word 2 two → Word 4 base → Word 4 three → AllOf (Word 4) (3 * base) vs
-      → Tree s textureCells FineText key
+      → Tree s textCells FineText key
       → Tree s datumCells FineDatum (word size ∷ word one ∷ word two ∷ word base ∷ word three ∷ (map word vs ++ key))
-  unfolding datumCells textureCells shownIn
+  unfolding datumCells textCells shownIn
   datum-from size one two base three vs key h1 h2 h3 h4 h5 h6 k =
       record {
         tree = record { headerSize = size; unk1 = one; unk2 = two; baseCount = base; unk3 = three; values = vs; key = k .tree };
@@ -307,9 +308,9 @@ module _ (s : List ℕ) (bytes : Bytes s) (short : length s ≤ limit) where
       kind-tree letters n base h (eqb letters fleu) refl)))))
 
   -- a content: its name has at most 3 * 28 bytes
-  content-from : (name : Item) (type n : ℕ) (is : List Item) → Tree s textureCells (Name 28) (name ∷ []) → Word 1 n → Trees s infoCells FineInfo n is
+  content-from : (name : Item) (type n : ℕ) (is : List Item) → Tree s textCells (Name 28) (name ∷ []) → Word 1 n → Trees s infoCells FineInfo n is
       → Tree s contentCells (FineNamed 84) (name ∷ word (typeOf type) ∷ word n ∷ is)
-  unfolding contentCells textureCells shownIn
+  unfolding contentCells textCells shownIn
   content-from name type n is t h k =
       record {
         tree = record { name = t .tree; type = typeOf type; infos = k .tree };
@@ -333,7 +334,7 @@ module _ (s : List ℕ) (bytes : Bytes s) (short : length s ≤ limit) where
 
   -- the section
   section-from : (frames looping nt nc : ℕ) (ts cs : List Item) → Word 2 frames → Word 2 nt → Word 2 nc
-      → Trees s textureCells FineText nt ts → Trees s contentCells (FineNamed 84) nc cs
+      → Trees s textCells FineText nt ts → Trees s contentCells (FineNamed 84) nc cs
       → Tree s cells Readable (word frames ∷ word (flagOf looping) ∷ word nt ∷ word nc ∷ (ts ++ cs))
   unfolding cells shownIn
   section-from frames looping nt nc ts cs h1 h2 h3 k l =
@@ -357,7 +358,7 @@ module _ (s : List ℕ) (bytes : Bytes s) (short : length s ≤ limit) where
   unfolding body
   body-tree size =
       next s _ (number 2) (λ frames h1. past s (num 1) _ (λ looping. past s (num 1) _ (λ r. next s _ (number 2) (λ nt h2. next s _ (number 2) (λ nc h3. past s (num 4) _ (λ table. past s here _ (λ start.
-      next s _ (numbers-tree nt) (λ os c. next s _ (visit-tree s textureCells FineText start texture texture-tree os) (λ ts k. next s _ (contents-tree table nc) (λ cs l. past s (seekTo size) _ (λ end.
+      next s _ (numbers-tree nt) (λ os c. next s _ (visit-tree s textCells FineText start texture texture-tree os) (λ ts k. next s _ (contents-tree table nc) (λ cs l. past s (seekTo size) _ (λ end.
       done s _ (section-from frames looping nt nc ts cs h1 h2 h3 (rw (← c .1) k) l))))))))))))
 
   section-tree : Gives s (Tree s cells Readable) section
@@ -366,7 +367,6 @@ module _ (s : List ℕ) (bytes : Bytes s) (short : length s ≤ limit) where
 
   -- what reading gives are the words and the texts of a record within the limits but for the length of names
   pub read-tree : (is : List Item) (end : ℕ) → section s 0 ≡ ok is end → ReadTree s is
-  unfolding words texts
   read-tree is end e =
       let t : Tree s cells Readable is = rw e at (section-tree .from 0) in
       record {

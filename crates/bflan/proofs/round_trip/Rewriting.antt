@@ -18,18 +18,20 @@ use Rattle.core.specs.Text.{beforeZero, fixedOf}
 use Rattle.core.specs.Utf8.{rows, within, classOf, laterOf, matched, more, good, pieceOf, piecesAfter, pieces, shown, decoded, decode}
 use Rattle.core.proofs.Numbers.{Bytes, sets-read}
 use Rattle.bflan.specs.declared.fault.Fault.{Fault}
-use Rattle.bflan.specs.declared.fault.Fault.the-variants.{PastEnd, NoZero, NotPai1}
-use Rattle.bflan.specs.Answer.{refused, tooLong, tooShort, ofFault, filled, reading}
-use Rattle.bflan.specs.pai1.Judge.{section as judge, content as judgeContent}
-use Rattle.bflan.specs.Judge.{nextWord as judgeWord, nextText as judgeText, times}
+use Rattle.bflan.specs.declared.fault.Fault.the-variants.{PastEnd, NoZero, OtherLetters}
+use Rattle.bflan.specs.Answer.{refused, tooLong, tooShort, ofFault, filled, readingBy}
+use Rattle.bflan.specs.pai1.Calls.{reading, writing}
+use Rattle.bflan.specs.pai1.Judge.{pane, section as judge, content as judgeContent}
+use Rattle.bflan.specs.Judge.{nextWord as judgeWord, nextText as judgeText, times, whole}
 use Rattle.bflan.specs.Limits.{limit}
+use Rattle.bflan.specs.pai1.Layout.{sectionLay}
 use Rattle.bflan.specs.pai1.Limits.{Readable}
 use Rattle.bflan.specs.Reader.{Res, ok, stop, Item, num, seekTo, fixedText, numbers, visit}
 use Rattle.bflan.specs.pai1.Reading.{typeOf, infoTable, content, contents, flagOf, body, section}
 use Rattle.bflan.specs.pai1.Record.{PaneAnimInfo, words, texts}
 use Rattle.bflan.specs.pai1.Rewriting.{readWords, readTexts, namesFit, rewritten}
 use Rattle.bflan.specs.Items.{wordsOf, textsOf}
-use Rattle.bflan.specs.Writing.{judged, writing}
+use Rattle.bflan.specs.Writing.{judged, writingBy}
 use Rattle.bflan.proofs.judge.Judging.{names-within, judge-flat, judge-long}
 use Rattle.bflan.proofs.round_trip.ReadTree.{read-tree}
 
@@ -50,11 +52,11 @@ fault-number : (f : Fault) → ofFault f .number ≡ 0 → ⊥
 unfolding ofFault
 fault-number (PastEnd offset requested) e = omega arith
 fault-number (NoZero start) e = omega arith
-fault-number (NotPai1 letters) e = omega arith
+fault-number (OtherLetters letters) e = omega arith
 
 -- what is accepted was filled in
 accepted-filled : (s w x : List ℕ) → reading s w x .0 .number ≡ 0 → Filled s w x
-unfolding reading filled
+unfolding readingBy filled
 accepted-filled s w x e = go (leb (length s) limit) refl (section s 0) refl e
   where
     on : length s ≤ limit → leb (length s) limit ≡ true → (is : List Item) (end : ℕ) → section s 0 ≡ ok is end → (a b : Bool) → leb (length (wordsOf s is)) (length w) ≡ a → leb (length (textsOf s is)) (length x) ≡ b
@@ -85,10 +87,10 @@ accepted-filled s w x e = go (leb (length s) limit) refl (section s 0) refl e
 
 -- the two lists of a record within the limits but for the length of names: it is stored where they fit, else refused at the first that does not
 pub write-readable : (r : PaneAnimInfo) → Readable r → (out : List ℕ) → writing (words r) (texts r) out ≡ rewritten out r
-unfolding writing judged rewritten
+unfolding writingBy judged rewritten
 write-readable r q out = go (namesFit (r .contents)) refl
   where
-    go : (t : Bool) → namesFit (r .contents) ≡ t → judged out (judge (words r) (texts r) 0 0) ≡ rewritten out r
+    go : (t : Bool) → namesFit (r .contents) ≡ t → judged sectionLay out (judge (words r) (texts r) 0 0) ≡ rewritten out r
     go true e = rw (e, judge-flat r (names-within 84 r q e))
     go false e = rw (e, judge-long 84 r q e)
 
@@ -135,5 +137,5 @@ illNamed =
 pub ill-named : (out : List ℕ)
     → (reading illNamed (replicate 7 0) (replicate 30 0) .0 ≡ accepted (7 ∷ 30 ∷ []))
     × (writing (readWords illNamed (replicate 7 0) (replicate 30 0)) (readTexts illNamed (replicate 7 0) (replicate 30 0)) out ≡ (refused 6 (4 ∷ []), out))
-unfolding readWords readTexts reading filled wordsOf textsOf writing judged judge judgeWord judgeText judgeContent times section body contents content visit numbers num seekTo fixedText infoTable typeOf flagOf readOf get val seekOf fixedOf beforeZero rows within classOf laterOf matched more good pieceOf piecesAfter pieces shown decoded decode
+unfolding readWords readTexts readingBy filled wordsOf textsOf writingBy judged judge pane whole judgeWord judgeText judgeContent times section body contents content visit numbers num seekTo fixedText infoTable typeOf flagOf readOf get val seekOf fixedOf beforeZero rows within classOf laterOf matched more good pieceOf piecesAfter pieces shown decoded decode
 ill-named out = (refl, refl)

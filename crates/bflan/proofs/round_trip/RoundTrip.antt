@@ -22,7 +22,8 @@ use Rattle.core.proofs.Zeros.{none-free, ended-there, before-free}
 use Rattle.core.proofs.utf8.Laws.{decode-well}
 use lib.Seq.{sets}
 use Rattle.core.specs.Outcome.{accepted}
-use Rattle.bflan.specs.Answer.{reading, filled}
+use Rattle.bflan.specs.Answer.{filled, readingBy}
+use Rattle.bflan.specs.pai1.Calls.{reading}
 use Rattle.bflan.specs.pai1.Letters.{fleu}
 use Rattle.bflan.specs.Layout.{nothing, number, bytes, _⨾_, size, written, zeros, parts, table, ended}
 use Rattle.bflan.specs.pai1.Layout.{keyLay, targetLay, datumLay, infoHead, infoLay, infosOut, tableFrom, infosFrom, userLay, contentBody, contentLay, namesEnd, contentTable, sectionSize, sectionLay}
@@ -30,8 +31,8 @@ use Rattle.bflan.specs.Limits.{All, Fits, FineText}
 use Rattle.bflan.specs.pai1.Limits.{FineTarget, FineDatum, FineInfo, FineContent, Fine, Within}
 use Rattle.bflan.specs.Reader.{ok, _>>=_, given, here, Item, word, text, many, visit, num, numbers, seekTo, oneEnded}
 use Rattle.bflan.specs.pai1.Reading.{keyOf, keys, target, datum, info, typeOf, infoTable, content, texture, contents, pai1, flagOf, section}
-use Rattle.bflan.specs.pai1.Record.{Standard, ExtendedUserData, AnimContent, PaneAnimInfo, keyWidths, targetCells, datumCells, infoCells, contentCells, textureCells, cells, words, texts}
-use Rattle.bflan.specs.Cells.{Cell, word as wordCell, chars, each, wordsIn, bytesIn}
+use Rattle.bflan.specs.pai1.Record.{Standard, ExtendedUserData, AnimContent, PaneAnimInfo, keyWidths, targetCells, datumCells, infoCells, contentCells, cells, words, texts}
+use Rattle.bflan.specs.Cells.{Cell, word as wordCell, chars, each, wordsIn, bytesIn, textCells}
 use Rattle.bflan.specs.Items.{shownAt, wordsOf, textsOf}
 use Rattle.bflan.proofs.letters.Codes.{fits-lt, fits-own, fit-lt, letters-own}
 use Rattle.bflan.proofs.reader.ContentParts.{nameSize, contentRest, content-there, rest-at}
@@ -60,8 +61,8 @@ ended-reads s i t f h =
     sym (take-append-drop (length t + 1) (drop i s)) ∙ ap (λ (l : List ℕ). l ++ drop (length t + 1) (drop i s)) (h .same) ∙ append-assoc t (0 ∷ []) (drop (length t + 1) (drop i s)) in
     ended-on s i (length t) (i + length t + 1) (ended-there s i t (drop (length t + 1) (drop i s)) d (none-free t (f .zeroFree)))
 
-pub texture-reads : (s : List ℕ) → ReadsAt ended textureCells FineText s texture
-unfolding texture textureCells shownIn
+pub texture-reads : (s : List ℕ) → ReadsAt ended textCells FineText s texture
+unfolding texture textCells shownIn
 texture-reads s b i t f h =
     let l : b ≤ length s = omega (arith, h .fits) in
     record {
@@ -338,7 +339,7 @@ section-reads s r w h short =
     let ea : get 4 s 16 ≡ at = stands-get (g .start) (omega (arith, end)) in
     let to = run-there nt s 20 _ _ (table-reads ended s 20 (4 * nt) (r .textures) (omega (arith, g .names .fits)) (g .nameOffsets)) in
     let co = run-there nc s at _ _ (table-reads contentLay s at (at + 4 * nc) (r .contents) (omega (arith, g .contents .fits)) (g .offsets)) in
-    let tv = visit-reads ended textureCells FineText s texture (texture-reads s) 20 (4 * nt) (20 + 4 * nt) (r .textures) (f .textures) (g .names) in
+    let tv = visit-reads ended textCells FineText s texture (texture-reads s) 20 (4 * nt) (20 + 4 * nt) (r .textures) (f .textures) (g .names) in
     let cv = visit-reads contentLay contentCells FineContent s content (content-reads s short) 0 (at + 4 * nc) (at + 4 * nc) (r .contents) (f .contents) g12 in
     let lo : flagOf (get 1 s 10) ≡ r .looping = ap flagOf eb ∙ flag-own (r .looping) (f .looping) in
     let size4 : ℕ = get 4 s 4 in
@@ -362,7 +363,6 @@ pub record ReadsBack (s : List ℕ) (r : PaneAnimInfo) : Type 0 where
   pub texts : textsOf s items ≡ texts r
 
 pub reads-back : (r : PaneAnimInfo) → Within r → ReadsBack (written (sectionLay r)) r
-unfolding words texts
 reads-back r w =
     let s : List ℕ = written (sectionLay r) in
     let short : length s ≤ 16777216 = omega (arith, size-written (sectionLay r), w .short) in
@@ -372,7 +372,7 @@ reads-back r w =
 -- the same of the call: with long enough tables it is accepted, and fills them with the record
 pub read-written : (r : PaneAnimInfo) → Within r → (w x : List ℕ) → length (words r) ≤ length w → length (texts r) ≤ length x
     → reading (written (sectionLay r)) w x ≡ (accepted (length (words r) ∷ length (texts r) ∷ []), sets w 0 (words r), sets x 0 (texts r))
-unfolding reading filled
+unfolding readingBy filled
 read-written r v w x hw hx =
     let b = reads-back r v in
     let short : length (written (sectionLay r)) ≤ 16777216 = omega (arith, size-written (sectionLay r), v .short) in

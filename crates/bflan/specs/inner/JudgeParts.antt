@@ -2,7 +2,7 @@
 use Prim.Native.Nat.{ℕ}
 use mathlib.Core.List.{List}
 use lib.Dec.{leb}
-use Rattle.bflan.specs.Judge.{J, _>>=_, ret, nextWord, nextText, times, wide, ends}
+use Rattle.bflan.specs.Judge.{J, _>>=_, ret, nextWord, nextText, times, wide}
 use Rattle.bflan.specs.pai1.Judge.{info, content}
 use Rattle.bflan.specs.pai1.Record.{AnimContent, PaneAnimInfo}
 
@@ -25,16 +25,9 @@ afterName name = do
   is ← times n info
   ret (record { name = name; type = type; infos = is })
 
--- the contents, and nothing behind them
-unfoldable pub contentsAndEnd : ℕ → J (List AnimContent)
-contentsAndEnd n = do
-  cs ← times n content
-  _ ← ends
-  ret cs
-
--- what is behind a section's first four words
+-- what is behind a record's first four words
 unfoldable pub afterHead : ℕ → ℕ → ℕ → ℕ → J PaneAnimInfo
 afterHead frames looping nt nc = do
   ts ← times nt (nextText (wide 4))
-  cs ← contentsAndEnd nc
+  cs ← times nc content
   ret (record { frames = frames; looping = looping; textures = ts; contents = cs })

@@ -3,7 +3,7 @@ use Prim.Native.Nat.{ℕ, _*_}
 use lib.Dec.{eqb, ltb, leb}
 use Rattle.bflan.specs.pai1.Letters.{fleu, lettersFit, targetFits}
 use Rattle.bflan.specs.pai1.Record.{AnimTarget, ExtendedUserDataAnim, AnimInfo, Standard, ExtendedUserData, AnimContent, PaneAnimInfo, keyWidths}
-use Rattle.bflan.specs.Judge.{J, _>>=_, ret, given, nextWord, nextText, times, wide, row, ends}
+use Rattle.bflan.specs.Judge.{J, _>>=_, ret, given, nextWord, nextText, times, wide, row, whole}
 
 unfoldable pub target : ℕ → J AnimTarget
 target letters = do
@@ -45,13 +45,16 @@ content = do
   is ← times n info
   ret (record { name = name; type = type; infos = is })
 
-unfoldable pub section : J PaneAnimInfo
-section = do
+unfoldable pub pane : J PaneAnimInfo
+pane = do
   frames ← nextWord (wide 2)
   looping ← nextWord (λ b. leb b 1)
   nt ← nextWord (wide 2)
   nc ← nextWord (wide 2)
   ts ← times nt (nextText (wide 4))
   cs ← times nc content
-  _ ← ends
   ret (record { frames = frames; looping = looping; textures = ts; contents = cs })
+
+-- a section's record, and nothing behind it
+unfoldable pub section : J PaneAnimInfo
+section = whole pane

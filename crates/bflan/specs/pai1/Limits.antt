@@ -5,10 +5,9 @@ use mathlib.Core.Bool.{true}
 use mathlib.Core.List.{List}
 use lib.ListN.{length}
 use Rattle.bflan.specs.pai1.Letters.{fleu, lettersFit, targetFits}
-use Rattle.bflan.specs.Layout.{size}
 use Rattle.bflan.specs.pai1.Layout.{sectionLay}
 use Rattle.bflan.specs.pai1.Record.{AnimTarget, ExtendedUserDataAnim, AnimInfo, Standard, ExtendedUserData, AnimContent, PaneAnimInfo, keyWidths}
-use Rattle.bflan.specs.Limits.{limit, All, Fits, FineText}
+use Rattle.bflan.specs.Limits.{All, Fits, FineText, WithinBy}
 
 pub record FineTarget (letters : ℕ) (t : AnimTarget) : Type 0 where
   pub layer : t .layer < 256
@@ -66,6 +65,5 @@ Fine r = FineBut 28 r
 abbrev pub Readable : PaneAnimInfo → Type 0
 Readable r = FineBut 84 r
 
-pub record Within (r : PaneAnimInfo) : Type 0 where
-  pub fine : Fine r
-  pub short : size (sectionLay r) ≤ limit
+abbrev pub Within : PaneAnimInfo → Type 0
+Within r = WithinBy Fine sectionLay r

@@ -4,7 +4,7 @@ use Prim.Native.Nat.{ℕ, zero, suc, _+_, _*_}
 use mathlib.Core.List.{List, [], _∷_, _++_, map}
 use lib.Dec.{leb, eqb}
 use Rattle.core.specs.Choice.{pick}
-use Rattle.bflan.specs.declared.fault.Fault.the-variants.{NotPai1}
+use Rattle.bflan.specs.declared.fault.Fault.the-variants.{OtherLetters}
 use Rattle.bflan.specs.pai1.Letters.{fleu, lettersOf, targetOf}
 use Rattle.bflan.specs.Reader.{P, _>>=_, ret, given, fail, here, Item, word, num, seekTo, skip, fixedText, oneEnded, numbers, many, visit}
 
@@ -148,4 +148,4 @@ unfoldable pub section : P (List Item)
 section = do
   letters ← num 4
   size ← num 4
-  given (eqb letters pai1) (body size) (fail (NotPai1 letters))
+  given (eqb letters pai1) (body size) (fail (OtherLetters letters))

@@ -3,7 +3,7 @@ use Prim.Native.Nat.{ℕ, zero, suc}
 use mathlib.Core.List.{List, [], _∷_, _++_, map}
 use lib.ListN.{length}
 use Rattle.bflan.specs.pai1.Letters.{fleu}
-use Rattle.bflan.specs.Cells.{Cell, word, chars, wordsIn, bytesIn, each}
+use Rattle.bflan.specs.Cells.{Cell, word, chars, wordsIn, bytesIn, textCells, each}
 
 -- ---- the tree
 
@@ -61,17 +61,14 @@ infoCells (ExtendedUserData ds) = word fleu ∷ word (length ds) ∷ each datumC
 unfoldable pub contentCells : AnimContent → List Cell
 contentCells c = chars (c .name) ∷ word (c .type) ∷ word (length (c .infos)) ∷ each infoCells (c .infos)
 
-unfoldable pub textureCells : List ℕ → List Cell
-textureCells t = chars t ∷ []
-
 unfoldable pub cells : PaneAnimInfo → List Cell
 cells r =
     word (r .frames) ∷ word (r .looping) ∷ word (length (r .textures)) ∷ word (length (r .contents))
-    ∷ (each textureCells (r .textures) ++ each contentCells (r .contents))
+    ∷ (each textCells (r .textures) ++ each contentCells (r .contents))
 
 -- the record's two lists
-unfoldable pub words : PaneAnimInfo → List ℕ
+abbrev pub words : PaneAnimInfo → List ℕ
 words r = wordsIn (cells r)
 
-unfoldable pub texts : PaneAnimInfo → List ℕ
+abbrev pub texts : PaneAnimInfo → List ℕ
 texts r = bytesIn (cells r)

@@ -7,8 +7,8 @@ use lib.Dec.{leb}
 use lib.ListN.{length, getD, take}
 use Rattle.core.specs.Choice.{pick}
 use Rattle.core.specs.Outcome.{Outcome}
-use Rattle.bflan.specs.Answer.{reading}
 use Rattle.bflan.specs.Layout.{size, written}
+use Rattle.bflan.specs.pai1.Calls.{reading}
 use Rattle.bflan.specs.pai1.Layout.{sectionLay}
 use Rattle.bflan.specs.pai1.Record.{AnimContent, PaneAnimInfo, contentCells}
 use Rattle.bflan.specs.Cells.{wordsIn}

@@ -203,7 +203,7 @@ pub(crate) fn section_at(s: &[u8], words: &mut [u32], texts: &mut [u8], t: Tally
         Header::Got(h) => {
             let magic = h.magic;
             if magic != PAI1 {
-                return Walk::Stopped(Fault::NotPai1(magic));
+                return Walk::Stopped(Fault::OtherLetters(magic));
             }
             body_at(s, h.size as usize, words, texts, t)
         }

@@ -19,11 +19,17 @@ enum-known-k-2 c = search needs
 enum-known-m : tie.Need-enum-known-m
 enum-known-m c = search needs
 
-ending-requires : tie.Need-ending-requires
-ending-requires c κs = search needs
+contents-requires : tie.Need-contents-requires
+contents-requires c κs = search needs
 
 table-behind-requires : tie.Need-table-behind-requires
 table-behind-requires c κs = search needs
+
+mul-add : tie.Need-mul-add
+mul-add c = search needs
+
+add-requires : tie.Need-add-requires
+add-requires c κs = search needs
 
 grown-requires : tie.Need-grown-requires
 grown-requires c κs = search needs
@@ -35,7 +41,7 @@ returns-2 : tie.Need-returns-2
 returns-2 c = λ frames looping. headed-text frames looping (c .before .before .before .before .before .before .args .nt) (c .before .before .before .before .before .before .args .nc) (now (c .before .before .before .before .before .before .args .words)) (now (c .before .before .before .before .before .before .args .texts)) (c .before .before .before .before .before .before .args .i) (c .before .before .before .before .before .before .args .j) _ (sym (c .before .before .before .textures .ensures) ∙ c .before .k2 .given .1)
 
 returns-3 : tie.Need-returns-3
-returns-3 c = λ frames looping. c .grown .ensures ∙ headed-fine frames looping (c .before .before .before .before .before .before .before .before .before .args .nt) (c .before .before .before .before .before .before .before .before .before .args .nc) (now (c .before .before .before .before .before .before .before .before .before .args .words)) (now (c .before .before .before .before .before .before .before .before .before .args .texts)) (c .before .before .before .before .before .before .before .before .before .args .i) (c .before .before .before .before .before .before .before .before .before .args .j) _ _ _ (sym (c .before .before .before .before .before .before .textures .ensures) ∙ c .before .before .before .before .m .given .1) (c .before .table-behind .ensures) (c .before .before .ending .ensures)
+returns-3 c = λ frames looping. c .grown .ensures ∙ headed-fine frames looping (c .before .before .before .before .before .before .before .before .before .before .args .nt) (c .before .before .before .before .before .before .before .before .before .before .args .nc) (now (c .before .before .before .before .before .before .before .before .before .before .args .words)) (now (c .before .before .before .before .before .before .before .before .before .before .args .texts)) (c .before .before .before .before .before .before .before .before .before .before .args .i) (c .before .before .before .before .before .before .before .before .before .before .args .j) _ _ _ _ (sym (c .before .before .before .before .before .before .before .textures .ensures) ∙ c .before .before .before .before .before .m .given .1) (c .before .before .table-behind .ensures) (c .before .add .ensures) (c .before .before .before .contents .ensures)
 
 pub headed-spec : {M : Type 1} → statement M
 headed-spec =
@@ -45,8 +51,10 @@ headed-spec =
     enum-known-k
     enum-known-k-2
     enum-known-m
-    ending-requires
+    contents-requires
     table-behind-requires
+    mul-add
+    add-requires
     grown-requires
     returns
     returns-2

@@ -1,81 +1,56 @@
--- `judge::judge_section` meets its contract.
+-- `judge::judge_section` meets its contract: one arm of the record's verdict each.
 -- Assumes nothing.
 use borrow.Author.Needs.{needs}
 use Rattle.bflan.proofs.judge.judge_section.Statement.{statement}
 use Rattle.bflan.proofs.judge.judge_section.Tie as tie
-use mathlib.Core.Path.{ap, sym, _∙_}
-use native.Mathlib.Omega.{arith}
-use borrow.Author.Tests.{ltb-true}
+use mathlib.Core.Path.{sym, _∙_}
 use denote.Ref.{now}
-use lib.ListN.{getD}
-use Rattle.bflan.specs.Judge.{Judged, wide}
 use Rattle.bflan.specs.Layout.{size}
+use Rattle.bflan.specs.pai1.Judge.{pane, section}
 use Rattle.bflan.specs.pai1.Layout.{sectionLay}
-use Rattle.bflan.specs.inner.Measure.{verdictOf}
 use Rattle.bflan.specs.pai1.Record.{PaneAnimInfo}
-use Rattle.bflan.proofs.judge.Measures.{held, failed, fits-most, fits-holds}
-use Rattle.bflan.proofs.judge.JudgeParts.{section-first, section-second, section-third, section-fourth, section-whole}
+use Rattle.bflan.proofs.judge.JudgeParts.{whole-word, whole-text, whole-fine}
 
-below-requires : tie.Need-below-requires
-below-requires c κs = search needs
+judge-info-requires : tie.Need-judge-info-requires
+judge-info-requires c κs = search needs
+
+enum-known-k : tie.Need-enum-known-k
+enum-known-k c = search needs
+
+enum-known-k-2 : tie.Need-enum-known-k-2
+enum-known-k-2 c = search needs
+
+enum-known-m : tie.Need-enum-known-m
+enum-known-m c = search needs
+
+ends-requires : tie.Need-ends-requires
+ends-requires c κs = search needs
+
+grown-requires : tie.Need-grown-requires
+grown-requires c κs = search needs
 
 returns : tie.Need-returns
-returns c = section-first (now (c .before .before .before .before .args .words)) (now (c .before .before .before .before .args .texts)) (failed _ _ (c .before .below .ensures) (c .if1 .taken))
-
-below-requires-2 : tie.Need-below-requires-2
-below-requires-2 c κs = search needs
+unfolding section
+returns c = whole-word (λ (a : PaneAnimInfo). size (sectionLay a)) pane (now (c .before .before .before .before .before .before .args .words)) (now (c .before .before .before .before .before .before .args .texts)) 0 0 _ (sym (c .before .before .before .judge-info .ensures) ∙ c .before .k .given .1)
 
 returns-2 : tie.Need-returns-2
-returns-2 c = section-second (now (c .before .before .before .before .before .before .args .words)) (now (c .before .before .before .before .before .before .args .texts)) (held _ _ (c .before .before .before .below .ensures) (c .before .before .if1 .left)) (sym (fits-most 1 (now (c .before .before .before .before .before .before .args .words)) 1) ∙ (failed _ _ (c .before .below2 .ensures) (c .if2 .taken)))
-
-below-requires-3 : tie.Need-below-requires-3
-below-requires-3 c κs = search needs
+unfolding section
+returns-2 c = whole-text (λ (a : PaneAnimInfo). size (sectionLay a)) pane (now (c .before .before .before .before .before .before .args .words)) (now (c .before .before .before .before .before .before .args .texts)) 0 0 _ (sym (c .before .before .before .judge-info .ensures) ∙ c .before .k2 .given .1)
 
 returns-3 : tie.Need-returns-3
-returns-3 c = section-third (now (c .before .before .before .before .before .before .before .before .args .words)) (now (c .before .before .before .before .before .before .before .before .args .texts)) (held _ _ (c .before .before .before .before .before .below .ensures) (c .before .before .before .before .if1 .left)) (sym (fits-most 1 (now (c .before .before .before .before .before .before .before .before .args .words)) 1) ∙ (held _ _ (c .before .before .before .below2 .ensures) (c .before .before .if2 .left))) (failed _ _ (c .before .below3 .ensures) (c .if3 .taken))
-
-below-requires-4 : tie.Need-below-requires-4
-below-requires-4 c κs = search needs
-
-returns-4 : tie.Need-returns-4
-returns-4 c = section-fourth (now (c .before .before .before .before .before .before .before .before .before .before .args .words)) (now (c .before .before .before .before .before .before .before .before .before .before .args .texts)) (held _ _ (c .before .before .before .before .before .before .before .below .ensures) (c .before .before .before .before .before .before .if1 .left)) (sym (fits-most 1 (now (c .before .before .before .before .before .before .before .before .before .before .args .words)) 1) ∙ (held _ _ (c .before .before .before .before .before .below2 .ensures) (c .before .before .before .before .if2 .left))) (held _ _ (c .before .before .before .below3 .ensures) (c .before .before .if3 .left)) (failed _ _ (c .before .below4 .ensures) (c .if4 .taken))
-
-word-of-requires : tie.Need-word-of-requires
-word-of-requires c κs = search needs
-
-cast-nt : tie.Need-cast-nt
-cast-nt c = search needs
-
-word-of-requires-2 : tie.Need-word-of-requires-2
-word-of-requires-2 c κs = search needs
-
-cast-nc : tie.Need-cast-nc
-cast-nc c = search needs
-
-headed-requires : tie.Need-headed-requires
-headed-requires c κs =
-    let t = ltb-true (getD (now (c .before .before .before .before .before .before .before .before .before .before .before .before .args .words)) 2 0) 65536 (fits-holds (wide 2) (now (c .before .before .before .before .before .before .before .before .before .before .before .before .args .words)) 2 (held _ _ (c .before .before .before .before .before .below3 .ensures) (c .before .before .before .before .if3 .left))) in
-    let d = ltb-true (getD (now (c .before .before .before .before .before .before .before .before .before .before .before .before .args .words)) 3 0) 65536 (fits-holds (wide 2) (now (c .before .before .before .before .before .before .before .before .before .before .before .before .args .words)) 3 (held _ _ (c .before .before .before .below4 .ensures) (c .before .before .if4 .left))) in
-    (omega (arith, t, c .before .word-of .ensures), omega (arith, d, c .word-of2 .ensures))
-
-returns-5 : tie.Need-returns-5
-returns-5 c = c .headed .ensures (getD (now (c .before .before .before .before .before .before .before .before .before .before .before .before .before .args .words)) 0 0) (getD (now (c .before .before .before .before .before .before .before .before .before .before .before .before .before .args .words)) 1 0) ∙ ap (λ (r : Judged PaneAnimInfo). verdictOf (λ (a : PaneAnimInfo). size (sectionLay a)) r) (section-whole (now (c .before .before .before .before .before .before .before .before .before .before .before .before .before .args .words)) (now (c .before .before .before .before .before .before .before .before .before .before .before .before .before .args .texts)) (held _ _ (c .before .before .before .before .before .before .before .before .before .before .below .ensures) (c .before .before .before .before .before .before .before .before .before .if1 .left)) (sym (fits-most 1 (now (c .before .before .before .before .before .before .before .before .before .before .before .before .before .args .words)) 1) ∙ (held _ _ (c .before .before .before .before .before .before .before .before .below2 .ensures) (c .before .before .before .before .before .before .before .if2 .left))) (held _ _ (c .before .before .before .before .before .before .below3 .ensures) (c .before .before .before .before .before .if3 .left)) (held _ _ (c .before .before .before .before .below4 .ensures) (c .before .before .before .if4 .left)) _ _ (c .before .before .word-of .ensures) (c .before .word-of2 .ensures))
+unfolding section
+returns-3 c = c .grown .ensures ∙ whole-fine (λ (a : PaneAnimInfo). size (sectionLay a)) pane (now (c .before .before .before .before .before .before .before .before .args .words)) (now (c .before .before .before .before .before .before .before .before .args .texts)) 0 0 _ _ (sym (c .before .before .before .before .before .judge-info .ensures) ∙ c .before .before .before .m .given .1) (c .before .ends .ensures)
 
 pub judge-section-spec : {M : Type 1} → statement M
 judge-section-spec =
     tie.close
     (tie.spec
-    below-requires
+    judge-info-requires
+    enum-known-k
+    enum-known-k-2
+    enum-known-m
+    ends-requires
+    grown-requires
     returns
-    below-requires-2
     returns-2
-    below-requires-3
-    returns-3
-    below-requires-4
-    returns-4
-    word-of-requires
-    cast-nt
-    word-of-requires-2
-    cast-nc
-    headed-requires
-    returns-5)
+    returns-3)

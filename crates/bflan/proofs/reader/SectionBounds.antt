@@ -1,0 +1,89 @@
+-- How much a pai1 section of at most 16,777,216 bytes can hold, level by level: the counts fit one byte or two, and the numbers of a list are
+-- all in the section.
+-- Assumes nothing.
+use Prim.Native.Nat.{ℕ, zero, suc, _+_, _*_, _<_, _≤_}
+use mathlib.Core.Bool.{Bool, true, false}
+use mathlib.Core.List.{List}
+use native.Mathlib.Omega.{arith}
+use lib.Dec.{leb, eqb}
+use lib.ListN.{length}
+use Rattle.core.specs.Choice.{pick}
+use Rattle.core.proofs.Numbers.{Bytes}
+use Rattle.bflan.specs.pai1.Letters.{fleu}
+use Rattle.bflan.specs.Reader.{here, num, seekTo, skip}
+use Rattle.bflan.specs.pai1.Reading.{keyOf, curveOf, countOf, keys, target, datum, info, infoTable, content, texture, pai1, contents, body, section}
+use Rattle.bflan.proofs.reader.Bounds.{Gives, none, either, next, past, done, Small, wider, small-none, small-word, small-words, small-append, many-small, visit-small, ended-small, fixed-small, numbers-fit, wider-all, num-lt, Countable}
+
+module _ (s : List ℕ) where
+  texture-small : (base : ℕ) → Gives s (Small s 1 1) (texture base)
+  unfolding texture
+  texture-small base = past s (seekTo base) _ (λ at. ended-small s)
+
+  key-small : (c : ℕ) → Gives s (Small s 3 0) (keyOf c)
+  key-small zero = past s (num 4) _ (λ value. done s _ (small-word s value (small-none s 2 0)))
+  key-small (suc zero) = past s (num 4) _ (λ frame. past s (num 2) _ (λ value. past s (skip 2) _ (λ k. done s _ (small-word s frame (small-word s value (small-none s 1 0))))))
+  key-small (suc (suc c)) = past s (num 4) _ (λ frame. past s (num 4) _ (λ value. past s (num 4) _ (λ slope. done s _ (small-word s frame (small-word s value (small-word s slope (small-none s 0 0)))))))
+
+pub count-le : (curve n : ℕ) → countOf curve n ≤ n
+unfolding countOf
+count-le curve n = go (leb curve 2)
+  where
+    go : (t : Bool) → pick t n 0 ≤ n
+    go true = omega arith
+    go false = omega arith
+
+module _ (s : List ℕ) (bytes : Bytes s) (fits : length s ≤ 16777216) where
+  keys-small : (curve n : ℕ) → n < 65536 → Gives s (Small s 196605 0) (keys curve n)
+  unfolding keys
+  keys-small curve n h =
+      let c = count-le curve n in
+      wider-all s 196605 0 (many-small s 3 0 (keyOf (curveOf curve)) (key-small s (curveOf curve)) (countOf curve n)) (omega arith) (omega arith)
+
+  target-small : (letters base : ℕ) → Gives s (Small s 196609 0) (target letters base)
+  unfolding target
+  target-small letters base =
+      past s (seekTo base) _ (λ at. past s (num 1) _ (λ layer. past s (num 1) _ (λ raw. past s (num 1) _ (λ curve. past s (num 1) _ (λ r.
+      next s _ (num-lt s bytes 2) (λ n h. past s (num 2) _ (λ r. past s (num 4) _ (λ offset. past s (seekTo (base + offset)) _ (λ at.
+      next s _ (keys-small curve n h) (λ ks k. done s _ (small-word s _ (small-word s _ (small-word s _ (small-word s _ k))))))))))))))
+
+  datum-small : Gives s (Small s 4194310 1) datum
+  unfolding datum
+  datum-small =
+      past s (num 4) _ (λ size. past s (num 2) _ (λ one. past s (num 2) _ (λ two. past s (num 4) _ (λ base. past s (num 4) _ (λ three.
+      next s _ (numbers-fit s (3 * base)) (λ vs h. past s here _ (λ at. past s (num 4) _ (λ offset. past s (seekTo (at + offset)) _ (λ start.
+      next s _ (ended-small s) (λ key k.
+      done s _ (wider s (small-word s _ (small-word s _ (small-word s _ (small-word s _ (small-word s _ (small-append s (small-words s vs) k)))))) (omega (arith, h .0, h .1)) (omega arith))))))))))))
+
+  info-small : (base : ℕ) → Gives s (Small s 1069549052 255) (info base)
+  unfolding info
+  info-small base =
+      past s (seekTo base) _ (λ at. past s (num 4) _ (λ letters. next s _ (num-lt s bytes 1) (λ n h. past s (num 1) _ (λ r. past s (num 2) _ (λ r.
+      either s (eqb letters fleu)
+      (next s _ (many-small s 4194310 1 datum datum-small n) (λ ds k. done s _ (wider s (small-word s _ (small-word s _ k)) (omega arith) (omega arith))))
+      (next s _ (numbers-fit s n) (λ os e. next s _ (visit-small s 196609 0 base (target letters) (target-small letters) os) (λ ts k. done s _ (wider s (small-word s _ (small-word s _ k)) (omega (arith, e .0)) (omega arith))))))))))
+
+  content-small : (base : ℕ) → Gives s (Small s 272735008263 65026) (content base)
+  unfolding content
+  content-small base =
+      past s (seekTo base) _ (λ at. next s _ (fixed-small s 28) (λ name t. next s _ (num-lt s bytes 1) (λ n h. past s (num 1) _ (λ type. past s (num 2) _ (λ r. past s (infoTable base type) _ (λ at.
+      next s _ (numbers-fit s n) (λ os e. next s _ (visit-small s 1069549052 255 base info info-small os) (λ is k.
+      done s _ (wider s (small-append s t (small-word s _ (small-word s _ k))) (omega (arith, e .0)) (omega (arith, e .0)))))))))))
+
+  contents-small : (table n : ℕ) → n < 65536 → Gives s (Small s 17873688766515705 4261478910) (contents table n)
+  unfolding contents
+  contents-small table n h =
+      past s (seekTo table) _ (λ at. next s _ (numbers-fit s n) (λ os e.
+      wider-all s _ _ (visit-small s 272735008263 65026 0 content content-small os) (omega (arith, e .0)) (omega (arith, e .0))))
+
+  body-small : (size : ℕ) → Gives s (Small s 17873688766581244 4261544445) (body size)
+  unfolding body
+  body-small size =
+      past s (num 2) _ (λ frames. past s (num 1) _ (λ looping. past s (num 1) _ (λ r. next s _ (num-lt s bytes 2) (λ nt h. next s _ (num-lt s bytes 2) (λ nc g. past s (num 4) _ (λ table. past s here _ (λ start.
+      next s _ (numbers-fit s nt) (λ os e. next s _ (visit-small s 1 1 start texture (texture-small s) os) (λ ts k. next s _ (contents-small table nc g) (λ cs l. past s (seekTo size) _ (λ end.
+      done s _ (wider s (small-word s _ (small-word s _ (small-word s _ (small-word s _ (small-append s k l))))) (omega (arith, e .0)) (omega (arith, e .0))))))))))))))
+
+  pub section-countable : Gives s (Countable s) section
+  unfolding section
+  section-countable =
+      past s (num 4) _ (λ letters. past s (num 4) _ (λ size.
+      either s (eqb letters pai1) (wider-all s _ _ (body-small size) (omega arith) (omega arith)) (none s _)))
