@@ -3,12 +3,15 @@ ghost use mathlib.Core.Path.{_≡_};
 ghost use Prim.Native.Nat.{_+_, _≤_};
 ghost use lib.ListN.{length};
 ghost use lib.Seq.{slice};
+ghost use Rattle.core.specs.Outcome.{flat, inOrder};
 ghost use Rattle.bflan.specs.Answer.{ofFinding, shown, textPart, textPtr};
 ghost use Rattle.bflan.specs.pai1.Calls.{finding};
 use crate::fault::Fault;
+use crate::fault::of_fault;
 use crate::read::LIMIT;
 use crate::read::measure;
 use crate::reader::tally::Walk;
+use core::outcome::Numbers;
 use core::part::part;
 use core::utf8::decode_into;
 use core::utf8::decoded_len;
@@ -86,4 +89,17 @@ pub fn text_part<'a>(
         }
     }
     &section[0..0]
+}
+
+// The answer in numbers.
+pub fn of_finding(a: FindAnswer) -> Numbers
+    ensures { λ r. ⌜ inOrder r ≡ flat 5 (ofFinding a) ⌝ }
+{
+    match a {
+        FindAnswer::Found(source, start, len) => Numbers(0, source, start, len, 0),
+        FindAnswer::Refused(f) => of_fault(f),
+        FindAnswer::TooLong(size) => Numbers(2, size, 0, 0, 0),
+        FindAnswer::NoSuchText => Numbers(10, 0, 0, 0, 0),
+        FindAnswer::ScratchTooShort(bytes) => Numbers(5, 0, bytes, 0, 0),
+    }
 }

@@ -3,14 +3,17 @@ ghost use mathlib.Core.Path.{_≡_};
 ghost use mathlib.Core.List.{[]};
 ghost use Prim.Native.Nat.{_≤_};
 ghost use lib.ListN.{length};
+ghost use Rattle.core.specs.Outcome.{flat, inOrder};
 ghost use Rattle.bflan.specs.Answer.{ofReading};
 ghost use Rattle.bflan.specs.pai1.Calls.{reading};
 ghost use Rattle.bflan.specs.pai1.Reading.{section};
 ghost use Rattle.bflan.specs.inner.Walk.{emptyTally, walkOf};
 use crate::fault::Fault;
+use crate::fault::of_fault;
 use crate::reader::section::section_at;
 use crate::reader::tally::Walk;
 use crate::reader::tally::fresh;
+use core::outcome::Numbers;
 
 pub enum ReadAnswer {
     // The words and the text bytes that were filled.
@@ -57,5 +60,17 @@ pub fn read(section: &[u8], words: &mut [u32], texts: &mut [u8]) -> ReadAnswer
             section_at(section, words, texts, fresh(0));
             ReadAnswer::Accepted(needs, bytes)
         }
+    }
+}
+
+// The answer in numbers.
+pub fn of_reading(a: ReadAnswer) -> Numbers
+    ensures { λ r. ⌜ inOrder r ≡ flat 5 (ofReading a) ⌝ }
+{
+    match a {
+        ReadAnswer::Accepted(words, bytes) => Numbers(0, words, bytes, 0, 0),
+        ReadAnswer::Refused(f) => of_fault(f),
+        ReadAnswer::TooLong(size) => Numbers(2, size, 0, 0, 0),
+        ReadAnswer::TooShort(words, bytes) => Numbers(5, words, bytes, 0, 0),
     }
 }

@@ -1,11 +1,13 @@
 // Writing a record as a section.
 ghost use mathlib.Core.Path.{_≡_};
+ghost use Rattle.core.specs.Outcome.{flat, inOrder};
 ghost use Rattle.bflan.specs.Writing.{ofWriting};
 ghost use Rattle.bflan.specs.pai1.Calls.{writing};
 use crate::judge::Verdict;
 use crate::judge::judge_section;
 use crate::read::LIMIT;
 use crate::writer::section::put_section;
+use core::outcome::Numbers;
 
 pub enum WriteAnswer {
     // The section's length.
@@ -38,5 +40,18 @@ pub fn write(words: &[u32], texts: &[u8], out: &mut [u8]) -> WriteAnswer
             put_section(words, texts, out);
             WriteAnswer::Written(size)
         }
+    }
+}
+
+// The answer in numbers.
+pub fn of_writing(a: WriteAnswer) -> Numbers
+    ensures { λ r. ⌜ inOrder r ≡ flat 5 (ofWriting a) ⌝ }
+{
+    match a {
+        WriteAnswer::Written(len) => Numbers(0, len, 0, 0, 0),
+        WriteAnswer::BadWord(index) => Numbers(6, index, 0, 0, 0),
+        WriteAnswer::BadText(index) => Numbers(7, index, 0, 0, 0),
+        WriteAnswer::OverLimit => Numbers(8, LIMIT, 0, 0, 0),
+        WriteAnswer::OutputTooShort(len) => Numbers(9, len, 0, 0, 0),
     }
 }

@@ -2,10 +2,10 @@
 use Prim.Native.Nat.{ℕ}
 use mathlib.Core.List.{List}
 use lib.Seq.{sets}
+use Rattle.core.specs.Outcome.{flat}
 use Rattle.bflan.specs.declared.place.Place.{Place}
 use Rattle.edit.specs.Editing.{editing}
 use Rattle.edit.specs.Format.{pai1}
-use Rattle.capi.specs.Flat.{flat}
 
 unfoldable pub changed : List ℕ → List ℕ → ℕ → Place → List ℕ → List ℕ → List ℕ × List ℕ × List ℕ
 changed s j count p vs answer =

@@ -2,10 +2,10 @@
 ghost use mathlib.Core.Path.{_≡_};
 ghost use Rattle.edit.specs.Editing.{placeOf, valuesOf};
 ghost use Rattle.capi.specs.Changed.{changed};
-use crate::answer::of_editing;
 use crate::answer::put3;
 use edit::edit::Change;
 use edit::edit::edit;
+use edit::edit::of_editing;
 
 pub(crate) fn change(
     section: &mut [u8],

@@ -11,29 +11,29 @@ ghost use mathlib.Core.Path.{_≡_};
 ghost use mathlib.Core.List.{[], _∷_};
 ghost use lib.ListN.{length};
 ghost use lib.Seq.{sets};
+ghost use Rattle.core.specs.Outcome.{flat};
 ghost use Rattle.core.specs.Text.{beforeZero, firstFault};
 ghost use Rattle.core.specs.Utf8.{decode, decodedSize, sound, wellFormed};
 ghost use Rattle.bflan.specs.Answer.{textPart};
 ghost use Rattle.bflan.specs.declared.place.Place.the-variants.{FrameCount, Looping, Layer, Target, Key, Value};
 ghost use Rattle.bflan.specs.pai1.Calls.{reading, finding, writing};
 ghost use Rattle.edit.specs.Editing.{undoing};
-ghost use Rattle.capi.specs.Flat.{flat};
 ghost use Rattle.capi.specs.Changed.{changed};
 ghost use Rattle.capi.specs.FieldNumbers.{fieldNumbers};
-use crate::answer::of_finding;
-use crate::answer::of_reading;
-use crate::answer::of_undoing;
-use crate::answer::of_writing;
 use crate::answer::put3;
 use crate::answer::put4;
 use crate::change::change;
 use crate::field::field;
+use bflan::find::of_finding;
 use bflan::place::Place;
+use bflan::read::of_reading;
+use bflan::write::of_writing;
 use core::float::HermiteBits;
 use core::float::from_bits;
 use core::float::hermite_from_bits;
 use edit::edit::Change;
 use edit::key::NewKey;
+use edit::undo::of_undoing;
 
 #[no_mangle]
 pub extern "C" fn nnbfl_decoded_len(text: &[u8]) -> usize

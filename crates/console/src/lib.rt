@@ -2,7 +2,6 @@
 pub mod argument;
 pub mod hex;
 pub mod input;
-pub mod number;
 pub mod output;
 pub mod refusal;
 pub mod room;

@@ -1,13 +1,17 @@
 // What is said of a section that does not read: the refusal's number, its values, and a sentence.
 use crate::hex::say_escaped;
-use crate::number::number_of;
 use crate::output::say;
 use crate::output::say_number;
+use crate::room::ROOM;
 use bflan::fault::Fault;
+use bflan::fault::of_fault;
+use bflan::read::ReadAnswer;
+use bflan::read::of_reading;
 
 // Says the number and the values: `refused 3 (4, 4)`.
 pub fn say_refused(f: Fault) {
-    say_number(b"refused ", number_of(f));
+    let n = of_fault(f);
+    say_number(b"refused ", n.0);
     match f {
         Fault::OtherLetters(letters) => say_number(b" (", letters as usize),
         Fault::PastEnd(offset, requested) => {
@@ -72,7 +76,9 @@ pub fn say_why(f: Fault) {
     }
 }
 
-// (Where the input ends is not looked for, so its length is not said.)
+// An input that fills the room is refused as a section over the limit is. (Where it ends is not looked for, so its length is not said.)
 pub fn say_too_long() {
-    say(b"refused 2: the input is longer than 65536 bytes\n");
+    let n = of_reading(ReadAnswer::TooLong(ROOM));
+    say_number(b"refused ", n.0);
+    say(b": the input is longer than 65536 bytes\n");
 }

@@ -1,20 +1,37 @@
 -- What the calls answer, in document 01's numbers and values (the refusals' table: 3 with the offset and the bytes requested, 4 with the
 -- text's start). Assumes nothing.
-use Prim.Native.Nat.{ℕ, min, _+_, _-_, _*_, _/_}
-use mathlib.Core.Path.{_≡_, refl, _∙_}
+use Prim.Native.Nat.{ℕ, zero, suc, min, _+_, _-_, _*_, _/_, _≤_}
+use mathlib.Core.Path.{_≡_, refl, ap, _∙_}
 use mathlib.Core.Bool.{Bool, true, false}
-use mathlib.Core.List.{List, [], _∷_}
+use mathlib.Core.List.{List, [], _∷_, _++_}
+use native.Mathlib.Omega.{arith}
 use lib.Dec.{leb, ltb}
-use lib.ListN.{length, take, drop}
+use lib.ListN.{length, take, drop, replicate}
 use Rattle.core.specs.Choice.{pick}
 use Rattle.core.specs.Float.{floatOf, patternOf, hermiteOf, patternsOf, patternsAt, readFloatOf, readHermiteOf}
 use Rattle.core.specs.Number.{get, readOf}
-use Rattle.core.specs.Outcome.{Outcome, accepted, ofRead, ofSought, ofText, ofRun, ofFloat, ofHermite}
+use Rattle.core.specs.Outcome.{Outcome, flat, accepted, ofRead, ofSought, ofText, ofRun, ofFloat, ofHermite}
 use Rattle.core.specs.Run.{numbersOf}
 use Rattle.core.specs.Seek.{seekOf}
 use Rattle.core.specs.Text.{beforeZero, fixedOf, endedOf}
 use Rattle.core.proofs.Floats.{pattern-back, patterns-back, patterns-lt}
 use Rattle.core.proofs.Numbers.{Bytes, get-lt}
+
+-- ---- an answer as a list of numbers: the first n of five are n of them
+
+first-of : (n m p q : ℕ) (vs : List ℕ) → n ≤ m → n ≤ p → n ≤ q → take n (take m (vs ++ replicate p 0)) ≡ take n (vs ++ replicate q 0)
+first-of zero m p q vs hm hp hq = refl
+first-of (suc n) zero p q vs hm hp hq = absurd (omega arith)
+first-of (suc n) (suc m) p q (v ∷ vs) hm hp hq = ap (λ (l : List ℕ). v ∷ l) (first-of n m p q vs (omega arith) (omega arith) (omega arith))
+first-of (suc n) (suc m) zero q [] hm hp hq = absurd (omega arith)
+first-of (suc n) (suc m) (suc p) zero [] hm hp hq = absurd (omega arith)
+first-of (suc n) (suc m) (suc p) (suc q) [] hm hp hq = ap (λ (l : List ℕ). 0 ∷ l) (first-of n m p q [] (omega arith) (omega arith) (omega arith))
+
+pub flat-first : (n : ℕ) (o : Outcome) → n ≤ 5 → take n (flat 5 o) ≡ flat n o
+unfolding flat
+flat-first n o h = first-of n 5 5 n (o .number ∷ o .values) h h (omega arith)
+
+-- ---- the answers
 
 abbrev refused : ℕ → List ℕ → Outcome
 refused n vs = record { number = n; values = vs }

@@ -1,8 +1,12 @@
 -- The number and the values of an answer (document 01: the refusals' table, and 'Form by location' on an answer that is an enum).
 -- An accepted answer has the number 0.
 use Prim.Native.Nat.{ℕ}
-use mathlib.Core.List.{List, [], _∷_}
+use mathlib.Core.List.{List, [], _∷_, _++_}
+use lib.Dec.{eqb}
+use lib.ListN.{length, take, replicate}
+use Rattle.core.specs.Choice.{pick}
 use Rattle.core.specs.Float.{patternOf, patternsOf}
+use Rattle.core.specs.declared.outcome.Numbers.{Numbers}
 use Rattle.core.specs.declared.number.Read.{Read}
 use Rattle.core.specs.declared.number.Read.the-variants.{Value, Past}
 use Rattle.core.specs.declared.run.Run.{Run}
@@ -20,6 +24,18 @@ pub record Outcome : Type 0 where
   pub number : ℕ
   pub values : List ℕ
 
+-- ---- an answer as a list of numbers
+
+-- n of them: the answer's number, its values, and zeros
+unfoldable pub flat : ℕ → Outcome → List ℕ
+flat n o = take n (o .number ∷ o .values ++ replicate n 0)
+
+-- those that the code hands on
+abbrev pub inOrder : Numbers → List ℕ
+inOrder n = n .0 ∷ n .1 ∷ n .2 ∷ n .3 ∷ n .4 ∷ []
+
+-- ---- the answers
+
 -- the numbers of the refusals that a read, a seek or a text can meet
 abbrev pub pastEnd : ℕ
 pastEnd = 3
@@ -30,6 +46,10 @@ noZero = 4
 -- an accepted answer with its values
 abbrev pub accepted : List ℕ → Outcome
 accepted vs = record { number = 0; values = vs }
+
+-- of an accepted answer, how many values there are before the values
+unfoldable pub counted : Outcome → Outcome
+counted o = pick (eqb (o .number) 0) (accepted (length (o .values) ∷ o .values)) o
 
 -- a read or a seek past the end: the offset and what was requested
 abbrev pub refusedPast : ℕ → ℕ → Outcome

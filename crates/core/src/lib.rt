@@ -3,6 +3,7 @@ pub mod cursor;
 pub mod fill;
 pub mod float;
 pub mod number;
+pub mod outcome;
 pub mod part;
 pub mod placeholder;
 pub mod run;

@@ -11,12 +11,14 @@ use lib.ListN.{length, getD}
 use Rattle.core.specs.Choice.{pick}
 use Rattle.core.specs.Float.{floatOf, hermiteOf, patternsAt}
 use Rattle.core.specs.Number.{get}
-use Rattle.core.specs.Outcome.{Outcome, accepted}
+use Rattle.core.specs.Outcome.{Outcome, accepted, counted}
 use Rattle.core.specs.declared.float.Binary32.{Binary32}
 use Rattle.core.specs.declared.float.Hermite.{Hermite as HermiteForm}
 use Rattle.core.proofs.Floats.{pattern-back, patterns-back}
 use Rattle.core.proofs.Numbers.{Bytes, get-lt, get-zero, get-suc}
-use Rattle.bflan.specs.Answer.{noPlace}
+use Rattle.bflan.specs.declared.fault.Fault.{Fault}
+use Rattle.bflan.specs.declared.fault.Fault.the-variants.{PastEnd, NoZero, OtherLetters}
+use Rattle.bflan.specs.Answer.{noPlace, ofFault}
 use Rattle.bflan.specs.pai1.FieldValues.{foundOf, numbersIn, asRead, valuesAt}
 use Rattle.bflan.specs.pai1.Letters.{kindOf, targetUnder, targetOf}
 use Rattle.bflan.specs.declared.letters.AnimInfoType.{AnimInfoType}
@@ -171,3 +173,11 @@ module _ (s : List ℕ) (bytes : Bytes s) (short : length s ≤ limit) (is : Lis
       go : (x : Spot) → locate s p ≡ x → ofField (atLocated s (ofSpot x)) ≡ numbersFor r p (foundOf x)
       go nowhere e = refl
       go (spot at f) e = ap accepted (value-bits s bytes at f ∙ sym (located-values s is end reads r readable ew ex p at f e))
+
+-- ---- in numbers: a fault is not counted
+
+pub counted-fault : (f : Fault) → counted (ofFault f) ≡ ofFault f
+unfolding counted ofFault
+counted-fault (PastEnd offset requested) = refl
+counted-fault (NoZero start) = refl
+counted-fault (OtherLetters letters) = refl

@@ -4,6 +4,7 @@ ghost use mathlib.Core.Bool.{true};
 ghost use Prim.Native.Nat.{_+_, _*_, _<_, _≤_};
 ghost use lib.ListN.{length};
 ghost use lib.Seq.{sets};
+ghost use Rattle.core.specs.Outcome.{flat, inOrder};
 ghost use Rattle.bflan.specs.Layout.{written, row};
 ghost use Rattle.bflan.specs.pai1.Places.{spot, widths, total, fit};
 ghost use Rattle.edit.specs.Editing.{ofEditing, keyWords, placeOf, valuesOf, oldAt, atSpot, editing};
@@ -20,6 +21,7 @@ use crate::values::place_of;
 use crate::values::size_of;
 use crate::values::values_of;
 use bflan::fault::Fault;
+use bflan::fault::of_fault;
 use bflan::place::Field;
 use bflan::place::Located;
 use bflan::place::Place;
@@ -29,6 +31,7 @@ use core::float::write_hermite;
 use core::number::write_u8;
 use core::number::write_u16;
 use core::number::write_u32;
+use core::outcome::Numbers;
 
 // A field, its place and its new value. Places count from 0: content, info, target, key; or content, info, datum, list, value.
 pub enum Change {
@@ -133,5 +136,19 @@ pub fn edit(section: &mut [u8], journal: &mut [u32], count: usize, change: Chang
         Located::Refused(f) => EditAnswer::Refused(f),
         Located::NoSuchPlace => EditAnswer::NoSuchPlace,
         Located::At(at, f) => change_at(section, journal, count, at, f, change),
+    }
+}
+
+// The answer in numbers.
+pub fn of_editing(a: EditAnswer) -> Numbers
+    ensures { λ r. ⌜ inOrder r ≡ flat 5 (ofEditing a) ⌝ }
+{
+    match a {
+        EditAnswer::Edited(count) => Numbers(0, count, 0, 0, 0),
+        EditAnswer::TooLong(size) => Numbers(2, size, 0, 0, 0),
+        EditAnswer::Refused(f) => of_fault(f),
+        EditAnswer::NoSuchPlace => Numbers(10, 0, 0, 0, 0),
+        EditAnswer::Unfit => Numbers(11, 0, 0, 0, 0),
+        EditAnswer::JournalFull(most) => Numbers(12, most, 0, 0, 0),
     }
 }

@@ -4,15 +4,20 @@ ghost use Prim.Native.Nat.{_+_, _≤_};
 ghost use lib.ListN.{length};
 ghost use Rattle.core.specs.Float.{floatOf, hermiteOf, patternsAt};
 ghost use Rattle.core.specs.Number.{get};
+ghost use Rattle.core.specs.Outcome.{accepted, counted, flat, inOrder};
 ghost use Rattle.bflan.specs.pai1.FieldValues.{numbersIn};
 ghost use Rattle.bflan.specs.pai1.Letters.{targetOf};
 ghost use Rattle.bflan.specs.pai1.Places.{widths, total};
 ghost use Rattle.bflan.specs.pai1.Reading.{flagOf};
 ghost use Rattle.bflan.specs.pai1.Record.{keyWidths};
-ghost use Rattle.edit.specs.FieldAt.{keyOf, readAt, fieldAt};
+ghost use Rattle.edit.specs.FieldAt.{keyOf, readAt, fieldAt, ofValue, ofField};
+ghost use Rattle.edit.specs.Packing.{valuesIn};
 use crate::journal::read_value;
 use crate::key::NewKey;
+use crate::values::Values;
+use crate::values::key_values;
 use bflan::fault::Fault;
+use bflan::fault::of_fault;
 use bflan::letters::AnimInfoType;
 use bflan::letters::kind_of;
 use bflan::place::Field;
@@ -30,6 +35,7 @@ use core::float::read_f32;
 use core::float::read_hermite;
 use core::number::read_u16;
 use core::number::read_u32;
+use core::outcome::Numbers;
 
 // A field's value, as the record has it.
 pub enum FieldValue {
@@ -142,5 +148,40 @@ pub fn field_at(section: &[u8], place: Place) -> FieldAnswer
         Located::Refused(f) => FieldAnswer::Refused(f),
         Located::NoSuchPlace => FieldAnswer::NoSuchPlace,
         Located::At(at, f) => FieldAnswer::Is(value_at(section, at, f)),
+    }
+}
+
+fn field_values(v: FieldValue) -> Values
+    ensures { λ r. ⌜ valuesIn r ≡ ofValue v ⌝ }
+{
+    match v {
+        FieldValue::FrameCount(n) => Values::One(n),
+        FieldValue::Looping(n) => Values::One(n),
+        FieldValue::Layer(n) => Values::One(n),
+        FieldValue::Target(n) => Values::One(n),
+        FieldValue::Key(k) => key_values(k),
+        FieldValue::Value(n) => Values::One(n),
+    }
+}
+
+fn of_values(v: Values) -> Numbers
+    ensures { λ r. ⌜ inOrder r ≡ flat 5 (counted (accepted (valuesIn v))) ⌝ }
+{
+    match v {
+        Values::One(a) => Numbers(0, 1, a as usize, 0, 0),
+        Values::Two(a, b) => Numbers(0, 2, a as usize, b as usize, 0),
+        Values::Three(a, b, c) => Numbers(0, 3, a as usize, b as usize, c as usize),
+    }
+}
+
+// The answer in numbers: of one that is accepted, how many values stand before them.
+pub fn of_field(a: FieldAnswer) -> Numbers
+    ensures { λ r. ⌜ inOrder r ≡ flat 5 (counted (ofField a)) ⌝ }
+{
+    match a {
+        FieldAnswer::TooLong(size) => Numbers(2, size, 0, 0, 0),
+        FieldAnswer::Refused(f) => of_fault(f),
+        FieldAnswer::NoSuchPlace => Numbers(10, 0, 0, 0, 0),
+        FieldAnswer::Is(v) => of_values(field_values(v)),
     }
 }

@@ -2,6 +2,7 @@
 ghost use mathlib.Core.Path.{_≡_};
 ghost use mathlib.Core.Bool.{true};
 ghost use lib.ListN.{length};
+ghost use Rattle.core.specs.Outcome.{flat, inOrder};
 ghost use Rattle.edit.specs.Editing.{ofUndoing, restored, undoing};
 ghost use Rattle.edit.specs.Journal.{sound};
 ghost use Rattle.edit.specs.Packing.{entryList};
@@ -11,6 +12,7 @@ use crate::journal::entry_at;
 use crate::journal::filled;
 use crate::journal::put_packed;
 use bflan::read::LIMIT;
+use core::outcome::Numbers;
 
 pub enum UndoAnswer {
     // The new count of journal entries.
@@ -64,4 +66,16 @@ pub fn undo(section: &mut [u8], journal: &[u32], count: usize) -> UndoAnswer
         return UndoAnswer::Undone(last);
     }
     UndoAnswer::BadJournal(count)
+}
+
+// The answer in numbers.
+pub fn of_undoing(a: UndoAnswer) -> Numbers
+    ensures { λ r. ⌜ inOrder r ≡ flat 5 (ofUndoing a) ⌝ }
+{
+    match a {
+        UndoAnswer::Undone(count) => Numbers(0, count, 0, 0, 0),
+        UndoAnswer::TooLong(size) => Numbers(2, size, 0, 0, 0),
+        UndoAnswer::NothingToUndo => Numbers(13, 0, 0, 0, 0),
+        UndoAnswer::BadJournal(count) => Numbers(14, count, 0, 0, 0),
+    }
 }

@@ -32,7 +32,7 @@ pub(crate) fn place_of(change: Change) -> Place
     }
 }
 
-fn key_values(new: NewKey) -> Values
+pub(crate) fn key_values(new: NewKey) -> Values
     ensures { λ r. ⌜ valuesIn r ≡ keyWords new ⌝ }
 {
     match new {

@@ -4,8 +4,11 @@ use console::output::say;
 use console::output::say_number;
 use console::refusal::say_refused;
 use console::refusal::say_why;
+use core::outcome::Numbers;
 use edit::edit::EditAnswer;
+use edit::edit::of_editing;
 use edit::undo::UndoAnswer;
+use edit::undo::of_undoing;
 
 pub(crate) enum Step {
     // The new count of journal entries.
@@ -15,60 +18,57 @@ pub(crate) enum Step {
 }
 
 // A refusal at argument `i`; `why` ends the line.
-fn stop(number: usize, i: usize, why: &[u8]) -> Step {
-    say_number(b"refused ", number);
+fn stop(n: Numbers, i: usize, why: &[u8]) -> Step {
+    say_number(b"refused ", n.0);
     say_number(b" at argument ", i);
     say(why);
     Step::Stopped
 }
 
 // A refusal with a value.
-fn stop_with(number: usize, value: usize, i: usize, why: &[u8]) -> Step {
-    say_number(b"refused ", number);
-    say_number(b" (", value);
+fn stop_with(n: Numbers, i: usize, why: &[u8]) -> Step {
+    say_number(b"refused ", n.0);
+    say_number(b" (", n.1);
     say_number(b") at argument ", i);
     say(why);
     Step::Stopped
 }
 
-pub(crate) fn of_fault(f: Fault, i: usize) -> Step {
+pub(crate) fn stop_at_fault(f: Fault, i: usize) -> Step {
     say_refused(f);
     say_number(b" at argument ", i);
     say_why(f);
     Step::Stopped
 }
 
-pub(crate) fn too_long(size: usize, i: usize) -> Step {
-    stop_with(2, size, i, b": the section is too long\n")
+pub(crate) fn too_long(n: Numbers, i: usize) -> Step {
+    stop_with(n, i, b": the section is too long\n")
 }
 
-pub(crate) fn no_such_place(i: usize) -> Step {
-    stop(10, i, b": the section has no such place\n")
+pub(crate) fn no_such_place(n: Numbers, i: usize) -> Step {
+    stop(n, i, b": the section has no such place\n")
 }
 
-pub(crate) fn of_edit(a: EditAnswer, i: usize) -> Step {
+pub(crate) fn after_edit(a: EditAnswer, i: usize) -> Step {
+    let n = of_editing(a);
     match a {
         EditAnswer::Edited(count) => Step::On(count),
-        EditAnswer::TooLong(size) => too_long(size, i),
-        EditAnswer::Refused(f) => of_fault(f, i),
-        EditAnswer::NoSuchPlace => no_such_place(i),
-        EditAnswer::Unfit => stop(11, i, b": the new value does not fit there\n"),
-        EditAnswer::JournalFull(most) => {
-            stop_with(
-                12,
-                most,
-                i,
-                b": the journal has no room for one more change\n",
-            )
+        EditAnswer::TooLong(_size) => too_long(n, i),
+        EditAnswer::Refused(f) => stop_at_fault(f, i),
+        EditAnswer::NoSuchPlace => no_such_place(n, i),
+        EditAnswer::Unfit => stop(n, i, b": the new value does not fit there\n"),
+        EditAnswer::JournalFull(_most) => {
+            stop_with(n, i, b": the journal has no room for one more change\n")
         }
     }
 }
 
-pub(crate) fn of_undo(a: UndoAnswer, i: usize) -> Step {
+pub(crate) fn after_undo(a: UndoAnswer, i: usize) -> Step {
+    let n = of_undoing(a);
     match a {
         UndoAnswer::Undone(count) => Step::On(count),
-        UndoAnswer::TooLong(size) => too_long(size, i),
-        UndoAnswer::NothingToUndo => stop(13, i, b": there is no change to take back\n"),
-        UndoAnswer::BadJournal(count) => stop_with(14, count, i, b": the journal is damaged\n"),
+        UndoAnswer::TooLong(_size) => too_long(n, i),
+        UndoAnswer::NothingToUndo => stop(n, i, b": there is no change to take back\n"),
+        UndoAnswer::BadJournal(_count) => stop_with(n, i, b": the journal is damaged\n"),
     }
 }

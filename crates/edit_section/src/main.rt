@@ -36,8 +36,8 @@ mod show;
 ghost use mathlib.Core.Path.{_≡_};
 ghost use lib.ListN.{length};
 use crate::answer::Step;
-use crate::answer::of_edit;
-use crate::answer::of_undo;
+use crate::answer::after_edit;
+use crate::answer::after_undo;
 use crate::change::Command;
 use crate::change::edited;
 use crate::change::named;
@@ -73,51 +73,18 @@ const NUMBERS: usize = 7;
 fn say_usage(fd: i32) {
     say_to(
         fd,
-        b"usage: edit_section CHANGE.. < section, where a CHANGE is one of\n",
-    );
-    say_to(
-        fd,
-        b"  frames V, looping V, layer C I T V, target C I T V, value C I D L N V,\n",
-    );
-    say_to(
-        fd,
-        b"  constant C I T K V, step C I T K F V, hermite C I T K F V S, undo\n",
-    );
-    say_to(
-        fd,
-        b"Content, Info, Target, Key, Datum, List and its Number count from 0. A number is\n",
-    );
-    say_to(
-        fd,
-        b"decimal, or hexadecimal behind 0x. Frame, Slope and the Value of constant, hermite\n",
-    );
-    say_to(
-        fd,
-        b"and value are floats, given by their bits. The Value of step is a whole number from 0\n",
-    );
-    say_to(
-        fd,
-        b"to 65535. The section has at most 65536 bytes. At most 1000 changes are kept to be\n",
-    );
-    say_to(
-        fd,
-        b"taken back: with so many, the next one is refused with 12 (1000). The section that the\n",
-    );
-    say_to(
-        fd,
-        b"changes leave is written to standard output, or only 'refused N' and why.\n",
-    );
-    say_to(
-        fd,
-        b"edit_section show PLACE.. < section says what stands at places now, each as the change that\n",
-    );
-    say_to(
-        fd,
-        b"would put it there: frames, looping, layer C I T, target C I T, key C I T K, value C I D L N\n",
-    );
-    say_to(
-        fd,
-        b"example: edit_section frames 60 looping 1 < crates/round_trip/stdin > edited.pai1\n",
+        b"usage: edit_section CHANGE.. < section, where a CHANGE is one of\n  \
+          frames V, looping V, layer C I T V, target C I T V, value C I D L N V,\n  \
+          constant C I T K V, step C I T K F V, hermite C I T K F V S, undo\n\
+          Content, Info, Target, Key, Datum, List and its Number count from 0. A number is\n\
+          decimal, or hexadecimal behind 0x. Frame, Slope and the Value of constant, hermite\n\
+          and value are floats, given by their bits. The Value of step is a whole number from 0\n\
+          to 65535. The section has at most 65536 bytes. At most 1000 changes are kept to be\n\
+          taken back: with so many, the next one is refused with 12 (1000). The section that the\n\
+          changes leave is written to standard output, or only 'refused N' and why.\n\
+          edit_section show PLACE.. < section says what stands at places now, each as the change that\n\
+          would put it there: frames, looping, layer C I T, target C I T, key C I T K, value C I D L N\n\
+          example: edit_section frames 60 looping 1 < crates/round_trip/stdin > edited.pai1\n",
     );
 }
 
@@ -144,8 +111,8 @@ fn make(
     i: usize,
 ) -> Step {
     match c {
-        Command::Undo => of_undo(undo(section, journal, count), i),
-        _ => of_edit(edited(section, journal, count, c, numbers), i),
+        Command::Undo => after_undo(undo(section, journal, count), i),
+        _ => after_edit(edited(section, journal, count, c, numbers), i),
     }
 }
 

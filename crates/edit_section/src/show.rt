@@ -1,6 +1,6 @@
 // What stands at a place, said as the arguments that would put it there.
 use crate::answer::no_such_place;
-use crate::answer::of_fault;
+use crate::answer::stop_at_fault;
 use crate::answer::too_long;
 use crate::change::at;
 use crate::change::same;
@@ -13,6 +13,7 @@ use core::float::to_bits;
 use edit::field::FieldAnswer;
 use edit::field::FieldValue;
 use edit::field::field_at;
+use edit::field::of_field;
 use edit::key::NewKey;
 
 pub(crate) enum Named {
@@ -154,21 +155,22 @@ fn say_value(v: FieldValue, numbers: &[u32]) {
 
 // Says what stands at a place that is named at argument `i`, and answers whether there is one; if not, it has said why.
 pub(crate) fn show(section: &[u8], p: Named, numbers: &[u32], i: usize) -> bool {
-    match field_at(section, place_of(p, numbers)) {
+    let a = field_at(section, place_of(p, numbers));
+    match a {
         FieldAnswer::Is(v) => {
             say_value(v, numbers);
             true
         }
-        FieldAnswer::TooLong(size) => {
-            too_long(size, i);
+        FieldAnswer::TooLong(_size) => {
+            too_long(of_field(a), i);
             false
         }
         FieldAnswer::Refused(f) => {
-            of_fault(f, i);
+            stop_at_fault(f, i);
             false
         }
         FieldAnswer::NoSuchPlace => {
-            no_such_place(i);
+            no_such_place(of_field(a), i);
             false
         }
     }

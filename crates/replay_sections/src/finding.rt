@@ -5,10 +5,8 @@ use crate::compare::BEFORE;
 use crate::compare::bytes_marked;
 use crate::compare::mark_bytes;
 use crate::compare::same_bytes;
-use crate::input::Answer;
 use crate::input::Case;
 use crate::input::bytes_of;
-use crate::reading::of_fault;
 use crate::reading::same_answer;
 use crate::record::Met;
 use crate::record::Place;
@@ -21,7 +19,9 @@ use crate::report::bump;
 use crate::report::note;
 use bflan::find::FindAnswer;
 use bflan::find::find_text;
+use bflan::find::of_finding;
 use bflan::find::text_part;
+use core::outcome::Numbers;
 use core::part::part;
 
 // The scratch, where it ends, and all places.
@@ -122,10 +122,7 @@ fn find_one(section: &[u8], t: usize, wanted: &[u8], counts: &mut [u64]) -> bool
         FindAnswer::Found(source, start, len) => {
             found(section, &places, source, start, len, wanted, counts)
         }
-        FindAnswer::Refused(_f) => false,
-        FindAnswer::TooLong(_size) => false,
-        FindAnswer::NoSuchText => false,
-        FindAnswer::ScratchTooShort(_bytes) => false,
+        _ => false,
     }
 }
 
@@ -136,10 +133,7 @@ fn find_none(section: &[u8], t: usize) -> bool {
     let answer = find_among(section, t, &mut places);
     match answer {
         FindAnswer::NoSuchText => bytes_marked(&places, 0, ALL),
-        FindAnswer::Found(_source, _start, _len) => false,
-        FindAnswer::Refused(_f) => false,
-        FindAnswer::TooLong(_size) => false,
-        FindAnswer::ScratchTooShort(_bytes) => false,
+        _ => false,
     }
 }
 
@@ -212,17 +206,11 @@ fn find_all(section: &[u8], words: &[u8], texts: &[u8], counts: &mut [u64]) -> b
 }
 
 // Whether looking for a text is refused as reading is.
-fn refused(section: &[u8], answer: Answer) -> bool {
+fn refused(section: &[u8], answer: Numbers) -> bool {
     let mut places = [0u8; ALL];
     mark_bytes(&mut places);
     let found = find_among(section, 0, &mut places);
-    match found {
-        FindAnswer::Refused(f) => same_answer(of_fault(f), answer) && bytes_marked(&places, 0, ALL),
-        FindAnswer::Found(_source, _start, _len) => false,
-        FindAnswer::TooLong(_size) => false,
-        FindAnswer::NoSuchText => false,
-        FindAnswer::ScratchTooShort(_bytes) => false,
-    }
+    same_answer(of_finding(found), answer) && bytes_marked(&places, 0, ALL)
 }
 
 // Looks for the texts of a case. (Where the tables are too short, the sample has no texts.)

@@ -4,20 +4,18 @@ ghost use lib.ListN.{length};
 use core::number::Read;
 use core::number::read_u16;
 use core::number::read_u32;
+use core::outcome::Numbers;
 use core::part::part;
 
 // A part of the sample: its start and its length.
 pub(crate) struct Span(pub(crate) usize, pub(crate) usize);
-
-// An answer's number and its two values, 0 where there is none.
-pub(crate) struct Answer(pub(crate) usize, pub(crate) usize, pub(crate) usize);
 
 pub(crate) struct Case {
     pub(crate) section: Span,
     // the tables' lengths
     pub(crate) words: usize,
     pub(crate) texts: usize,
-    pub(crate) answer: Answer,
+    pub(crate) answer: Numbers,
     // the words and the text bytes that the tables then begin with: none where the section is not read
     pub(crate) record_words: Span,
     pub(crate) record_texts: Span,
@@ -28,7 +26,7 @@ pub(crate) struct Record {
     pub(crate) texts: Span,
     // the output's length
     pub(crate) room: usize,
-    pub(crate) answer: Answer,
+    pub(crate) answer: Numbers,
     // the bytes that the output then begins with: none where the record is not written
     pub(crate) section: Span,
 }
@@ -56,7 +54,7 @@ fn value(r: Read) -> usize {
 }
 
 // A value that is a length if the call is accepted, and else 0.
-fn if_accepted(answer: Answer, v: usize) -> usize {
+fn if_accepted(answer: Numbers, v: usize) -> usize {
     if answer.0 == 0 {
         return v;
     }
@@ -68,7 +66,7 @@ fn with_record(
     section: Span,
     words: usize,
     texts: usize,
-    answer: Answer,
+    answer: Numbers,
     at: usize,
     left: usize,
 ) -> Next
@@ -113,7 +111,7 @@ fn with_section(s: &[u8], start: usize, len: usize) -> Next
         Span(start, len),
         words,
         texts,
-        Answer(number, a, b),
+        Numbers(number, a, b, 0, 0),
         record,
         s.len() - record,
     )
@@ -143,7 +141,7 @@ fn with_answer(s: &[u8], words: Span, texts: Span, room: usize, at: usize) -> Ne
     }
     let number = value(read_u32(s, at));
     let a = value(read_u32(s, at + 4));
-    let answer = Answer(number, a, 0);
+    let answer = Numbers(number, a, 0, 0, 0);
     let start = at + 8;
     let len = if_accepted(answer, a);
     if s.len() - start < len {

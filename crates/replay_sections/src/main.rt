@@ -132,22 +132,13 @@ fn run_program() {
 }
 
 fn say_usage(fd: i32) {
-    say_to(fd, b"usage: replay_sections < sample\n");
     say_to(
         fd,
-        b"Reads a sample of sections and records with the Rust's answers from standard input, of less\n",
-    );
-    say_to(
-        fd,
-        b"than 1048576 bytes, replays each case, and writes a report to standard output: how many\n",
-    );
-    say_to(
-        fd,
-        b"cases there are of each answer, and each difference.\n",
-    );
-    say_to(
-        fd,
-        b"example: replay_sections < crates/replay_sections/stdin\n",
+        b"usage: replay_sections < sample\n\
+          Reads a sample of sections and records with the Rust's answers from standard input, of less\n\
+          than 1048576 bytes, replays each case, and writes a report to standard output: how many\n\
+          cases there are of each answer, and each difference.\n\
+          example: replay_sections < crates/replay_sections/stdin\n",
     );
 }
 

@@ -9,42 +9,24 @@ use crate::compare::mark_bytes;
 use crate::compare::mark_words;
 use crate::compare::same_words;
 use crate::compare::words_marked;
-use crate::input::Answer;
 use crate::input::Case;
 use crate::input::bytes_of;
 use crate::report::note;
-use bflan::fault::Fault;
-use bflan::read::ReadAnswer;
+use bflan::read::of_reading;
+use core::outcome::Numbers;
 
 // All places.
 const ALL_WORDS: usize = 272;
 
 const ALL_TEXTS: usize = 336;
 
-pub(crate) fn of_fault(f: Fault) -> Answer {
-    match f {
-        Fault::PastEnd(offset, requested) => Answer(3, offset, requested),
-        Fault::NoZero(start) => Answer(4, start, 0),
-        Fault::OtherLetters(letters) => Answer(1, letters as usize, 0),
-    }
-}
-
-fn of_reading(a: ReadAnswer) -> Answer {
-    match a {
-        ReadAnswer::Accepted(words, bytes) => Answer(0, words, bytes),
-        ReadAnswer::Refused(f) => of_fault(f),
-        ReadAnswer::TooLong(size) => Answer(2, size, 0),
-        ReadAnswer::TooShort(words, bytes) => Answer(5, words, bytes),
-    }
-}
-
 // Whether two answers are the same.
-pub(crate) fn same_answer(a: Answer, b: Answer) -> bool {
-    a.0 == b.0 && a.1 == b.1 && a.2 == b.2
+pub(crate) fn same_answer(a: Numbers, b: Numbers) -> bool {
+    a.0 == b.0 && a.1 == b.1 && a.2 == b.2 && a.3 == b.3 && a.4 == b.4
 }
 
 // Reads into n words and m bytes.
-fn read_among(section: &[u8], words: &mut [u32], n: usize, texts: &mut [u8], m: usize) -> Answer
+fn read_among(section: &[u8], words: &mut [u32], n: usize, texts: &mut [u8], m: usize) -> Numbers
     requires { ⌜ (n + 8 ≤ length (now words)) × (m + 8 ≤ length (now texts)) ⌝ }
 {
     let w = n + BEFORE;

@@ -5,7 +5,6 @@ use crate::compare::BEFORE;
 use crate::compare::WORDS;
 use crate::compare::bytes_right;
 use crate::compare::mark_bytes;
-use crate::input::Answer;
 use crate::input::Record;
 use crate::input::bytes_of;
 use crate::reading::same_answer;
@@ -13,25 +12,14 @@ use crate::record::word_at;
 use crate::report::RECORDS;
 use crate::report::bump;
 use crate::report::note;
-use bflan::write::WriteAnswer;
+use bflan::write::of_writing;
 use bflan::write::write;
+use core::outcome::Numbers;
 
 // The longest output, and all places around it.
 const OUTPUT: usize = 512;
 
 const ALL: usize = 528;
-
-const LIMIT: usize = 16777216;
-
-fn of_writing(a: WriteAnswer) -> Answer {
-    match a {
-        WriteAnswer::Written(len) => Answer(0, len, 0),
-        WriteAnswer::BadWord(index) => Answer(6, index, 0),
-        WriteAnswer::BadText(index) => Answer(7, index, 0),
-        WriteAnswer::OverLimit => Answer(8, LIMIT, 0),
-        WriteAnswer::OutputTooShort(len) => Answer(9, len, 0),
-    }
-}
 
 // Puts the sample's words into a table.
 fn take_words(words: &[u8], t: &mut [u32]) {
@@ -43,7 +31,7 @@ fn take_words(words: &[u8], t: &mut [u32]) {
 }
 
 // Writes n words into an output of `room` bytes.
-fn write_among(words: &[u32], n: usize, texts: &[u8], places: &mut [u8], room: usize) -> Answer
+fn write_among(words: &[u32], n: usize, texts: &[u8], places: &mut [u8], room: usize) -> Numbers
     requires { ⌜ (n ≤ length (now words)) × (room + 8 ≤ length (now places)) ⌝ }
 {
     let end = room + BEFORE;

@@ -1,7 +1,8 @@
--- What the program prints: a section that our writer wrote goes through unchanged (`trip-back`); a refusal is its number, which is one of 1 to
--- 9, in one line (`trip-low`, `trip-refused`); anything else is the section of the record that was read (`trip-accepted`).
+-- What the program prints: a section that our writer wrote goes through unchanged (`trip-back`); a refusal is its number in one line
+-- (`trip-refusal`), today one of 1 to 9 (`trip-low`, `trip-refused`); anything else is the section of the record that was read
+-- (`trip-accepted`).
 -- Assumes nothing.
-use Prim.Native.Nat.{ℕ, _+_, _%_, _≤_}
+use Prim.Native.Nat.{ℕ, _+_, _≤_}
 use mathlib.Core.Path.{_≡_, refl, ap, sym, _∙_}
 use mathlib.Core.Bool.{Bool, true, false, _&&_}
 use mathlib.Core.List.{List, [], _∷_}
@@ -34,6 +35,7 @@ use Rattle.bflan.proofs.round_trip.RoundTrip.{read-written}
 use Rattle.bflan.proofs.round_trip.Pai1.{judges, texts-size}
 use Rattle.bflan.proofs.round_trip.Verdicts.{written-there, accepted-within}
 use Rattle.round_trip.specs.Trip.{said, most, writtenAgain, afterReading, trip, refusal, repliedWith, replied, printed}
+use Rattle.round_trip.proofs.Decimals.{decimal-one}
 use Rattle.round_trip.proofs.Trips.{Filled, accepted-fills}
 
 -- ---- a section that was written from a record within the limits
@@ -154,21 +156,29 @@ trip-low s w x out =
 
 -- ---- a refusal in print
 
-one-digit : (n : ℕ) → n ≤ 9 → n % 10 ≡ n
-one-digit n h = omega arith
-
-refused-print : (n : ℕ) (vs out after : List ℕ) → 10 ≤ length out → n ≤ 9 → vs ≡ [] → after ≡ out
-    → partOf (repliedWith n vs after .1) 0 (repliedWith n vs after .0) ≡ 114 ∷ 101 ∷ 102 ∷ 117 ∷ 115 ∷ 101 ∷ 100 ∷ 32 ∷ (48 + n) ∷ 10 ∷ []
-unfolding refusal repliedWith
-refused-print n vs out after l h ev eo = rw (ev, eo) (printed-start out (refusal n) l ∙ rw (one-digit n h) refl)
+refused-print : (n : ℕ) (vs out after : List ℕ) → length (refusal n) ≤ length out → vs ≡ [] → after ≡ out
+    → partOf (repliedWith n vs after .1) 0 (repliedWith n vs after .0) ≡ refusal n
+unfolding repliedWith
+refused-print n vs out after l ev eo = rw (ev, eo) (printed-start out (refusal n) l)
 
 -- where the number is not 0, `refused N` with it and a newline is all that is printed
+pub trip-refusal : (s w x out : List ℕ) → length (refusal (trip s w x out .0 .number)) ≤ length out → (trip s w x out .0 .number ≡ 0 → ⊥)
+    → printed s w x out ≡ refusal (trip s w x out .0 .number)
+unfolding replied printed
+trip-refusal s w x out l z =
+    let h = trip-low s w x out in
+    refused-print (trip s w x out .0 .number) (trip s w x out .0 .values) out (trip s w x out .1) l (h .values z) (h .same z)
+
+one-digit : (n : ℕ) → n ≤ 9 → refusal n ≡ 114 ∷ 101 ∷ 102 ∷ 117 ∷ 115 ∷ 101 ∷ 100 ∷ 32 ∷ (48 + n) ∷ 10 ∷ []
+unfolding refusal
+one-digit n h = rw (decimal-one n (omega arith))
+
+-- today's numbers have one digit
 pub trip-refused : (s w x out : List ℕ) → 10 ≤ length out → (trip s w x out .0 .number ≡ 0 → ⊥)
     → printed s w x out ≡ 114 ∷ 101 ∷ 102 ∷ 117 ∷ 115 ∷ 101 ∷ 100 ∷ 32 ∷ (48 + trip s w x out .0 .number) ∷ 10 ∷ []
-unfolding replied printed
 trip-refused s w x out l z =
-    let h = trip-low s w x out in
-    refused-print (trip s w x out .0 .number) (trip s w x out .0 .values) out (trip s w x out .1) l (h .number) (h .values z) (h .same z)
+    let e = one-digit (trip s w x out .0 .number) (trip-low s w x out .number) in
+    trip-refusal s w x out (rw e l) z ∙ e
 
 -- ---- what is printed but a refusal: the section of a record within the limits, which is the one that was read
 

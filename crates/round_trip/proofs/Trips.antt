@@ -13,7 +13,8 @@ use lib.ListN.{length, take, drop, getD}
 use lib.Seq.{sets, length-sets}
 use types.Run.{OneOf, miss}
 use Rattle.core.specs.Choice.{pick}
-use Rattle.core.specs.Outcome.{Outcome, accepted}
+use Rattle.core.specs.Outcome.{Outcome, flat, inOrder, accepted}
+use Rattle.core.specs.declared.outcome.Numbers.{Numbers}
 use Rattle.bflan.specs.declared.fault.Fault.{Fault}
 use Rattle.bflan.specs.declared.fault.Fault.the-variants.{PastEnd, NoZero, OtherLetters}
 use Rattle.bflan.specs.declared.read.ReadAnswer.{ReadAnswer}
@@ -32,6 +33,11 @@ use Rattle.bflan.proofs.write.WriteAnswer.{the-type as writeType}
 use Rattle.round_trip.specs.Trip.{ofTrip, said, most, writtenAgain, afterReading, trip}
 use Rattle.round_trip.specs.declared.Trip.{Trip}
 use Rattle.round_trip.specs.declared.Trip.the-variants.{Section, Refused}
+
+-- an answer's number is the first of its numbers
+pub first-number : (n : Numbers) (o : Outcome) → inOrder n ≡ flat 5 o → n .0 ≡ o .number
+unfolding flat
+first-number n o e = ap (λ (l : List ℕ). getD l 0 0) e
 
 -- ---- writing
 

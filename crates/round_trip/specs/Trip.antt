@@ -1,8 +1,8 @@
 -- The round-trip program: for a section, the two tables and the output, what it answers and what the output holds afterwards (document 01,
 -- 'The round-trip program').
-use Prim.Native.Nat.{ℕ, _+_, _%_}
-use mathlib.Core.List.{List, [], _∷_}
-use lib.Dec.{eqb, leb}
+use Prim.Native.Nat.{ℕ, zero, suc, _+_, _/_, _%_}
+use mathlib.Core.List.{List, [], _∷_, _++_}
+use lib.Dec.{eqb, leb, ltb}
 use lib.ListN.{length, take, getD}
 use lib.Seq.{sets}
 use Rattle.core.specs.Choice.{pick}
@@ -46,13 +46,22 @@ trip section words texts out = pick (leb (length section) most) (afterReading (r
 
 -- ---- what is printed
 
--- `refused N` and a newline. (No number has a second digit.)
+-- the decimal digits of a number in ASCII, the first one first: the last of them behind those of a tenth of it; k or fewer of them
+unfoldable pub decimalIn : ℕ → ℕ → List ℕ
+decimalIn zero n = []
+decimalIn (suc k) n = pick (ltb n 10) [] (decimalIn k (n / 10)) ++ ((48 + n % 10) ∷ [])
+
+-- all of them: a number n has no more than n + 1
+unfoldable pub decimal : ℕ → List ℕ
+decimal n = decimalIn (suc n) n
+
+-- `refused N` and a newline
 unfoldable pub refusal : ℕ → List ℕ
-refusal number = 114 ∷ 101 ∷ 102 ∷ 117 ∷ 115 ∷ 101 ∷ 100 ∷ 32 ∷ (48 + number % 10) ∷ 10 ∷ []
+refusal number = 114 ∷ 101 ∷ 102 ∷ 117 ∷ 115 ∷ 101 ∷ 100 ∷ 32 ∷ decimal number ++ (10 ∷ [])
 
 -- the length of what is printed, and the output, at whose start it stands: a section is there already, and a refusal has no length
 unfoldable pub repliedWith : ℕ → List ℕ → List ℕ → ℕ × List ℕ
-repliedWith number [] out = (10, sets out 0 (refusal number))
+repliedWith number [] out = (length (refusal number), sets out 0 (refusal number))
 repliedWith number (len ∷ vs) out = (len, out)
 
 unfoldable pub replied : Outcome × List ℕ → ℕ × List ℕ

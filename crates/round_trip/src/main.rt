@@ -4,18 +4,19 @@
 // standard output cannot be written, standard error says so. `--help` is answered by the usage; any other argument too, on standard
 // error and with nothing on standard output.
 ghost use mathlib.Core.Path.{_≡_};
+ghost use lib.ListN.{length};
 ghost use lib.Seq.{sets};
 ghost use Rattle.round_trip.specs.Trip.{answered, ofTrip, refusal, replied, trip, writtenAgain};
 use bflan::read::ReadAnswer;
+use bflan::read::of_reading;
 use bflan::read::read;
 use bflan::write::WriteAnswer;
+use bflan::write::of_writing;
 use bflan::write::write;
 use console::argument::Asked;
 use console::argument::arguments;
 use console::input::Input;
 use console::input::read_input;
-use console::number::number_of_reading;
-use console::number::number_of_writing;
 use console::output::can_say;
 use console::output::finish;
 use console::output::say;
@@ -43,7 +44,10 @@ fn write_again(words: &[u32], texts: &[u8], out: &mut [u8]) -> Trip
     let a = write(words, texts, out);
     match a {
         WriteAnswer::Written(len) => Trip::Section(len),
-        _ => Trip::Refused(number_of_writing(a)),
+        _ => {
+            let n = of_writing(a);
+            Trip::Refused(n.0)
+        }
     }
 }
 
@@ -57,18 +61,23 @@ fn round_trip(section: &[u8], words: &mut [u32], texts: &mut [u8], out: &mut [u8
     let a = read(section, words, texts);
     match a {
         ReadAnswer::Accepted(n, m) => write_again(&words[0..n], &texts[0..m], out),
-        _ => Trip::Refused(number_of_reading(a)),
+        _ => {
+            let n = of_reading(a);
+            Trip::Refused(n.0)
+        }
     }
 }
 
-// `refused N` and a newline, from the output's start on: their length. (No number has a second digit.)
+// `refused N` and a newline, from the output's start on: their length.
 fn refuse(number: usize, out: &mut [u8]) -> usize
-    ensures { λ r. ⌜ (r ≡ 10) × (now (out .exit) ≡ sets (now (out .entry)) 0 (refusal number)) ⌝ }
+    ensures { λ r. ⌜ (r ≡ length (refusal number)) × (now (out .exit) ≡ sets (now (out .entry)) 0 (refusal number)) ⌝ }
 {
-    let digit = b'0' + (number % 10) as u8;
-    let line = [b'r', b'e', b'f', b'u', b's', b'e', b'd', b' ', digit, b'\n'];
-    copy(&line, out, 0);
-    10
+    let mut digits = [0u8; 20];
+    let n = io::decimal(number as u64, &mut digits);
+    copy(b"refused ", out, 0);
+    copy(&digits[..n], out, 8);
+    copy(b"\n", out, n + 8);
+    n + 9
 }
 
 // The bytes to print stand from the output's start on: their length.

@@ -31,6 +31,7 @@ mod tracks;
 use crate::tracks::show;
 use bflan::fault::Fault;
 use bflan::read::ReadAnswer;
+use bflan::read::of_reading;
 use bflan::read::read;
 use console::argument::Asked;
 use console::argument::arguments;
@@ -47,6 +48,7 @@ use console::refusal::say_why;
 use console::room::MOST;
 use console::room::input_room;
 use console::room::words_room;
+use core::outcome::Numbers;
 use core::part::part;
 use libc::STDERR_FILENO;
 use libc::STDOUT_FILENO;
@@ -56,9 +58,10 @@ fn say_fault(f: Fault) {
     say_why(f);
 }
 
-fn say_too_short(words: usize, bytes: usize) {
-    say_number(b"refused 5 (", words);
-    say_number(b", ", bytes);
+fn say_too_short(n: Numbers) {
+    say_number(b"refused ", n.0);
+    say_number(b" (", n.1);
+    say_number(b", ", n.2);
     say(
         b"): the record has more than the 16384 words or the 65536 text bytes that there is room for\n",
     );
@@ -69,12 +72,13 @@ fn answer(section: &[u8], words: &mut [u32], texts: &mut [u8]) {
         say_too_long();
         return;
     }
-    match read(section, words, texts) {
+    let a = read(section, words, texts);
+    match a {
         // the texts are found in the section again, so their table is free
         ReadAnswer::Accepted(_n, _m) => show(section, words, texts),
         ReadAnswer::Refused(f) => say_fault(f),
         ReadAnswer::TooLong(_size) => say_too_long(),
-        ReadAnswer::TooShort(n, m) => say_too_short(n, m),
+        ReadAnswer::TooShort(_n, _m) => say_too_short(of_reading(a)),
     }
 }
 
@@ -100,20 +104,14 @@ fn run_program() {
 }
 
 fn say_usage(fd: i32) {
-    say_to(fd, b"usage: show_tracks < section\n");
     say_to(
         fd,
-        b"Reads a pai1 section of at most 65536 bytes from standard input, and prints it to standard\n",
+        b"usage: show_tracks < section\n\
+          Reads a pai1 section of at most 65536 bytes from standard input, and prints it to standard\n\
+          output: a line for each texture, content, info, track and extended datum. A section that\n\
+          is turned down is answered by 'refused N', its values, and what is wrong with it.\n\
+          example: show_tracks < crates/show_tracks/stdin\n",
     );
-    say_to(
-        fd,
-        b"output: a line for each texture, content, info, track and extended datum. A section that\n",
-    );
-    say_to(
-        fd,
-        b"is turned down is answered by 'refused N', its values, and what is wrong with it.\n",
-    );
-    say_to(fd, b"example: show_tracks < crates/show_tracks/stdin\n");
 }
 
 fn main() {

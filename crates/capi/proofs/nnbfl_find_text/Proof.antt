@@ -7,9 +7,11 @@ use Prim.Native.Nat.{ℕ}
 use mathlib.Core.Path.{ap, _∙_}
 use mathlib.Core.List.{List}
 use denote.Ref.{now}
+use native.Mathlib.Omega.{arith}
+use lib.ListN.{take}
 use lib.Seq.{sets}
-use Rattle.core.specs.Outcome.{Outcome}
-use Rattle.capi.specs.Flat.{flat}
+use Rattle.core.specs.Outcome.{Outcome, flat}
+use Rattle.core.proofs.Outcomes.{flat-first}
 
 find-text-requires : tie.Need-find-text-requires
 find-text-requires c κs = search needs
@@ -30,7 +32,7 @@ returns : tie.Need-returns
 returns c =
     let e = c .before .before .before .before .before .before .before .find-text .ensures in (
       ap (λ (z : Outcome × List ℕ). z .1) e,
-      c .before .before .put4 .ensures ∙ ap (sets (now (c .before .before .before .before .before .before .before .before .before .before .before .before .args .answer)) 0) (c .before .before .before .of-finding .ensures ∙ ap (λ (z : Outcome × List ℕ). flat 4 (z .0)) e),
+      c .before .before .put4 .ensures ∙ ap (sets (now (c .before .before .before .before .before .before .before .before .before .before .before .before .args .answer)) 0) (ap (take 4) (c .before .before .before .of-finding .ensures) ∙ flat-first 4 _ (omega arith) ∙ ap (λ (z : Outcome × List ℕ). flat 4 (z .0)) e),
     )
 
 pub nnbfl-find-text-spec : {M : Type 1} → statement M

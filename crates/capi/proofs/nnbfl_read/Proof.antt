@@ -7,10 +7,11 @@ use Prim.Native.Nat.{ℕ}
 use mathlib.Core.Path.{ap, _∙_}
 use mathlib.Core.List.{List}
 use denote.Ref.{now}
+use native.Mathlib.Omega.{arith}
+use lib.ListN.{take}
 use lib.Seq.{sets}
-use Rattle.core.specs.Outcome.{Outcome}
-use Rattle.capi.specs.Flat.{flat}
-use Rattle.capi.proofs.Flats.{three-of}
+use Rattle.core.specs.Outcome.{Outcome, flat}
+use Rattle.core.proofs.Outcomes.{flat-first}
 
 read-requires : tie.Need-read-requires
 read-requires c κs = search needs
@@ -35,7 +36,7 @@ returns c =
     let e = c .before .before .before .before .before .before .before .before .before .read .ensures in (
       ap (λ (z : Outcome × List ℕ × List ℕ). z .1) e,
       ap (λ (z : Outcome × List ℕ × List ℕ). z .2) e,
-      c .before .before .put3 .ensures ∙ ap (sets (now (c .before .before .before .before .before .before .before .before .before .before .before .before .before .before .before .before .args .answer)) 0) (three-of _ _ _ _ _ (c .before .before .before .of-reading .ensures) ∙ ap (λ (z : Outcome × List ℕ × List ℕ). flat 3 (z .0)) e),
+      c .before .before .put3 .ensures ∙ ap (sets (now (c .before .before .before .before .before .before .before .before .before .before .before .before .before .before .before .before .args .answer)) 0) (ap (take 3) (c .before .before .before .of-reading .ensures) ∙ flat-first 3 _ (omega arith) ∙ ap (λ (z : Outcome × List ℕ × List ℕ). flat 3 (z .0)) e),
     )
 
 pub nnbfl-read-spec : {M : Type 1} → statement M

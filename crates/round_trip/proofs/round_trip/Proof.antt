@@ -4,7 +4,7 @@ use borrow.Author.Needs.{needs}
 use Rattle.round_trip.proofs.round_trip.Statement.{statement}
 use Rattle.round_trip.proofs.round_trip.Tie as tie
 use mathlib.Core.Path.{ap, sym, _∙_}
-use Rattle.round_trip.proofs.Trips.{trip-long, trip-unread, trip-read, held}
+use Rattle.round_trip.proofs.Trips.{trip-long, trip-unread, trip-read, held, first-number}
 use Rattle.bflan.specs.Answer.{ofReading}
 use Rattle.bflan.specs.declared.read.ReadAnswer.{ReadAnswer}
 
@@ -38,8 +38,8 @@ part-write-again-end-2 c = held _ _ _ _ _ _ _ (ap (λ (z : ReadAnswer). (ofReadi
 write-again-requires : tie.Need-write-again-requires
 write-again-requires c κs = search needs
 
-number-of-reading-requires : tie.Need-number-of-reading-requires
-number-of-reading-requires c κs = search needs
+of-reading-requires : tie.Need-of-reading-requires
+of-reading-requires c κs = search needs
 
 same-length : tie.Need-same-length
 same-length c = search needs
@@ -60,7 +60,7 @@ same-length-5 : tie.Need-same-length-5
 same-length-5 c = search needs
 
 returns-3 : tie.Need-returns-3
-returns-3 c = trip-unread _ _ _ _ (c .before .before .before .before .before .before .before .before .before .if1 .left) _ _ _ _ (c .before .before .before .before .before .before .read .ensures) (c .before .match .keys2) (c .number-of-reading .ensures)
+returns-3 c = trip-unread _ _ _ _ (c .before .before .before .before .before .before .before .before .before .if1 .left) _ _ _ _ (c .before .before .before .before .before .before .read .ensures) (c .before .match .keys2) (first-number _ _ (c .of-reading .ensures))
 
 pub round-trip-spec : {M : Type 1} → statement M
 round-trip-spec =
@@ -76,7 +76,7 @@ round-trip-spec =
     part-write-again-start-2
     part-write-again-end-2
     write-again-requires
-    number-of-reading-requires
+    of-reading-requires
     same-length
     same-length-2
     same-length-3

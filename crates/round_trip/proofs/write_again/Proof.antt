@@ -6,7 +6,7 @@ use Rattle.round_trip.proofs.write_again.Tie as tie
 use mathlib.Core.Path.{ap, sym, _∙_}
 use Rattle.bflan.specs.Writing.{ofWriting}
 use Rattle.bflan.specs.declared.write.WriteAnswer.{WriteAnswer}
-use Rattle.round_trip.proofs.Trips.{wrote-section, wrote-none}
+use Rattle.round_trip.proofs.Trips.{wrote-section, wrote-none, first-number}
 
 write-requires : tie.Need-write-requires
 write-requires c κs = search needs
@@ -14,8 +14,8 @@ write-requires c κs = search needs
 enum-known-a : tie.Need-enum-known-a
 enum-known-a c = search needs
 
-number-of-writing-requires : tie.Need-number-of-writing-requires
-number-of-writing-requires c κs = search needs
+of-writing-requires : tie.Need-of-writing-requires
+of-writing-requires c κs = search needs
 
 same-length : tie.Need-same-length
 same-length c = search needs
@@ -27,7 +27,7 @@ same-length-2 : tie.Need-same-length-2
 same-length-2 c = search needs
 
 returns-2 : tie.Need-returns-2
-returns-2 c = wrote-none _ _ _ _ _ _ (c .before .before .before .before .write .ensures) (c .before .match .keys2) (c .number-of-writing .ensures)
+returns-2 c = wrote-none _ _ _ _ _ _ (c .before .before .before .before .write .ensures) (c .before .match .keys2) (first-number _ _ (c .of-writing .ensures))
 
 pub write-again-spec : {M : Type 1} → statement M
 write-again-spec =
@@ -35,7 +35,7 @@ write-again-spec =
     (tie.spec
     write-requires
     enum-known-a
-    number-of-writing-requires
+    of-writing-requires
     same-length
     returns
     same-length-2

@@ -3,9 +3,11 @@
 use borrow.Author.Needs.{needs}
 use Rattle.capi.proofs.change.change.Statement.{statement}
 use Rattle.capi.proofs.change.change.Tie as tie
-use mathlib.Core.Path.{sym}
+use mathlib.Core.Path.{ap, sym, _∙_}
+use native.Mathlib.Omega.{arith}
+use lib.ListN.{take}
+use Rattle.core.proofs.Outcomes.{flat-first}
 use Rattle.capi.specs.Changed.{changed}
-use Rattle.capi.proofs.Flats.{three-of}
 
 edit-requires : tie.Need-edit-requires
 edit-requires c κs = search needs
@@ -29,7 +31,7 @@ returns : tie.Need-returns
 unfolding changed
 returns c =
     let e = c .before .before .before .before .before .before .before .before .before .edit .ensures in
-    rw (sym e) (rw (c .before .before .put3 .ensures, sym (three-of _ _ _ _ _ (c .before .before .before .of-editing .ensures))))
+    rw (sym e) (rw (c .before .before .put3 .ensures, sym (ap (take 3) (c .before .before .before .of-editing .ensures) ∙ flat-first 3 _ (omega arith))))
 
 pub change-spec : {M : Type 1} → statement M
 change-spec =

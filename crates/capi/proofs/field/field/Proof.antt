@@ -6,10 +6,10 @@ use Rattle.capi.proofs.field.field.Tie as tie
 use mathlib.Core.Path.{ap, _∙_}
 use denote.Ref.{now}
 use lib.Seq.{sets}
+use Rattle.core.specs.Outcome.{flat, counted}
 use Rattle.edit.specs.FieldAt.{ofField}
 use Rattle.edit.specs.declared.field.FieldAnswer.{FieldAnswer}
 use Rattle.capi.specs.FieldNumbers.{fieldNumbers}
-use Rattle.capi.specs.Flat.{flat, counted}
 
 field-at-requires : tie.Need-field-at-requires
 field-at-requires c κs = search needs

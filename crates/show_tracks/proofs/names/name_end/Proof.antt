@@ -6,10 +6,10 @@ use Rattle.show_tracks.proofs.names.name_end.Statement.{statement}
 use Rattle.show_tracks.proofs.names.name_end.Tie as tie
 
 abbrev Inv-loop : tie.InvT-loop
-Inv-loop names from i₀ i = from ≤ i
+Inv-loop names from end i₀ i = from ≤ i
 
 abbrev μ-loop : tie.MeasureT-loop
-μ-loop names from i₀ i = length names - i
+μ-loop names from end i₀ i = length names - i
 
 loop-holds : tie.Need-loop-holds Inv-loop μ-loop
 loop-holds c = search needs

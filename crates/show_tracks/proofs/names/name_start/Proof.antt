@@ -5,10 +5,10 @@ use Rattle.show_tracks.proofs.names.name_start.Statement.{statement}
 use Rattle.show_tracks.proofs.names.name_start.Tie as tie
 
 abbrev Inv-loop : tie.InvT-loop
-Inv-loop names n at₀ left₀ at left = left ≤ n
+Inv-loop names n end at₀ left₀ at left = left ≤ n
 
 abbrev μ-loop : tie.MeasureT-loop
-μ-loop names n at₀ left₀ at left = left
+μ-loop names n end at₀ left₀ at left = left
 
 loop-holds : tie.Need-loop-holds Inv-loop μ-loop
 loop-holds c = search needs

@@ -1,12 +1,12 @@
--- `answer::of_writing` meets its contract.
+-- `write::of_writing` meets its contract.
 -- Assumes nothing.
 use borrow.Author.Needs.{needs}
-use Rattle.capi.proofs.answer.of_writing.Statement.{statement}
-use Rattle.capi.proofs.answer.of_writing.Tie as tie
+use Rattle.bflan.proofs.write.of_writing.Statement.{statement}
+use Rattle.bflan.proofs.write.of_writing.Tie as tie
 use mathlib.Core.Path.{ap, sym}
+use Rattle.core.specs.Outcome.{flat}
 use Rattle.bflan.specs.declared.write.WriteAnswer.{WriteAnswer}
 use Rattle.bflan.specs.Writing.{ofWriting}
-use Rattle.capi.specs.Flat.{flat}
 
 enum-known-a : tie.Need-enum-known-a
 enum-known-a c = search needs
@@ -25,23 +25,23 @@ enum-known-a-4 c = search needs
 
 returns : tie.Need-returns
 unfolding flat ofWriting
-returns c = ap (λ (z : WriteAnswer). flat 4 (ofWriting z)) (sym (c .before .a .given .1))
+returns c = ap (λ (z : WriteAnswer). flat 5 (ofWriting z)) (sym (c .before .a .given .1))
 
 returns-2 : tie.Need-returns-2
 unfolding flat ofWriting
-returns-2 c = ap (λ (z : WriteAnswer). flat 4 (ofWriting z)) (sym (c .before .a2 .given .1))
+returns-2 c = ap (λ (z : WriteAnswer). flat 5 (ofWriting z)) (sym (c .before .a2 .given .1))
 
 returns-3 : tie.Need-returns-3
 unfolding flat ofWriting
-returns-3 c = ap (λ (z : WriteAnswer). flat 4 (ofWriting z)) (sym (c .before .a3 .given .1))
+returns-3 c = ap (λ (z : WriteAnswer). flat 5 (ofWriting z)) (sym (c .before .a3 .given .1))
 
 returns-4 : tie.Need-returns-4
 unfolding flat ofWriting
-returns-4 c = ap (λ (z : WriteAnswer). flat 4 (ofWriting z)) (sym (c .enum-told .given .1))
+returns-4 c = ap (λ (z : WriteAnswer). flat 5 (ofWriting z)) (sym (c .enum-told .given .1))
 
 returns-5 : tie.Need-returns-5
 unfolding flat ofWriting
-returns-5 c = ap (λ (z : WriteAnswer). flat 4 (ofWriting z)) (sym (c .before .a4 .given .1))
+returns-5 c = ap (λ (z : WriteAnswer). flat 5 (ofWriting z)) (sym (c .before .a4 .given .1))
 
 pub of-writing-spec : {M : Type 1} → statement M
 of-writing-spec =

@@ -1,13 +1,15 @@
--- `answer::of_field` meets its contract.
+-- `field::of_field` meets its contract.
 -- Assumes nothing.
 use borrow.Author.Needs.{needs}
-use Rattle.capi.proofs.answer.of_field.Statement.{statement}
-use Rattle.capi.proofs.answer.of_field.Tie as tie
+use Rattle.edit.proofs.field.of_field.Statement.{statement}
+use Rattle.edit.proofs.field.of_field.Tie as tie
+use Prim.Native.Nat.{ℕ}
 use mathlib.Core.Path.{ap, sym, _∙_}
+use mathlib.Core.List.{List}
+use Rattle.core.specs.Outcome.{flat, accepted, counted}
 use Rattle.edit.specs.FieldAt.{ofField}
 use Rattle.edit.specs.declared.field.FieldAnswer.{FieldAnswer}
-use Rattle.capi.specs.Flat.{flat, counted}
-use Rattle.capi.proofs.Flats.{fault-of-five}
+use Rattle.edit.proofs.FieldAt.{counted-fault}
 
 enum-known-a : tie.Need-enum-known-a
 enum-known-a c = search needs
@@ -24,8 +26,11 @@ enum-told c = search needs
 enum-known-a-3 : tie.Need-enum-known-a-3
 enum-known-a-3 c = search needs
 
-of-value-requires : tie.Need-of-value-requires
-of-value-requires c κs = search needs
+field-values-requires : tie.Need-field-values-requires
+field-values-requires c κs = search needs
+
+of-values-requires : tie.Need-of-values-requires
+of-values-requires c κs = search needs
 
 returns : tie.Need-returns
 unfolding flat counted ofField
@@ -33,7 +38,7 @@ returns c = ap (λ (z : FieldAnswer). flat 5 (counted (ofField z))) (sym (c .bef
 
 returns-2 : tie.Need-returns-2
 unfolding ofField
-returns-2 c = fault-of-five _ _ _ _ _ (c .of-fault .ensures) ∙ ap (λ (z : FieldAnswer). flat 5 (counted (ofField z))) (sym (c .before .before .a2 .given .1))
+returns-2 c = c .of-fault .ensures ∙ ap (flat 5) (sym (counted-fault _)) ∙ ap (λ (z : FieldAnswer). flat 5 (counted (ofField z))) (sym (c .before .before .a2 .given .1))
 
 returns-3 : tie.Need-returns-3
 unfolding flat counted ofField
@@ -41,7 +46,7 @@ returns-3 c = ap (λ (z : FieldAnswer). flat 5 (counted (ofField z))) (sym (c .e
 
 returns-4 : tie.Need-returns-4
 unfolding ofField
-returns-4 c = c .of-value .ensures ∙ ap (λ (z : FieldAnswer). flat 5 (counted (ofField z))) (sym (c .before .before .a3 .given .1))
+returns-4 c = c .of-values .ensures ∙ ap (λ (vs : List ℕ). flat 5 (counted (accepted vs))) (c .before .field-values .ensures) ∙ ap (λ (z : FieldAnswer). flat 5 (counted (ofField z))) (sym (c .before .before .before .a3 .given .1))
 
 pub of-field-spec : {M : Type 1} → statement M
 of-field-spec =
@@ -52,7 +57,8 @@ of-field-spec =
     of-fault-requires
     enum-told
     enum-known-a-3
-    of-value-requires
+    field-values-requires
+    of-values-requires
     returns
     returns-2
     returns-3

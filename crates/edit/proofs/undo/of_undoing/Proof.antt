@@ -1,12 +1,12 @@
--- `answer::of_undoing` meets its contract.
+-- `undo::of_undoing` meets its contract.
 -- Assumes nothing.
 use borrow.Author.Needs.{needs}
-use Rattle.capi.proofs.answer.of_undoing.Statement.{statement}
-use Rattle.capi.proofs.answer.of_undoing.Tie as tie
+use Rattle.edit.proofs.undo.of_undoing.Statement.{statement}
+use Rattle.edit.proofs.undo.of_undoing.Tie as tie
 use mathlib.Core.Path.{ap, sym}
+use Rattle.core.specs.Outcome.{flat}
 use Rattle.edit.specs.declared.undo.UndoAnswer.{UndoAnswer}
 use Rattle.edit.specs.Editing.{ofUndoing}
-use Rattle.capi.specs.Flat.{flat}
 
 enum-known-a : tie.Need-enum-known-a
 enum-known-a c = search needs
@@ -22,19 +22,19 @@ enum-known-a-3 c = search needs
 
 returns : tie.Need-returns
 unfolding flat ofUndoing
-returns c = ap (λ (z : UndoAnswer). flat 4 (ofUndoing z)) (sym (c .before .a .given .1))
+returns c = ap (λ (z : UndoAnswer). flat 5 (ofUndoing z)) (sym (c .before .a .given .1))
 
 returns-2 : tie.Need-returns-2
 unfolding flat ofUndoing
-returns-2 c = ap (λ (z : UndoAnswer). flat 4 (ofUndoing z)) (sym (c .before .a2 .given .1))
+returns-2 c = ap (λ (z : UndoAnswer). flat 5 (ofUndoing z)) (sym (c .before .a2 .given .1))
 
 returns-3 : tie.Need-returns-3
 unfolding flat ofUndoing
-returns-3 c = ap (λ (z : UndoAnswer). flat 4 (ofUndoing z)) (sym (c .enum-told .given .1))
+returns-3 c = ap (λ (z : UndoAnswer). flat 5 (ofUndoing z)) (sym (c .enum-told .given .1))
 
 returns-4 : tie.Need-returns-4
 unfolding flat ofUndoing
-returns-4 c = ap (λ (z : UndoAnswer). flat 4 (ofUndoing z)) (sym (c .before .a3 .given .1))
+returns-4 c = ap (λ (z : UndoAnswer). flat 5 (ofUndoing z)) (sym (c .before .a3 .given .1))
 
 pub of-undoing-spec : {M : Type 1} → statement M
 of-undoing-spec =

@@ -1,12 +1,12 @@
--- `answer::of_fault` meets its contract.
+-- `fault::of_fault` meets its contract.
 -- Assumes nothing.
 use borrow.Author.Needs.{needs}
-use Rattle.capi.proofs.answer.of_fault.Statement.{statement}
-use Rattle.capi.proofs.answer.of_fault.Tie as tie
+use Rattle.bflan.proofs.fault.of_fault.Statement.{statement}
+use Rattle.bflan.proofs.fault.of_fault.Tie as tie
 use mathlib.Core.Path.{ap, sym}
+use Rattle.core.specs.Outcome.{flat}
 use Rattle.bflan.specs.declared.fault.Fault.{Fault}
 use Rattle.bflan.specs.Answer.{ofFault}
-use Rattle.capi.specs.Flat.{flat}
 
 enum-known-f : tie.Need-enum-known-f
 enum-known-f c = search needs
@@ -22,15 +22,15 @@ cast-t7 c = search needs
 
 returns : tie.Need-returns
 unfolding flat ofFault
-returns c = ap (λ (z : Fault). flat 4 (ofFault z)) (sym (c .before .f .given .1))
+returns c = ap (λ (z : Fault). flat 5 (ofFault z)) (sym (c .before .f .given .1))
 
 returns-2 : tie.Need-returns-2
 unfolding flat ofFault
-returns-2 c = ap (λ (z : Fault). flat 4 (ofFault z)) (sym (c .before .f2 .given .1))
+returns-2 c = ap (λ (z : Fault). flat 5 (ofFault z)) (sym (c .before .f2 .given .1))
 
 returns-3 : tie.Need-returns-3
 unfolding flat ofFault
-returns-3 c = ap (λ (z : Fault). flat 4 (ofFault z)) (sym (c .before .f3 .given .1))
+returns-3 c = ap (λ (z : Fault). flat 5 (ofFault z)) (sym (c .before .f3 .given .1))
 
 pub of-fault-spec : {M : Type 1} → statement M
 of-fault-spec =

@@ -1,12 +1,12 @@
--- `answer::of_editing` meets its contract.
+-- `edit::of_editing` meets its contract.
 -- Assumes nothing.
 use borrow.Author.Needs.{needs}
-use Rattle.capi.proofs.answer.of_editing.Statement.{statement}
-use Rattle.capi.proofs.answer.of_editing.Tie as tie
+use Rattle.edit.proofs.edit.of_editing.Statement.{statement}
+use Rattle.edit.proofs.edit.of_editing.Tie as tie
 use mathlib.Core.Path.{ap, sym, _∙_}
+use Rattle.core.specs.Outcome.{flat}
 use Rattle.edit.specs.declared.edit.EditAnswer.{EditAnswer}
 use Rattle.edit.specs.Editing.{ofEditing}
-use Rattle.capi.specs.Flat.{flat}
 
 enum-known-a : tie.Need-enum-known-a
 enum-known-a c = search needs
@@ -31,27 +31,27 @@ enum-known-a-4 c = search needs
 
 returns : tie.Need-returns
 unfolding flat ofEditing
-returns c = ap (λ (z : EditAnswer). flat 4 (ofEditing z)) (sym (c .before .a .given .1))
+returns c = ap (λ (z : EditAnswer). flat 5 (ofEditing z)) (sym (c .before .a .given .1))
 
 returns-2 : tie.Need-returns-2
 unfolding flat ofEditing
-returns-2 c = ap (λ (z : EditAnswer). flat 4 (ofEditing z)) (sym (c .before .a2 .given .1))
+returns-2 c = ap (λ (z : EditAnswer). flat 5 (ofEditing z)) (sym (c .before .a2 .given .1))
 
 returns-3 : tie.Need-returns-3
 unfolding ofEditing
-returns-3 c = c .of-fault .ensures ∙ ap (λ (z : EditAnswer). flat 4 (ofEditing z)) (sym (c .before .before .a3 .given .1))
+returns-3 c = c .of-fault .ensures ∙ ap (λ (z : EditAnswer). flat 5 (ofEditing z)) (sym (c .before .before .a3 .given .1))
 
 returns-4 : tie.Need-returns-4
 unfolding flat ofEditing
-returns-4 c = ap (λ (z : EditAnswer). flat 4 (ofEditing z)) (sym (c .enum-told .given .1))
+returns-4 c = ap (λ (z : EditAnswer). flat 5 (ofEditing z)) (sym (c .enum-told .given .1))
 
 returns-5 : tie.Need-returns-5
 unfolding flat ofEditing
-returns-5 c = ap (λ (z : EditAnswer). flat 4 (ofEditing z)) (sym (c .enum-told2 .given .1))
+returns-5 c = ap (λ (z : EditAnswer). flat 5 (ofEditing z)) (sym (c .enum-told2 .given .1))
 
 returns-6 : tie.Need-returns-6
 unfolding flat ofEditing
-returns-6 c = ap (λ (z : EditAnswer). flat 4 (ofEditing z)) (sym (c .before .a4 .given .1))
+returns-6 c = ap (λ (z : EditAnswer). flat 5 (ofEditing z)) (sym (c .before .a4 .given .1))
 
 pub of-editing-spec : {M : Type 1} → statement M
 of-editing-spec =
