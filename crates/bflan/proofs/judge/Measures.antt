@@ -1,4 +1,4 @@
--- What `measured` makes of parts one after another, and of loops over them.
+-- What `verdictOf` makes of parts one after another, and of loops over them.
 -- Assumes nothing.
 use Prim.Native.Nat.{ℕ, zero, suc, max, _+_, _-_, _*_, _<_, _≤_}
 use mathlib.Core.Path.{_≡_, refl, ap, sym, subst, _∙_}

@@ -1,4 +1,4 @@
--- Walks one after another: what `run` makes of readings that are joined.
+-- Walks one after another: what `walkOf` makes of readings that are joined, and of loops over them.
 -- Assumes nothing.
 use Prim.Native.Nat.{ℕ, zero, suc, _+_, _-_, _<_, _≤_}
 use mathlib.Core.Path.{_≡_, refl, ap, sym, _∙_}

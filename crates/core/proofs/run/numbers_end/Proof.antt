@@ -9,9 +9,6 @@ use Rattle.core.proofs.Runs.{numbers-whole, numbers-cut}
 use borrow.Author.Needs.{needs}
 use Rattle.core.proofs.run.numbers_end.Statement.{statement}
 use Rattle.core.proofs.run.numbers_end.Tie as tie
-use Rattle.core.proofs.run.numbers_end.Reads as reads
-use Rattle.core.proofs.run.numbers_end.Lts as lts
-use Rattle.core.proofs.run.whole_numbers.Reads as whole-numbers-reads
 
 returns : tie.Need-returns
 returns c = ap (λ (x : ℕ). Cut (c .before .before .before .args .at + 4 * x) 4) (c .before .whole-numbers .ensures) ∙ sym (numbers-cut (c .before .before .before .args .n) (now (c .before .before .before .args .s)) (c .before .before .before .args .at) (omega arith))

@@ -13,11 +13,6 @@ use Rattle.core.proofs.Runs.{length-numbers, numbers-at, numbers-whole,
 use borrow.Author.Needs.{needs}
 use Rattle.core.proofs.run.read_numbers.Statement.{statement}
 use Rattle.core.proofs.run.read_numbers.Tie as tie
-use Rattle.core.proofs.run.read_numbers.Reads as reads
-use Rattle.core.proofs.run.read_numbers.Lts as lts
-use Rattle.core.proofs.fill.room.Reads as room-reads
-use Rattle.core.proofs.number.four.Reads as four-reads
-use Rattle.core.proofs.run.whole_numbers.Reads as whole-numbers-reads
 
 abbrev Inv-loop : tie.InvT-loop
 Inv-loop s at n out₀ o whole m k₀ out k = (m ≤ n) × (length out ≡ length out₀) × (sets out (o + k) (drop k (numbersAt n s at)) ≡ sets out₀ o (numbersAt n s at))

@@ -3,12 +3,10 @@
 use borrow.Author.Needs.{needs}
 use Rattle.bflan.proofs.judge.run.pairs.Statement.{statement}
 use Rattle.bflan.proofs.judge.run.pairs.Tie as tie
-use Prim.Native.Nat.{ℕ, _+_, _*_}
+use Prim.Native.Nat.{ℕ, _*_}
 use mathlib.Core.Path.{_≡_, refl, sym, _∙_}
 use mathlib.Core.List.{List}
 use native.Mathlib.Omega.{arith}
-use denote.Ref.{now}
-use lib.Dec.{ltb}
 use Rattle.bflan.specs.Judge.{times, row}
 use Rattle.bflan.specs.inner.Measure.{verdictOf}
 use Rattle.bflan.specs.pai1.Record.{keyWidths}
@@ -20,15 +18,6 @@ Inv-loop words i j n left₀ at₀ left at = (x : List ℕ) → verdictOf (λ ks
 
 abbrev μ-loop : tie.MeasureT-loop
 μ-loop words i j n left₀ at₀ left at = left
-
-loop-holds : tie.Need-loop-holds Inv-loop μ-loop
-loop-holds c = λ x. refl
-
-add-value : tie.Need-add-value Inv-loop μ-loop
-add-value c = let h = fits-there (λ v. ltb v 4294967296) (now (c .before .before .before .before .before .args .words)) (c .before .before .before .loop .at) (sym (c .before .below .ensures) ∙ c .if1 .taken) in omega (arith, h, c .before .before .before .before .before .good)
-
-add-at : tie.Need-add-at Inv-loop μ-loop
-add-at c = let h = fits-there (λ v. ltb v 65536) (now (c .before .before .before .before .before .before .before .args .words)) (c .before .before .before .before .before .loop .at + 1) (sym (c .before .below2 .ensures) ∙ c .if2 .taken) in omega (arith, h, c .before .before .before .before .before .before .before .good)
 
 returns : tie.Need-returns Inv-loop μ-loop
 returns c = λ x. pair-second _ _ _ _ _ _ _ (c .before .before .before .before .before .loop .inv x) (c .before .before .before .before .loop-test .taken) (sym (c .before .before .before .below .ensures) ∙ c .before .before .if1 .taken) (sym (c .before .below2 .ensures) ∙ c .if2 .left) ∙ pairs-size _ _ _ _ _
@@ -45,5 +34,8 @@ returns-3 c = λ x. pair-end _ _ _ _ _ _ _ (c .before .loop .inv x) (c .loop-tes
 pub pairs-spec : {M : Type 1} → statement M
 pairs-spec =
     tie.close
-    (tie.spec Inv-loop μ-loop loop-holds (search needs) add-value (search needs) add-at returns returns-2 (search needs)
-    (λ c. omega arith) loop-again (search needs) returns-3)
+    (tie.spec Inv-loop μ-loop (λ c x. refl) (search needs)
+    (λ c. omega (arith, fits-there _ _ _ (sym (c .before .below .ensures) ∙ c .if1 .taken), c .before .before .before .before .before .good))
+    (search needs)
+    (λ c. omega (arith, fits-there _ _ _ (sym (c .before .below2 .ensures) ∙ c .if2 .taken), c .before .before .before .before .before .before .before .good))
+    returns returns-2 (search needs) (λ c. omega arith) loop-again (search needs) returns-3)

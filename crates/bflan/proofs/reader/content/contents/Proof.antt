@@ -13,8 +13,7 @@ use Rattle.bflan.proofs.reader.content.contents.Tie as tie
 
 abbrev Inv-loop : tie.InvT-loop
 Inv-loop s table n pos words₀ texts₀ left₀ at₀ p₀ u₀ words texts left at p u =
-    (at + 4 * left ≤ length s)
-    × Walking s (visit 0 content (numbersAt n s table) s pos) u₀ words₀ texts₀ (visit 0 content (numbersAt left s at) s p) u words texts
+    (at + 4 * left ≤ length s) × Walking s (visit 0 content (numbersAt n s table) s pos) u₀ words₀ texts₀ (visit 0 content (numbersAt left s at) s p) u words texts
 
 abbrev μ-loop : tie.MeasureT-loop
 μ-loop s table n pos words₀ texts₀ left₀ at₀ p₀ u₀ words texts left at p u = left

@@ -8,10 +8,6 @@ use Rattle.bflan.proofs.reader.Emits.{two-stores}
 use borrow.Author.Needs.{needs}
 use Rattle.bflan.proofs.reader.emit.put2.Statement.{statement}
 use Rattle.bflan.proofs.reader.emit.put2.Tie as tie
-use Rattle.bflan.proofs.reader.emit.put2.Reads as reads
-use Rattle.bflan.proofs.reader.emit.put2.Lts as lts
-use Rattle.bflan.proofs.reader.tally.more_words.Reads as more-words-reads
-use Rattle.core.proofs.run.put_word.Reads as put-word-reads
 
 returns : tie.Need-returns
 returns c = (c .more-words .ensures, sym (sets-out _ _ (c .before .before .before .args .a ∷ c .before .before .before .args .b ∷ []) (c .before .if1 .taken)))

@@ -12,11 +12,6 @@ use Rattle.bflan.proofs.reader.Emits.{shown-part, known-size, known-byt
 use borrow.Author.Needs.{needs}
 use Rattle.bflan.proofs.reader.emit.put_text.Statement.{statement}
 use Rattle.bflan.proofs.reader.emit.put_text.Tie as tie
-use Rattle.bflan.proofs.reader.emit.put_text.Reads as reads
-use Rattle.bflan.proofs.reader.emit.put_text.Lts as lts
-use Rattle.bflan.proofs.reader.tally.more_text.Reads as more-text-reads
-use Rattle.core.proofs.run.put_word.Reads as put-word-reads
-use Rattle.core.proofs.utf8.decode_known.Reads as decode-known-reads
 
 sized : (c : tie.After-decode-known) → (c .decode-known .result ≡ length (shownAt (now (c .before .before .before .before .before .before .args .s)) (c .before .before .before .before .before .before .args .start) (c .before .before .before .before .before .before .args .len))) × (c .decode-known .result ≤ 50331648)
 sized c = known-size (now (c .before .before .before .before .before .before .args .s)) (c .before .before .before .before .before .before .args .start) (c .before .before .before .before .before .before .args .len) (c .before .before .before .before .before .before .args .plain) _ (shown-part (now (c .before .before .before .before .before .before .args .s)) (c .before .before .before .before .before .before .args .start) (c .before .before .before .before .before .before .args .len)) (c .before .before .before .before .before .before .pre .2) _ (c .before .before .before .before .before .before .pre .0) (c .before .before .before .before .before .before .pre .1) (c .decode-known .ensures .0)

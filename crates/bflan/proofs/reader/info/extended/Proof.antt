@@ -15,10 +15,6 @@ use Rattle.bflan.proofs.reader.InfoParts.{info-extended}
 use borrow.Author.Needs.{needs}
 use Rattle.bflan.proofs.reader.info.extended.Statement.{statement}
 use Rattle.bflan.proofs.reader.info.extended.Tie as tie
-use Rattle.bflan.proofs.reader.info.extended.Reads as reads
-use Rattle.bflan.proofs.reader.info.extended.Lts as lts
-use Rattle.bflan.proofs.reader.datum.data.Reads as data-reads
-use Rattle.bflan.proofs.reader.emit.put2.Reads as put2-reads
 
 returns : tie.Need-returns
 unfolding fleu val

@@ -13,8 +13,7 @@ use Rattle.bflan.proofs.reader.info.infos.Tie as tie
 
 abbrev Inv-loop : tie.InvT-loop
 Inv-loop s base table n pos words₀ texts₀ left₀ at₀ p₀ u₀ words texts left at p u =
-    (at + 4 * left ≤ length s)
-    × Walking s (visit base info (numbersAt n s table) s pos) u₀ words₀ texts₀ (visit base info (numbersAt left s at) s p) u words texts
+    (at + 4 * left ≤ length s) × Walking s (visit base info (numbersAt n s table) s pos) u₀ words₀ texts₀ (visit base info (numbersAt left s at) s p) u words texts
 
 abbrev μ-loop : tie.MeasureT-loop
 μ-loop s base table n pos words₀ texts₀ left₀ at₀ p₀ u₀ words texts left at p u = left

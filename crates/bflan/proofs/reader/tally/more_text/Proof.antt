@@ -5,9 +5,6 @@ use Rattle.bflan.specs.inner.Walk.{withText}
 use borrow.Author.Needs.{needs}
 use Rattle.bflan.proofs.reader.tally.more_text.Statement.{statement}
 use Rattle.bflan.proofs.reader.tally.more_text.Tie as tie
-use Rattle.bflan.proofs.reader.tally.more_text.Reads as reads
-use Rattle.bflan.proofs.reader.tally.more_text.Lts as lts
-use Rattle.bflan.proofs.reader.tally.add.Reads as add-reads
 
 returns : tie.Need-returns
 unfolding withText

@@ -4,9 +4,6 @@ use Rattle.bflan.specs.inner.Walk.{withWords}
 use borrow.Author.Needs.{needs}
 use Rattle.bflan.proofs.reader.tally.more_words.Statement.{statement}
 use Rattle.bflan.proofs.reader.tally.more_words.Tie as tie
-use Rattle.bflan.proofs.reader.tally.more_words.Reads as reads
-use Rattle.bflan.proofs.reader.tally.more_words.Lts as lts
-use Rattle.bflan.proofs.reader.tally.add.Reads as add-reads
 
 returns : tie.Need-returns
 unfolding withWords

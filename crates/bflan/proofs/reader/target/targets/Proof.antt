@@ -17,8 +17,7 @@ use Rattle.bflan.proofs.reader.target.targets.Tie as tie
 
 abbrev Inv-loop : tie.InvT-loop
 Inv-loop s letters base table n pos words₀ left₀ at₀ p₀ u₀ words left at p u =
-    (at + 4 * left ≤ length s)
-    × Walking s (visit base (target letters) (numbersAt n s table) s pos) u₀ words₀ [] (visit base (target letters) (numbersAt left s at) s p) u words []
+    (at + 4 * left ≤ length s) × Walking s (visit base (target letters) (numbersAt n s table) s pos) u₀ words₀ [] (visit base (target letters) (numbersAt left s at) s p) u words []
 
 abbrev μ-loop : tie.MeasureT-loop
 μ-loop s letters base table n pos words₀ left₀ at₀ p₀ u₀ words left at p u = left

@@ -1,7 +1,7 @@
-use denote.Ref.{now}
 -- `utf8::scan::walk` meets its contract. The loop's invariant: the automaton is inside the character that starts at `i`, or there is none yet.
 -- Assumes nothing.
 use mathlib.Core.Path.{_≡_, refl, _∙_}
+use denote.Ref.{now}
 use Prim.Native.Nat.{_+_, _-_, _≤_}
 use native.Mathlib.Omega.{arith}
 use lib.ListN.{drop}
