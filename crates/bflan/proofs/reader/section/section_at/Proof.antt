@@ -4,6 +4,8 @@ use mathlib.Core.Path.{sym, ap, _∙_}
 use denote.Ref.{now}
 use Rattle.bflan.specs.inner.SectionParts.{asHeader}
 use Rattle.bflan.specs.inner.Walk.{walkOf}
+use Rattle.core.specs.Number.{val}
+use Rattle.bflan.specs.pai1.Reading.{ownLetters}
 use Rattle.bflan.proofs.reader.SectionParts.{section-short, section-other, section-pai1}
 use Rattle.bflan.proofs.reader.Walks.{told-stop}
 use borrow.Author.Needs.{needs}
@@ -20,6 +22,7 @@ enum-known-h : tie.Need-enum-known-h
 enum-known-h c = search needs
 
 returns : tie.Need-returns
+unfolding ownLetters val
 returns c =
     let d = section-other (now (c .before .before .before .before .before .before .before .before .args .s)) (c .before .before .h .given .0 .0) (sym (ap asHeader (c .before .before .h .given .1)) ∙ c .before .before .before .before .header-at .ensures) (c .if1 .taken) in
     told-stop _ _ _ _ _ _ _ ∙ ap (walkOf (now (c .before .before .before .before .before .before .before .before .args .s)) (c .before .before .before .before .before .before .before .before .args .t) (now (c .before .before .before .before .before .before .before .before .args .words)) (now (c .before .before .before .before .before .before .before .before .args .texts))) (sym d)
@@ -42,6 +45,7 @@ same-length-2 : tie.Need-same-length-2
 same-length-2 c = search needs
 
 returns-3 : tie.Need-returns-3
+unfolding ownLetters val
 returns-3 c =
     let d = section-pai1 (now (c .before .before .before .before .before .before .before .before .before .before .before .before .before .before .before .before .args .s)) (c .before .before .before .before .before .before .before .before .before .before .h .given .0 .0) (sym (ap asHeader (c .before .before .before .before .before .before .before .before .before .before .h .given .1)) ∙ c .before .before .before .before .before .before .before .before .before .before .before .before .header-at .ensures) (c .before .before .before .before .before .before .before .before .if1 .left) in
     c .before .before .before .before .body-at .ensures ∙ ap (walkOf (now (c .before .before .before .before .before .before .before .before .before .before .before .before .before .before .before .before .args .s)) (c .before .before .before .before .before .before .before .before .before .before .before .before .before .before .before .before .args .t) (now (c .before .before .before .before .before .before .before .before .before .before .before .before .before .before .before .before .args .words)) (now (c .before .before .before .before .before .before .before .before .before .before .before .before .before .before .before .before .args .texts))) (sym d)
