@@ -11,7 +11,7 @@ use lib.ListN.{length, take, drop, length-append, length-replicate}
 use lib.Seq.{take-take, take-append-seam, drop-drop, take-add, take-length, drop-at}
 use Rattle.core.specs.Choice.{pick}
 use Rattle.core.specs.Fill.{paddingOf}
-use Rattle.core.specs.Number.{get}
+use Rattle.core.specs.Number.{get, le}
 use Rattle.core.proofs.Numbers.{length-le, val-le}
 use Rattle.bflan.specs.Layout.{Layout, nothing, number, bytes, _⨾_, size, written, zeros, row, parts, table, ended}
 use Rattle.bflan.specs.pai1.Layout.{tableFrom, userLay, contentLay, namesEnd, contentTable, sectionSize, sectionLay}
@@ -78,6 +78,11 @@ module _ {s : List ℕ} {i k n : ℕ} (h : Stands s i (number k n)) (l : n < 256
   pub stands-num : num k s i ≡ ok n (i + k)
   unfolding size
   stands-num = num-there k s i (h .fits) ∙ ap (λ (v : ℕ). ok v (i + k)) stands-get
+
+-- letters are bytes, and read as the number that they are
+pub stands-code : {s : List ℕ} {i k n : ℕ} → Stands s i (bytes (le k n)) → Stands s i (number k n)
+unfolding size written
+stands-code {k = k} {n = n} h = record { fits = rw (length-le k n) at (h .fits); same = rw (length-le k n) at (h .same) }
 
 -- ---- parts and their table
 

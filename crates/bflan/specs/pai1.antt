@@ -8,4 +8,5 @@ pub mod Locating
 pub mod Places
 pub mod Reading
 pub mod Record
+pub mod RecordAt
 pub mod Rewriting

@@ -24,7 +24,7 @@ use Rattle.bflan.specs.pai1.Layout.{keySkip, keyLay, targetLay, datumLay, infoH
 use Rattle.bflan.specs.pai1.Letters.{listings, fleu, kindOf, lettersOf, targetOf, lettersFit, targetFits}
 use Rattle.bflan.specs.pai1.Places.{widths, total, fitWidths, allowed, fit, stride, keyIn, targetIn, infoTableIn, infoIn, contentIn, locate}
 use Rattle.bflan.specs.Reader.{num, seekTo, skip, fixedText, endedText, oneEnded, numbers, many, visit}
-use Rattle.bflan.specs.pai1.Reading.{curveOf, countOf, keys, target as readTarget, datum as readDatum, info as readInfo, typeOf, infoTable, content as readContent, texture, contents, flagOf, body, section as readSection}
+use Rattle.bflan.specs.pai1.Reading.{curveOf, countOf, keys, target as readTarget, datum as readDatum, info as readInfo, typeOf, infoTable, content as readContent, texture, contents, flagOf, body, section as readSection, ownLetters}
 use Rattle.bflan.specs.pai1.Record.{keyWidths}
 use Rattle.bflan.specs.Items.{wordsOf, textsOf}
 use Rattle.bflan.specs.Writing.{intoOutput, judged, writingBy}
@@ -83,5 +83,5 @@ AllSolved [] = Unit {0}
 AllSolved (e ∷ es) = Solved e × AllSolved es
 
 pub all-solved : AllSolved exercises
-unfolding le val get readOf seekOf beforeZero firstFault fixedOf endedOf paddingOf utf8Rows within classOf laterOf matched more good pieceOf piecesAfter pieces shown decoded decode leading soundOf nextWord nextChars nextText times row target datum info content pane ends whole judgeSection ofFault filled readingBy wordsOf textsOf size written parts table keySkip keyLay targetLay ended datumLay infoHead infoLay dataOut infosOut tableFrom infosFrom userLay contentBody contentLay namesEnd contentTable sectionSize sectionLay rowLay listings fleu kindOf lettersOf targetOf lettersFit targetFits widths total fitWidths allowed fit stride keyIn targetIn infoTableIn infoIn contentIn locate num seekTo skip fixedText endedText oneEnded numbers many visit curveOf countOf keys readTarget readDatum readInfo typeOf infoTable readContent texture contents flagOf body readSection keyWidths intoOutput judged writingBy placeOf atSpot onReading editing capacity padded entryOf
+unfolding le val get readOf seekOf beforeZero firstFault fixedOf endedOf paddingOf utf8Rows within classOf laterOf matched more good pieceOf piecesAfter pieces shown decoded decode leading soundOf nextWord nextChars nextText times row target datum info content pane ends whole judgeSection ofFault filled readingBy wordsOf textsOf size written parts table keySkip keyLay targetLay ended datumLay infoHead infoLay dataOut infosOut tableFrom infosFrom userLay contentBody contentLay namesEnd contentTable sectionSize sectionLay rowLay listings fleu kindOf lettersOf targetOf lettersFit targetFits widths total fitWidths allowed fit stride keyIn targetIn infoTableIn infoIn contentIn locate num seekTo skip fixedText endedText oneEnded numbers many visit curveOf countOf keys readTarget readDatum readInfo typeOf infoTable readContent texture contents flagOf ownLetters body readSection keyWidths intoOutput judged writingBy placeOf atSpot onReading editing capacity padded entryOf
 all-solved = (refl, (refl, (refl, ((refl, refl), ((refl, refl), ((refl, refl), ((refl, refl), (refl, (refl, (refl, (refl, (refl, (ap (λ (vs : List ℕ). editing pai1 stepped (0 ∷ 0 ∷ 0 ∷ 0 ∷ 0 ∷ []) 0 (Key 0 0 0 0) vs) value-zero, tt)))))))))))))

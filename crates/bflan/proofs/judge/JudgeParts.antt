@@ -11,6 +11,7 @@ use lib.ListN.{length, getD, take, drop, replicate, length-take, length-drop, le
 use Rattle.core.specs.Choice.{pick}
 use Rattle.core.specs.Fill.{paddingOf}
 use Rattle.core.specs.Text.{firstFault}
+use Rattle.core.specs.Number.{le}
 use Rattle.bflan.specs.declared.judge.Mark.{Mark}
 use Rattle.bflan.specs.declared.judge.Verdict.{Verdict}
 use Rattle.bflan.specs.declared.judge.Verdict.the-variants.{Fine, BadWord, BadText}
@@ -257,7 +258,7 @@ module _ (w x : List ℕ) (i j : ℕ) where
 -- ---- an info: its two words, and then data or targets
 
 targets-size : (letters n : ℕ) (ts : List AnimTarget) → length ts ≡ n → 8 + 4 * n + size (parts targetLay ts) ≡ size (infoLay (Standard letters ts))
-unfolding infoLay infoHead size
+unfolding infoLay infoHead size le
 targets-size letters n ts l = let t = size-table targetLay (8 + 4 * length ts) ts in omega (arith, l, t)
 
 module _ (w x : List ℕ) (i j : ℕ) where
@@ -274,7 +275,7 @@ module _ (w x : List ℕ) (i j : ℕ) where
     unfolding info
     info-data e ev =
         rw (word-fine lettersFit w x i j e1, word-fine (wide 1) w x (i + 1) j e2, ← el, ← en, eq-eqb letters fleu e)
-        (then-grown (λ a. size (infoLay a)) (λ ds. size (parts datumLay ds)) (times n datum w x (i + 1 + 1) j) w x 8 v _ ev (λ ds u u′ d. unfold infoLay infoHead size in omega arith))
+        (then-grown (λ a. size (infoLay a)) (λ ds. size (parts datumLay ds)) (times n datum w x (i + 1 + 1) j) w x 8 v _ ev (λ ds u u′ d. unfold infoLay infoHead size le in omega arith))
 
     pub info-targets : (letters ≡ fleu → ⊥) → v ≡ verdictOf (λ ts. size (parts targetLay ts)) (times n (target letters) w x (i + 1 + 1) j)
         → grown (8 + 4 * n) v ≡ verdictOf (λ a. size (infoLay a)) (info w x i j)

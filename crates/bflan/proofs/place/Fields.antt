@@ -11,7 +11,7 @@ use lib.Dec.{eqb, ltb}
 use lib.ListN.{length, take, replicate, length-replicate}
 use lib.Seq.{sets}
 use Rattle.core.specs.Choice.{pick}
-use Rattle.core.specs.Number.{get}
+use Rattle.core.specs.Number.{get, le}
 use Rattle.bflan.specs.declared.place.Place.{Place}
 use Rattle.bflan.specs.declared.place.Place.the-variants.{FrameCount, Looping, Layer, Target, Key, Value}
 use Rattle.bflan.specs.declared.place.Field.{Field}
@@ -27,7 +27,7 @@ use Rattle.bflan.specs.pai1.Reading.{datum}
 use Rattle.bflan.specs.pai1.Record.{AnimTarget, ExtendedUserDataAnim, AnimInfo, Standard, ExtendedUserData, AnimContent, PaneAnimInfo, keyWidths, datumCells}
 use Rattle.bflan.specs.Cells.{Cell, each}
 use Rattle.bflan.proofs.letters.Codes.{fleu-lt, fit-lt, letters-own}
-use Rattle.bflan.proofs.Layouts.{size-written, size-row, Stands, stands-left, stands-right, stands-to, stands-all, stands-get, size-table, user-size, section-sizes}
+use Rattle.bflan.proofs.Layouts.{size-written, size-row, Stands, stands-left, stands-right, stands-to, stands-all, stands-get, size-table, user-size, section-sizes, stands-code}
 use Rattle.bflan.proofs.round_trip.ReadBack.{Reads, reads-as, reads-none, reads-joined, ReadsPart}
 use Rattle.bflan.proofs.place.Replacing.{Replaces, replaces-to, replaces-left, replaces-right, replaces-whole, replaces-number, length-row, length-changed, no-element, ahead, ahead-even, table-entry, Element, element}
 use Rattle.bflan.proofs.round_trip.RoundTrip.{datum-reads, content-stands, section-stands}
@@ -227,14 +227,14 @@ module _ (s : List ℕ) (short : length s ≤ 16777216) where
     target-inside : (b : ℕ) (x : AnimInfo) → FineInfo x → Stands s b (infoLay x)
         → ((letters a : ℕ) (y : AnimTarget) → lettersOf (get 4 s b) ≡ letters → FineTarget letters y → Stands s a (targetLay y) → Inside targetLay (FineTarget letters) a y up (look a) (say letters y))
         → Inside infoLay FineInfo b x (λ vs. onTarget t (up vs)) (targetIn s b t look) (atTarget x t say)
-    unfolding infoLay infoHead size targetIn atTarget onTarget
+    unfolding infoLay infoHead size le targetIn atTarget onTarget
     target-inside b (ExtendedUserData ds) f h law =
-        let e : get 4 s b ≡ fleu = stands-get (stands-left (stands-left h)) fleu-lt in
+        let e : get 4 s b ≡ fleu = stands-get (stands-code {k = 4} {n = fleu} (stands-left (stands-left h))) fleu-lt in
         gone refl (rw (e, eq-eqb fleu fleu refl))
     target-inside b (Standard letters ts) f h law = rw (e, ne-eqb letters fleu (f .standard), en) (go (ltb t n) refl)
       where
         e : get 4 s b ≡ letters
-        e = stands-get (stands-left (stands-left h)) (fit-lt letters (f .letters))
+        e = stands-get (stands-code {k = 4} {n = letters} (stands-left (stands-left h))) (fit-lt letters (f .letters))
 
         n : ℕ
         n = length ts
@@ -263,14 +263,14 @@ module _ (s : List ℕ) (short : length s ≤ 16777216) where
   module _ (d : ℕ) (look : ℕ → Spot) (say : ExtendedUserDataAnim → Found) (up : List ℕ → ExtendedUserDataAnim → ExtendedUserDataAnim)
       (law : (a : ℕ) (y : ExtendedUserDataAnim) → FineDatum y → Stands s a (datumLay y) → Inside datumLay FineDatum a y up (look a) (say y)) where
     datum-inside : (b : ℕ) (x : AnimInfo) → FineInfo x → Stands s b (infoLay x) → Inside infoLay FineInfo b x (λ vs. onDatum d (up vs)) (datumIn s b d look) (atDatum x d say)
-    unfolding infoLay infoHead size datumIn atDatum onDatum
+    unfolding infoLay infoHead size le datumIn atDatum onDatum
     datum-inside b (Standard letters ts) f h =
-        let e : get 4 s b ≡ letters = stands-get (stands-left (stands-left h)) (fit-lt letters (f .letters)) in
+        let e : get 4 s b ≡ letters = stands-get (stands-code {k = 4} {n = letters} (stands-left (stands-left h))) (fit-lt letters (f .letters)) in
         gone refl (rw (e, ne-eqb letters fleu (f .standard)))
     datum-inside b (ExtendedUserData ds) f h = rw (e, eq-eqb fleu fleu refl, en) (go (ltb d n) refl)
       where
         e : get 4 s b ≡ fleu
-        e = stands-get (stands-left (stands-left h)) fleu-lt
+        e = stands-get (stands-code {k = 4} {n = fleu} (stands-left (stands-left h))) fleu-lt
 
         n : ℕ
         n = length ds

@@ -27,7 +27,7 @@ use Rattle.bflan.specs.Limits.{All}
 use Rattle.bflan.specs.pai1.Limits.{Readable}
 use Rattle.bflan.specs.pai1.Places.{Spot, nowhere, spot, widths, total, stride, after, keyIn, valueIn, targetIn, datumIn, infoTableIn, infoIn, contentIn, locate, ofElement, Found, missing, found, atTarget, atDatum, atInfo, fieldOf}
 use Rattle.bflan.specs.Reader.{Res, ok, stop, andThen, ret, Item, word, text, num, seekTo, fixedText, numbers, many, visit}
-use Rattle.bflan.specs.pai1.Reading.{curveOf, countOf, keys, target, datum, info, typeOf, infoTable, content, flagOf, contents, body, section}
+use Rattle.bflan.specs.pai1.Reading.{curveOf, countOf, keys, target, datum, info, typeOf, infoTable, content, flagOf, contents, body, section, ownLetters}
 use Rattle.bflan.specs.pai1.Record.{AnimTarget, ExtendedUserDataAnim, AnimInfo, Standard, ExtendedUserData, AnimContent, PaneAnimInfo, keyWidths, words, texts}
 use Rattle.bflan.specs.Cells.{wordsIn, bytesIn}
 use Rattle.bflan.specs.Items.{wordsOf, textsOf}
@@ -37,7 +37,8 @@ use Rattle.bflan.proofs.place.Fields.{and-left, and-right}
 use Rattle.bflan.proofs.round_trip.FlatOnce.{KeyShape, TargetShape, DatumShape, InfoShape, ContentShape, Shape, shape-once, fine-shape}
 use Rattle.bflan.proofs.reader.KeyRuns.{many-stop}
 use Rattle.bflan.proofs.round_trip.ReadBack.{words-shown, texts-shown}
-use Rattle.bflan.proofs.round_trip.ReadParts.{reached, partsAt, keysAt, targetAt, datumAt, dataAt, infoAt, contentAt, recordAt, length-keys, section-shown}
+use Rattle.bflan.specs.pai1.RecordAt.{reached, partsAt, keysAt, targetAt, datumAt, dataAt, infoAt, contentAt, recordAt}
+use Rattle.bflan.proofs.round_trip.ReadParts.{length-keys, section-shown}
 use Rattle.bflan.proofs.round_trip.ReadTree.{standard-kept}
 
 -- ---- tests by their next number
@@ -352,5 +353,5 @@ pub curve-three :
     × (locate curveThree (Key 0 0 0 0) ≡ nowhere)
     × (locate stepped (Key 0 0 0 0) ≡ spot 84 (keyField 1))
     × (numbersIn (widths (keyField 1)) stepped 84 ≡ 0 ∷ 1 ∷ [])
-unfolding val get readOf seekOf beforeZero fixedOf num seekTo fixedText numbers visit section body contents content typeOf infoTable info target curveOf countOf keys many flagOf kindOf listings fleu lettersOf numberOf locate contentIn infoIn infoTableIn targetIn keyIn stride total keyWidths keySkip numbersIn widths
+unfolding val get readOf seekOf beforeZero fixedOf num seekTo fixedText numbers visit section body contents content typeOf infoTable info target curveOf countOf keys many flagOf ownLetters kindOf listings fleu lettersOf numberOf locate contentIn infoIn infoTableIn targetIn keyIn stride total keyWidths keySkip numbersIn widths
 curve-three = (refl, refl, refl, refl, refl, refl)

@@ -31,14 +31,15 @@ use Rattle.bflan.specs.pai1.Locating.{ofSpot, locatingIn, locating}
 use Rattle.bflan.specs.inner.Path.{layerUnder, numberUnder, keyUnder, valueUnder, contentBase, infoBase, infoUnder, targetBase, afterBase, datumBase, TargetAt, DatumAt, InfoAt, ContentAt, SectionAt}
 use Rattle.bflan.specs.pai1.Places.{Spot, nowhere, spot, after as behind, widths, total, stride, keyIn, valueIn, targetIn, datumIn, infoTableIn, infoIn, contentIn, locate}
 use Rattle.bflan.specs.Reader.{Res, ok, stop, P, andThen, _>>=_, ret, given, fail, here, Item, word, text, num, seekTo, skip, fixedText, numbers, many, visit}
-use Rattle.bflan.specs.pai1.Reading.{keyOf, curveOf, countOf, keys, target, datum, info, typeOf, infoTable, content, texture, pai1, contents, body, section}
+use Rattle.bflan.specs.pai1.Reading.{keyOf, curveOf, countOf, keys, target, datum, info, typeOf, infoTable, content, texture, ownLetters, contents, body, section}
 use Rattle.bflan.specs.pai1.Record.{keyWidths}
 use Rattle.bflan.specs.inner.Walk.{emptyTally, walkOf, walked}
 use Rattle.bflan.specs.declared.reader.tally.Tally.{Tally}
 use Rattle.bflan.specs.declared.reader.tally.Walk.{Walk}
 use Rattle.bflan.specs.declared.reader.tally.Walk.the-variants.{Went, Stopped}
 use Rattle.bflan.proofs.read.Answers.{told-answer, stopped, whole}
-use Rattle.bflan.proofs.reader.ContentParts.{nameSize, name-there, name-none}
+use Rattle.bflan.specs.pai1.RecordAt.{nameSize}
+use Rattle.bflan.proofs.reader.ContentParts.{name-there, name-none}
 use Rattle.bflan.proofs.reader.Emits.{sought-there, sought-over}
 use Rattle.bflan.proofs.place.Fields.{and-left, and-right}
 use Rattle.bflan.proofs.reader.KeyRuns.{asNumbers, num-there, num-short, numbers-run, many-on}
@@ -286,7 +287,7 @@ module _ (s : List ℕ) where
 
   section-if : If (λ is j. SectionAt s) (section s 0)
   unfolding section
-  section-if = number s 4 0 4 _ refl (λ l4. number s 4 4 8 _ refl (λ l8. kind (eqb (get 4 s 0) pai1)))
+  section-if = number s 4 0 4 _ refl (λ l4. number s 4 4 8 _ refl (λ l8. kind (eqb (get 4 s 0) ownLetters)))
     where
       kind : (t : Bool) → If (λ is j. SectionAt s) (given t (body (get 4 s 4)) (fail (OtherLetters (get 4 s 0))) s 8)
       kind true = body-at (get 4 s 4)

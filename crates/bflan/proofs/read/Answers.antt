@@ -2,18 +2,21 @@
 -- Assumes nothing.
 use Prim.Native.Nat.{ℕ, _+_, _-_, _<_, _≤_}
 use mathlib.Core.Path.{_≡_, refl, ap, sym, _∙_}
-use mathlib.Core.Bool.{Bool, true, false}
-use mathlib.Core.List.{List, []}
+use mathlib.Core.Bool.{Bool, true, false, _&&_}
+use mathlib.Core.List.{List, [], _∷_}
 use native.Mathlib.Nat.{add-sub-cancel-left, zero-add}
 use native.Mathlib.Omega.{arith}
-use borrow.Author.Tests.{le-leb, lt-leb, lt-ltb, le-ltb, eq-eqb, ne-eqb, eqb-true}
+use borrow.Author.Tests.{leb-true, le-leb, lt-leb, lt-ltb, le-ltb, eq-eqb, ne-eqb, eqb-true}
 use denote.Ref.{RefT, now}
-use lib.Dec.{eqb}
+use lib.Dec.{eqb, leb}
 use lib.ListN.{length, getD, take, drop}
 use lib.Seq.{slice, sets}
+use Rattle.core.specs.Choice.{pick}
+use Rattle.core.specs.Outcome.{Outcome, accepted}
 use Rattle.core.specs.Part.{partOf, partPtr}
 use Rattle.core.specs.Utf8.{decode, wellFormed}
 use Rattle.bflan.specs.declared.fault.Fault.{Fault}
+use Rattle.bflan.specs.declared.fault.Fault.the-variants.{PastEnd, NoZero, OtherLetters}
 use Rattle.bflan.specs.declared.reader.tally.Tally.{Tally}
 use Rattle.bflan.specs.declared.reader.tally.Walk.{Walk}
 use Rattle.bflan.specs.declared.reader.tally.Walk.the-variants.{Went, Stopped}
@@ -22,7 +25,8 @@ use Rattle.bflan.specs.declared.find.FindAnswer.the-variants.{Found, Ref
 use Rattle.bflan.specs.Reader.{Res, ok, stop, P, Item}
 use Rattle.bflan.specs.Items.{wordsOf, textsOf}
 use Rattle.bflan.specs.inner.Walk.{emptyTally, tallied, walkOf, walked}
-use Rattle.bflan.specs.Answer.{ofReading, ofFinding, shown, shownIn, filled, found, textPart, textPtr, findingBy, readingBy}
+use Rattle.bflan.specs.Limits.{limit}
+use Rattle.bflan.specs.Answer.{tooLong, tooShort, ofFault, ofReading, ofFinding, shown, shownIn, filled, found, textPart, textPtr, findingBy, readingBy}
 use Rattle.bflan.specs.Items.{textsIn}
 use Rattle.bflan.proofs.reader.Bounds.{Gives, given-ok, Countable}
 use Rattle.bflan.proofs.reader.Walks.{on-no, on-tally, no-fault}
@@ -154,6 +158,60 @@ module _ (p : P (List Item)) (s w x : List ℕ) where
 
       pub reading-texts : t .words ≤ length w → length x < t .bytes → (ofReading (TooShort (t .words) (t .bytes)), w, x) ≡ readingBy p s w x
       reading-texts ha hb = filled-texts s w x (m .items) (m .last) _ _ (whole-w p s h g k t m) (whole-b p s h g k t m) ha hb ∙ sym by-items
+
+-- ---- a call of reading that is accepted
+
+-- a fault is never accepted
+fault-number : (f : Fault) → ofFault f .number ≡ 0 → ⊥
+unfolding ofFault
+fault-number (PastEnd offset requested) e = omega arith
+fault-number (NoZero start) e = omega arith
+fault-number (OtherLetters letters) e = omega arith
+
+module _ (p : P (List Item)) (s w x : List ℕ) where
+  -- the items that it read; there is room for their words and texts, and it fills them in
+  pub record Filled : Type 0 where
+    pub short : length s ≤ limit
+    pub items : List Item
+    pub end : ℕ
+    pub reads : p s 0 ≡ ok items end
+    pub roomWords : length (wordsOf s items) ≤ length w
+    pub roomTexts : length (textsOf s items) ≤ length x
+    pub answer : readingBy p s w x ≡ (accepted (length (wordsOf s items) ∷ length (textsOf s items) ∷ []), sets w 0 (wordsOf s items), sets x 0 (textsOf s items))
+
+  pub accepted-filled : readingBy p s w x .0 .number ≡ 0 → Filled
+  unfolding readingBy filled
+  accepted-filled e = go (leb (length s) limit) refl (p s 0) refl e
+    where
+      on : length s ≤ limit → leb (length s) limit ≡ true → (is : List Item) (end : ℕ) → p s 0 ≡ ok is end → (a b : Bool) → leb (length (wordsOf s is)) (length w) ≡ a → leb (length (textsOf s is)) (length x) ≡ b
+          → pick {A = Outcome × List ℕ × List ℕ} (a && b) (accepted (length (wordsOf s is) ∷ length (textsOf s is) ∷ []), sets w 0 (wordsOf s is), sets x 0 (textsOf s is))
+          (tooShort (length (wordsOf s is)) (length (textsOf s is)), w, x) .0 .number ≡ 0
+          → Filled
+      on h l is end r true true a b e =
+          record {
+            short = h;
+            items = is;
+            end = end;
+            reads = r;
+            roomWords = leb-true (length (wordsOf s is)) (length w) a;
+            roomTexts = leb-true (length (textsOf s is)) (length x) b;
+            answer = rw (l, r, a, b);
+          }
+      on h l is end r true false a b e = absurd (omega arith)
+      on h l is end r false b a c e = absurd (omega arith)
+
+      go : (t : Bool) → leb (length s) limit ≡ t → (r : Res (List Item)) → p s 0 ≡ r
+          → pick {A = Outcome × List ℕ × List ℕ} t (filled s w x r) (tooLong (length s), w, x) .0 .number ≡ 0
+          → Filled
+      go true l (ok is end) r e = on (leb-true (length s) limit l) l is end r (leb (length (wordsOf s is)) (length w)) (leb (length (textsOf s is)) (length x)) refl refl e
+      go true l (stop f) r e = absurd (fault-number f e)
+      go false l r q e = absurd (omega arith)
+
+  -- with long enough tables it is
+  pub reading-gives : (is : List Item) (end : ℕ) (ws xs : List ℕ) → length s ≤ limit → p s 0 ≡ ok is end → wordsOf s is ≡ ws → textsOf s is ≡ xs → length ws ≤ length w → length xs ≤ length x
+      → readingBy p s w x ≡ (accepted (length ws ∷ length xs ∷ []), sets w 0 ws, sets x 0 xs)
+  unfolding readingBy filled
+  reading-gives is end ws xs h e ew ex hw hx = rw (le-leb (length s) limit h, e, ew, ex, le-leb (length ws) (length w) hw, le-leb (length xs) (length x) hx)
 
 -- ---- finding a text
 

@@ -23,6 +23,7 @@ use Rattle.bflan.specs.declared.fault.Fault.the-variants.{PastEnd, NoZer
 use Rattle.bflan.specs.declared.reader.tally.Tally.{Tally}
 use Rattle.bflan.specs.Reader.{Res, ok, stop, andThen, _>>=_, ret, Item, word, text, fixedText, numbers, visit}
 use Rattle.bflan.specs.pai1.Reading.{info, typeOf, infoTable, content}
+use Rattle.bflan.specs.pai1.RecordAt.{nameSize}
 use Rattle.bflan.specs.Items.{shownAt}
 use Rattle.bflan.specs.inner.Walk.{withWords, withText, walkOf}
 use Rattle.bflan.proofs.reader.Emits.{sought-on, sought-past, sought-there, run-put2, run-named}
@@ -31,10 +32,6 @@ use Rattle.bflan.proofs.reader.Rows.{rowThen, Row}
 use Rattle.bflan.proofs.reader.Walks.{before, before-before, put-before}
 
 -- ---- the name
-
--- its length in the section
-abbrev pub nameSize : List ℕ → ℕ → ℕ
-nameSize s base = beforeZero (take 28 (drop base s))
 
 field-size : (s : List ℕ) (base : ℕ) → base ≤ length s → length (take 28 (drop base s)) ≡ min 28 (length s - base)
 field-size s base h = rw (length-take, length-drop)

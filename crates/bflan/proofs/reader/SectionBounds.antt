@@ -11,7 +11,7 @@ use Rattle.core.specs.Choice.{pick}
 use Rattle.core.proofs.Numbers.{Bytes}
 use Rattle.bflan.specs.pai1.Letters.{fleu}
 use Rattle.bflan.specs.Reader.{here, num, seekTo, skip}
-use Rattle.bflan.specs.pai1.Reading.{keyOf, curveOf, countOf, keys, target, datum, info, infoTable, content, texture, pai1, contents, body, section}
+use Rattle.bflan.specs.pai1.Reading.{keyOf, curveOf, countOf, keys, target, datum, info, infoTable, content, texture, ownLetters, contents, body, section}
 use Rattle.bflan.proofs.reader.Bounds.{Gives, none, either, next, past, done, Small, wider, small-none, small-word, small-words, small-append, many-small, visit-small, ended-small, fixed-small, numbers-fit, wider-all, num-lt, Countable}
 
 module _ (s : List ℕ) where
@@ -86,4 +86,4 @@ module _ (s : List ℕ) (bytes : Bytes s) (fits : length s ≤ 16777216) where
   unfolding section
   section-countable =
       past s (num 4) _ (λ letters. past s (num 4) _ (λ size.
-      either s (eqb letters pai1) (wider-all s _ _ (body-small size) (omega arith) (omega arith)) (none s _)))
+      either s (eqb letters ownLetters) (wider-all s _ _ (body-small size) (omega arith) (omega arith)) (none s _)))

@@ -21,7 +21,7 @@ use Rattle.bflan.specs.declared.reader.tally.Tally.{Tally}
 use Rattle.bflan.specs.declared.reader.tally.Walk.{Walk}
 use Rattle.bflan.specs.declared.reader.tally.Walk.the-variants.{Went, Stopped}
 use Rattle.bflan.specs.Reader.{Res, ok, stop, andThen, ret, given, fail, Item, word, seekTo, numbers, visit}
-use Rattle.bflan.specs.pai1.Reading.{content, texture, contents, pai1, flagOf, body, section}
+use Rattle.bflan.specs.pai1.Reading.{content, texture, contents, ownLetters, flagOf, body, section}
 use Rattle.bflan.specs.inner.SectionParts.{header, head, headWords, afterHead, contentsAndSize, texturesAndContents}
 use Rattle.bflan.specs.inner.Walk.{withWords, walkOf, walked}
 use Rattle.bflan.specs.pai1.Places.{total}
@@ -57,9 +57,9 @@ chain ws s size table n (ok ts j) = inner (contents table n s j)
 module _ (s : List ℕ) where
   -- ---- the first eight bytes
 
-  pub section-body : 8 ≤ length s → get 4 s 0 ≡ pai1 → section s 0 ≡ body (get 4 s 4) s 8
+  pub section-body : 8 ≤ length s → get 4 s 0 ≡ ownLetters → section s 0 ≡ body (get 4 s 4) s 8
   unfolding section
-  section-body h e = rw (num-there 4 s 0 (omega arith), num-there 4 s 4 h, eq-eqb (get 4 s 0) pai1 e)
+  section-body h e = rw (num-there 4 s 0 (omega arith), num-there 4 s 4 h, eq-eqb (get 4 s 0) ownLetters e)
 
   -- ---- the next twelve
 
@@ -203,7 +203,7 @@ module _ (s : List ℕ) where
 
   -- a section by its header
   behindHeader : SectionHeader → List ℕ → ℕ → Res (List Item)
-  behindHeader h = given (eqb (h .magic) pai1) (body (h .size)) (fail (OtherLetters (h .magic)))
+  behindHeader h = given (eqb (h .magic) ownLetters) (body (h .size)) (fail (OtherLetters (h .magic)))
 
   section-row : section s 0 ≡ rowThen (4 ∷ 4 ∷ []) (λ vs. behindHeader (headerOf vs)) s 0
   unfolding section behindHeader rowThen
@@ -216,13 +216,13 @@ module _ (s : List ℕ) where
   section-short f e = section-header ∙ ap (λ (r : Res SectionHeader). andThen r behindHeader s) (sym e)
 
   module _ (h : SectionHeader) (e : ok h 8 ≡ header s 0) where
-    pub section-other : (h .magic ≡ pai1 → ⊥) → section s 0 ≡ stop (OtherLetters (h .magic))
+    pub section-other : (h .magic ≡ ownLetters → ⊥) → section s 0 ≡ stop (OtherLetters (h .magic))
     unfolding behindHeader
-    section-other n = section-header ∙ ap (λ (r : Res SectionHeader). andThen r behindHeader s) (sym e) ∙ rw (ne-eqb (h .magic) pai1 n)
+    section-other n = section-header ∙ ap (λ (r : Res SectionHeader). andThen r behindHeader s) (sym e) ∙ rw (ne-eqb (h .magic) ownLetters n)
 
-    pub section-pai1 : h .magic ≡ pai1 → section s 0 ≡ body (h .size) s 8
+    pub section-pai1 : h .magic ≡ ownLetters → section s 0 ≡ body (h .size) s 8
     unfolding behindHeader
-    section-pai1 n = section-header ∙ ap (λ (r : Res SectionHeader). andThen r behindHeader s) (sym e) ∙ rw (eq-eqb (h .magic) pai1 n)
+    section-pai1 n = section-header ∙ ap (λ (r : Res SectionHeader). andThen r behindHeader s) (sym e) ∙ rw (eq-eqb (h .magic) ownLetters n)
 
 -- ---- walks
 

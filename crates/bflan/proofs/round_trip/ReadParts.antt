@@ -1,4 +1,4 @@
--- The parts of a record as functions of the section's bytes and the place where the part starts: what reading gives where it is not stopped.
+-- The record that a section's bytes are, part by part: reading gives it where it is not stopped.
 -- Assumes nothing.
 use Prim.Native.Nat.{ℕ, zero, suc, _+_, _*_, _≤_}
 use mathlib.Core.Path.{_≡_, refl, ap, ap₂, sym, _∙_}
@@ -6,11 +6,11 @@ use mathlib.Core.Bool.{Bool, true, false}
 use mathlib.Core.List.{List, [], _∷_, _++_, map}
 use native.Mathlib.Omega.{arith}
 use lib.Dec.{eqb}
-use lib.ListN.{length, drop}
+use lib.ListN.{length}
 use Rattle.core.specs.Choice.{pick}
 use Rattle.core.specs.Number.{get}
 use Rattle.core.specs.Run.{numbersAt}
-use Rattle.core.specs.Text.{beforeZero, endedOf}
+use Rattle.core.specs.Text.{endedOf}
 use Rattle.core.specs.declared.text.TextAt.{TextAt}
 use Rattle.core.specs.declared.text.TextAt.the-variants.{Text, Past as TextPast, Unended}
 use Rattle.core.proofs.Zeros.{ended-text}
@@ -19,90 +19,22 @@ use Rattle.bflan.specs.pai1.FieldValues.{numbersIn}
 use Rattle.bflan.specs.pai1.Letters.{fleu, lettersOf, targetOf}
 use Rattle.bflan.specs.pai1.Layout.{keySkip}
 use Rattle.bflan.specs.pai1.Places.{total, stride, infoTableIn}
-use Rattle.bflan.specs.Reader.{Res, ok, stop, P, andThen, _>>=_, ret, given, fail, Item, word, text, asText, skip, endedText, oneEnded, numbers, many, visit}
-use Rattle.bflan.specs.pai1.Reading.{keyOf, curveOf, countOf, keys, target, datum, info, typeOf, infoTable, content, texture, pai1, flagOf, contents, body, section}
-use Rattle.bflan.specs.pai1.Record.{AnimTarget, ExtendedUserDataAnim, AnimInfo, Standard, ExtendedUserData, AnimContent, PaneAnimInfo, keyWidths, targetCells, datumCells, infoCells, contentCells, cells}
+use Rattle.bflan.specs.Reader.{ok, P, andThen, _>>=_, ret, given, fail, Item, word, text, asText, skip, endedText, oneEnded, numbers, many, visit}
+use Rattle.bflan.specs.pai1.Reading.{keyOf, curveOf, countOf, keys, target, datum, info, typeOf, infoTable, content, texture, ownLetters, flagOf, contents, body, section}
+use Rattle.bflan.specs.pai1.RecordAt.{nameSize, reached, partsAt, endedAt, keysAt, targetAt, datumAt, dataAt, infoAt, contentAt, recordAt}
+use Rattle.bflan.specs.pai1.Record.{Standard, ExtendedUserData, keyWidths, targetCells, datumCells, infoCells, contentCells, cells}
 use Rattle.bflan.specs.Cells.{Cell, word as wordCell, chars, each, textCells}
 use Rattle.bflan.specs.Items.{shownAt}
-use Rattle.bflan.proofs.reader.ContentParts.{nameSize}
 use Rattle.bflan.proofs.place.Locating.{If, if-ok, yes, next, after, number, sought, table, name, stride-three, table-at}
 use Rattle.bflan.proofs.round_trip.ReadBack.{shownIn, shown-append, shown-words}
 
--- what follows where a reading ends, or `none` where it is stopped
-abbrev pub reached : {A : Type 0} → Res (List Item) → A → (ℕ → A) → A
-reached (ok is q) none f = f q
-reached (stop g) none f = none
-
 module _ (s : List ℕ) where
-  -- n parts at the offsets of the table at `at`, which count from base
-  unfoldable pub partsAt : {X : Type 0} → (ℕ → X) → ℕ → ℕ → ℕ → List X
-  partsAt part base zero at = []
-  partsAt part base (suc n) at = part (base + get 4 s at) ∷ partsAt part base n (at + 4)
-
-  -- a text that ends at a zero
-  unfoldable pub endedAt : ℕ → List ℕ
-  endedAt i = shownAt s i (beforeZero (drop i s))
-
-  -- n keys, one after another
-  unfoldable pub keysAt : ℕ → ℕ → ℕ → List (List ℕ)
-  keysAt curve zero p = []
-  keysAt curve (suc n) p = numbersIn (keyWidths curve) s p ∷ keysAt curve n (p + stride curve)
-
-  unfoldable pub targetAt : ℕ → ℕ → AnimTarget
-  targetAt letters b =
-      record {
-        layer = get 1 s b;
-        target = targetOf letters (get 1 s (b + 1));
-        curve = curveOf (get 1 s (b + 2));
-        keys = keysAt (curveOf (get 1 s (b + 2))) (countOf (get 1 s (b + 2)) (get 2 s (b + 4))) (b + get 4 s (b + 8));
-      }
-
-  -- the key text's offset stands behind the three lists, and counts from its own place
-  unfoldable pub datumAt : ℕ → ExtendedUserDataAnim
-  datumAt p =
-      record {
-        headerSize = get 4 s p;
-        unk1 = get 2 s (p + 4);
-        unk2 = get 2 s (p + 6);
-        baseCount = get 4 s (p + 8);
-        unk3 = get 4 s (p + 12);
-        values = numbersAt (3 * get 4 s (p + 8)) s (p + 16);
-        key = endedAt (p + 16 + 4 * (3 * get 4 s (p + 8)) + get 4 s (p + 16 + 4 * (3 * get 4 s (p + 8))));
-      }
-
-  -- n data, each of which starts where reading the one before ends
-  unfoldable pub dataAt : ℕ → ℕ → List ExtendedUserDataAnim
-  dataAt zero p = []
-  dataAt (suc n) p = datumAt p ∷ reached (datum s p) [] (λ q. dataAt n q)
-
-  unfoldable pub infoAt : ℕ → AnimInfo
-  infoAt b =
-      pick (eqb (get 4 s b) fleu) (ExtendedUserData (dataAt (get 1 s (b + 4)) (b + 8)))
-      (Standard (lettersOf (get 4 s b)) (partsAt (targetAt (get 4 s b)) b (get 1 s (b + 4)) (b + 8)))
-
-  unfoldable pub contentAt : ℕ → AnimContent
-  contentAt b =
-      record {
-        name = shownAt s b (nameSize s b);
-        type = typeOf (get 1 s (b + 29));
-        infos = partsAt infoAt b (get 1 s (b + 28)) (infoTableIn s b);
-      }
-
-  unfoldable pub recordAt : PaneAnimInfo
-  recordAt =
-      record {
-        frames = get 2 s 8;
-        looping = flagOf (get 1 s 10);
-        textures = partsAt endedAt 20 (get 2 s 12) 20;
-        contents = partsAt contentAt 0 (get 2 s 14) (get 4 s 16);
-      }
-
-  pub length-parts : {X : Type 0} (part : ℕ → X) (base n at : ℕ) → length (partsAt part base n at) ≡ n
+  pub length-parts : {X : Type 0} (part : ℕ → X) (base n at : ℕ) → length (partsAt s part base n at) ≡ n
   unfolding partsAt
   length-parts part base zero at = refl
   length-parts part base (suc n) at = ap suc (length-parts part base n (at + 4))
 
-  pub length-keys : (curve n p : ℕ) → length (keysAt curve n p) ≡ n
+  pub length-keys : (curve n p : ℕ) → length (keysAt s curve n p) ≡ n
   unfolding keysAt
   length-keys curve zero p = refl
   length-keys curve (suc n) p = ap suc (length-keys curve n (p + stride curve))
@@ -294,7 +226,7 @@ module _ (s : List ℕ) where
 
   section-shows : If (Shows cells (recordAt s)) (section s 0)
   unfolding section
-  section-shows = number s 4 0 4 _ refl (λ l4. number s 4 4 8 _ refl (λ l8. kind (eqb (get 4 s 0) pai1)))
+  section-shows = number s 4 0 4 _ refl (λ l4. number s 4 4 8 _ refl (λ l8. kind (eqb (get 4 s 0) ownLetters)))
     where
       kind : (t : Bool) → If (Shows cells (recordAt s)) (given t (body (get 4 s 4)) (fail (OtherLetters (get 4 s 0))) s 8)
       kind true = body-shown (get 4 s 4)

@@ -23,7 +23,7 @@ use Rattle.bflan.specs.pai1.Letters.{fleu, lettersOf, targetOf}
 use Rattle.bflan.specs.Limits.{limit, Fits, FineText}
 use Rattle.bflan.specs.pai1.Limits.{FineTarget, FineDatum, FineInfo, FineNamed, Readable}
 use Rattle.bflan.specs.Reader.{ok, P, andThen, _>>=_, ret, given, here, Item, word, text, asText, num, seekTo, skip, fixedText, endedText, oneEnded, numbers, many, visit}
-use Rattle.bflan.specs.pai1.Reading.{keyOf, curveOf, countOf, keys, target, datum, info, typeOf, infoTable, content, texture, pai1, flagOf, contents, body, section}
+use Rattle.bflan.specs.pai1.Reading.{keyOf, curveOf, countOf, keys, target, datum, info, typeOf, infoTable, content, texture, ownLetters, flagOf, contents, body, section}
 use Rattle.bflan.specs.pai1.Record.{Standard, ExtendedUserData, PaneAnimInfo, keyWidths, targetCells, datumCells, infoCells, contentCells, cells, words, texts}
 use Rattle.bflan.specs.Cells.{Cell, word as wordCell, wordsIn, bytesIn, each, textCells}
 use Rattle.bflan.specs.Items.{shownAt, wordsOf, textsOf}
@@ -363,7 +363,7 @@ module _ (s : List ℕ) (bytes : Bytes s) (short : length s ≤ limit) where
 
   section-tree : Gives s (Tree s cells Readable) section
   unfolding section
-  section-tree = past s (num 4) _ (λ letters. past s (num 4) _ (λ size. either s (eqb letters pai1) (body-tree size) (none s _)))
+  section-tree = past s (num 4) _ (λ letters. past s (num 4) _ (λ size. either s (eqb letters ownLetters) (body-tree size) (none s _)))
 
   -- what reading gives are the words and the texts of a record within the limits but for the length of names
   pub read-tree : (is : List Item) (end : ℕ) → section s 0 ≡ ok is end → ReadTree s is

@@ -3,85 +3,32 @@
 -- Assumes nothing.
 use Prim.Native.Nat.{ℕ, _≤_}
 use mathlib.Core.Path.{_≡_, refl, sym, ap₂, _∙_}
-use mathlib.Core.Bool.{Bool, true, false, _&&_}
+use mathlib.Core.Bool.{Bool, true, false}
 use mathlib.Core.List.{List, [], _∷_}
 use native.Mathlib.Omega.{arith}
-use borrow.Author.Tests.{leb-true}
-use lib.Dec.{leb}
 use lib.ListN.{length, take, replicate}
 use lib.Seq.{sets}
-use Rattle.core.specs.Choice.{pick}
 use Rattle.core.specs.Number.{val, get, readOf}
-use Rattle.core.specs.Outcome.{Outcome, accepted}
+use Rattle.core.specs.Outcome.{accepted}
 use Rattle.core.specs.Seek.{seekOf}
 use Rattle.core.specs.Text.{beforeZero, fixedOf}
 use Rattle.core.specs.Utf8.{rows, within, classOf, laterOf, matched, more, good, pieceOf, piecesAfter, pieces, shown, decoded, decode}
 use Rattle.core.proofs.Numbers.{Bytes, sets-read}
-use Rattle.bflan.specs.declared.fault.Fault.{Fault}
-use Rattle.bflan.specs.declared.fault.Fault.the-variants.{PastEnd, NoZero, OtherLetters}
-use Rattle.bflan.specs.Answer.{refused, tooLong, tooShort, ofFault, filled, readingBy}
+use Rattle.bflan.specs.Answer.{refused, filled, readingBy}
 use Rattle.bflan.specs.pai1.Calls.{reading, writing}
 use Rattle.bflan.specs.pai1.Judge.{pane, section as judge, content as judgeContent}
 use Rattle.bflan.specs.Judge.{nextWord as judgeWord, nextText as judgeText, times, whole}
-use Rattle.bflan.specs.Limits.{limit}
 use Rattle.bflan.specs.pai1.Layout.{sectionLay}
 use Rattle.bflan.specs.pai1.Limits.{Readable}
-use Rattle.bflan.specs.Reader.{Res, ok, stop, Item, num, seekTo, fixedText, numbers, visit}
-use Rattle.bflan.specs.pai1.Reading.{typeOf, infoTable, content, contents, flagOf, body, section}
+use Rattle.bflan.specs.Reader.{num, seekTo, fixedText, numbers, visit}
+use Rattle.bflan.specs.pai1.Reading.{typeOf, infoTable, content, contents, flagOf, body, section, ownLetters}
 use Rattle.bflan.specs.pai1.Record.{PaneAnimInfo, words, texts}
 use Rattle.bflan.specs.pai1.Rewriting.{readWords, readTexts, namesFit, rewritten}
 use Rattle.bflan.specs.Items.{wordsOf, textsOf}
 use Rattle.bflan.specs.Writing.{judged, writingBy}
+use Rattle.bflan.proofs.read.Answers.{accepted-filled}
 use Rattle.bflan.proofs.judge.Judging.{names-within, judge-flat, judge-long}
 use Rattle.bflan.proofs.round_trip.ReadTree.{read-tree}
-
--- ---- a call of reading that is accepted
-
--- the items that it read; there is room for their words and texts, and it fills them in
-record Filled (s w x : List ℕ) : Type 0 where
-  short : length s ≤ limit
-  items : List Item
-  end : ℕ
-  reads : section s 0 ≡ ok items end
-  roomWords : length (wordsOf s items) ≤ length w
-  roomTexts : length (textsOf s items) ≤ length x
-  answer : reading s w x ≡ (accepted (length (wordsOf s items) ∷ length (textsOf s items) ∷ []), sets w 0 (wordsOf s items), sets x 0 (textsOf s items))
-
--- a fault is never accepted
-fault-number : (f : Fault) → ofFault f .number ≡ 0 → ⊥
-unfolding ofFault
-fault-number (PastEnd offset requested) e = omega arith
-fault-number (NoZero start) e = omega arith
-fault-number (OtherLetters letters) e = omega arith
-
--- what is accepted was filled in
-accepted-filled : (s w x : List ℕ) → reading s w x .0 .number ≡ 0 → Filled s w x
-unfolding readingBy filled
-accepted-filled s w x e = go (leb (length s) limit) refl (section s 0) refl e
-  where
-    on : length s ≤ limit → leb (length s) limit ≡ true → (is : List Item) (end : ℕ) → section s 0 ≡ ok is end → (a b : Bool) → leb (length (wordsOf s is)) (length w) ≡ a → leb (length (textsOf s is)) (length x) ≡ b
-        → pick {A = Outcome × List ℕ × List ℕ} (a && b) (accepted (length (wordsOf s is) ∷ length (textsOf s is) ∷ []), sets w 0 (wordsOf s is), sets x 0 (textsOf s is))
-        (tooShort (length (wordsOf s is)) (length (textsOf s is)), w, x) .0 .number ≡ 0
-        → Filled s w x
-    on h l is end r true true a b e =
-        record {
-          short = h;
-          items = is;
-          end = end;
-          reads = r;
-          roomWords = leb-true (length (wordsOf s is)) (length w) a;
-          roomTexts = leb-true (length (textsOf s is)) (length x) b;
-          answer = rw (l, r, a, b);
-        }
-    on h l is end r true false a b e = absurd (omega arith)
-    on h l is end r false b a c e = absurd (omega arith)
-
-    go : (t : Bool) → leb (length s) limit ≡ t → (r : Res (List Item)) → section s 0 ≡ r
-        → pick {A = Outcome × List ℕ × List ℕ} t (filled s w x r) (tooLong (length s), w, x) .0 .number ≡ 0
-        → Filled s w x
-    go true l (ok is end) r e = on (leb-true (length s) limit l) l is end r (leb (length (wordsOf s is)) (length w)) (leb (length (textsOf s is)) (length x)) refl refl e
-    go true l (stop f) r e = absurd (fault-number f e)
-    go false l r q e = absurd (omega arith)
 
 -- ---- how writing judges what was read
 
@@ -112,7 +59,7 @@ front l v h = sets-read l 0 v (omega arith)
 pub read-judged : (s w x : List ℕ) → Bytes s → reading s w x .0 .number ≡ 0 → ReadJudged s w x
 unfolding readWords readTexts
 read-judged s w x b e =
-    let f = accepted-filled s w x e in
+    let f = accepted-filled section s w x e in
     let t = read-tree s b (f .short) (f .items) (f .end) (f .reads) in
     let ew : readWords s w x ≡ words (t .tree) = rw (f .answer) (front w (wordsOf s (f .items)) (f .roomWords) ∙ sym (t .words)) in
     let ex : readTexts s w x ≡ texts (t .tree) = rw (f .answer) (front x (textsOf s (f .items)) (f .roomTexts) ∙ sym (t .texts)) in
@@ -137,5 +84,5 @@ illNamed =
 pub ill-named : (out : List ℕ)
     → (reading illNamed (replicate 7 0) (replicate 30 0) .0 ≡ accepted (7 ∷ 30 ∷ []))
     × (writing (readWords illNamed (replicate 7 0) (replicate 30 0)) (readTexts illNamed (replicate 7 0) (replicate 30 0)) out ≡ (refused 6 (4 ∷ []), out))
-unfolding readWords readTexts readingBy filled wordsOf textsOf writingBy judged judge pane whole judgeWord judgeText judgeContent times section body contents content visit numbers num seekTo fixedText infoTable typeOf flagOf readOf get val seekOf fixedOf beforeZero rows within classOf laterOf matched more good pieceOf piecesAfter pieces shown decoded decode
+unfolding readWords readTexts readingBy filled wordsOf textsOf writingBy judged judge pane whole judgeWord judgeText judgeContent times section body contents content visit numbers num seekTo fixedText infoTable typeOf flagOf ownLetters readOf get val seekOf fixedOf beforeZero rows within classOf laterOf matched more good pieceOf piecesAfter pieces shown decoded decode
 ill-named out = (refl, refl)

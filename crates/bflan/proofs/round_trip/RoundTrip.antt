@@ -22,7 +22,6 @@ use Rattle.core.proofs.Zeros.{none-free, ended-there, before-free}
 use Rattle.core.proofs.utf8.Laws.{decode-well}
 use lib.Seq.{sets}
 use Rattle.core.specs.Outcome.{accepted}
-use Rattle.bflan.specs.Answer.{filled, readingBy}
 use Rattle.bflan.specs.pai1.Calls.{reading}
 use Rattle.bflan.specs.pai1.Letters.{fleu}
 use Rattle.bflan.specs.Layout.{nothing, number, bytes, _⨾_, size, written, zeros, parts, table, ended}
@@ -30,16 +29,18 @@ use Rattle.bflan.specs.pai1.Layout.{keyLay, targetLay, datumLay, infoHea
 use Rattle.bflan.specs.Limits.{All, Fits, FineText}
 use Rattle.bflan.specs.pai1.Limits.{FineTarget, FineDatum, FineInfo, FineContent, Fine, Within}
 use Rattle.bflan.specs.Reader.{ok, _>>=_, given, here, Item, word, text, many, visit, num, numbers, seekTo, oneEnded}
-use Rattle.bflan.specs.pai1.Reading.{keyOf, keys, target, datum, info, typeOf, infoTable, content, texture, contents, pai1, flagOf, section}
+use Rattle.bflan.specs.pai1.Reading.{keyOf, keys, target, datum, info, typeOf, infoTable, content, texture, contents, pai1, flagOf, section, ownLetters}
 use Rattle.bflan.specs.pai1.Record.{Standard, ExtendedUserData, AnimContent, PaneAnimInfo, keyWidths, targetCells, datumCells, infoCells, contentCells, cells, words, texts}
 use Rattle.bflan.specs.Cells.{Cell, word as wordCell, chars, each, wordsIn, bytesIn, textCells}
 use Rattle.bflan.specs.Items.{shownAt, wordsOf, textsOf}
+use Rattle.bflan.proofs.read.Answers.{reading-gives}
 use Rattle.bflan.proofs.letters.Codes.{fits-lt, fits-own, fit-lt, letters-own}
-use Rattle.bflan.proofs.reader.ContentParts.{nameSize, contentRest, content-there, rest-at}
+use Rattle.bflan.specs.pai1.RecordAt.{nameSize}
+use Rattle.bflan.proofs.reader.ContentParts.{contentRest, content-there, rest-at}
 use Rattle.bflan.proofs.reader.Emits.{sought-there, ended-on, shown-part}
 use Rattle.bflan.proofs.reader.KeyRuns.{asNumbers, numbers-run}
 use Rattle.bflan.proofs.reader.SectionParts.{endAt, headItems, section-body, body-there, contents-on}
-use Rattle.bflan.proofs.Layouts.{Stands, stands-left, stands-right, stands-to, stands-all, stands-num, stands-get, size-table, size-written, offsets, table-reads, user-size, section-sizes, section-size}
+use Rattle.bflan.proofs.Layouts.{Stands, stands-left, stands-right, stands-to, stands-all, stands-num, stands-get, size-table, size-written, offsets, table-reads, user-size, section-sizes, section-size, stands-code}
 use Rattle.bflan.proofs.round_trip.ReadBack.{shownIn, Reads, reads-as, reads-none, reads-before, reads-joined, ReadsPart, ReadsAt, many-reads, visit-reads, key-reads, shown-words, words-shown, texts-shown}
 use Rattle.bflan.proofs.reader.TargetParts.{curve-low, count-low}
 use Rattle.bflan.proofs.reader.Walks.{before, joined, put-before}
@@ -132,7 +133,7 @@ module _ (s : List ℕ) (short : length s ≤ 16777216) where
   -- ---- infos
 
   pub info-reads : ReadsAt infoLay infoCells FineInfo s info
-  unfolding info infoLay infoHead infoCells size shownIn fleu val
+  unfolding info infoLay infoHead infoCells size le shownIn fleu val
   info-reads b i (Standard letters ts) f h =
       let g = stands-left h in
       let g1 = stands-right g in
@@ -146,7 +147,7 @@ module _ (s : List ℕ) (short : length s ≤ 16777216) where
       let o = table-reads targetLay s (b + 4 + 1 + 1 + 2) (8 + 4 * n) ts lp (stands-to (stands-left h1) (omega arith)) in
       let v = visit-reads targetLay targetCells (FineTarget letters) s (target letters) (target-reads letters s) b (8 + 4 * n) (b + 4 + 1 + 1 + 2 + 4 * n) ts (f .targets) (stands-to (stands-right h1) (omega (arith, lt))) in
       let e : info b s i ≡ before (word letters ∷ word n ∷ []) (visit b (target letters) (offsets targetLay (8 + 4 * n) ts) s (b + 4 + 1 + 1 + 2 + 4 * n)) =
-      rw (sought-there s b i l, stands-num (stands-left g) (fit-lt letters (f .letters)), stands-num (stands-left g1) (f .count), stands-num (stands-left g2) (omega arith), stands-num g3 (omega arith), ne-eqb letters fleu (f .standard), o, letters-own letters (f .letters))
+      rw (sought-there s b i l, stands-num (stands-code {k = 4} {n = letters} (stands-left g)) (fit-lt letters (f .letters)), stands-num (stands-left g1) (f .count), stands-num (stands-left g2) (omega arith), stands-num g3 (omega arith), ne-eqb letters fleu (f .standard), o, letters-own letters (f .letters))
       (put-before (word letters ∷ word n ∷ []) (visit b (target letters) (offsets targetLay (8 + 4 * n) ts) s (b + 4 + 1 + 1 + 2 + 4 * n)) s) in
       record { next = v .next; here = reads-as (sym e) refl refl (reads-before (word letters ∷ word n ∷ []) (v .here)) }
   info-reads b i (ExtendedUserData ds) f h =
@@ -158,7 +159,7 @@ module _ (s : List ℕ) (short : length s ≤ 16777216) where
       let l : b ≤ length s = omega (arith, h .fits) in
       let m = many-reads datumLay datumCells FineDatum s datum (datum-reads s) (b + 4 + 1 + 1 + 2) ds (f .1) (stands-to (stands-right h) (omega arith)) in
       let e : info b s i ≡ before (word fleu ∷ word n ∷ []) (many n datum s (b + 4 + 1 + 1 + 2)) =
-      rw (sought-there s b i l, stands-num (stands-left g) (omega arith), stands-num (stands-left g1) (f .0), stands-num (stands-left g2) (omega arith), stands-num g3 (omega arith))
+      rw (sought-there s b i l, stands-num (stands-code {k = 4} {n = fleu} (stands-left g)) (omega arith), stands-num (stands-left g1) (f .0), stands-num (stands-left g2) (omega arith), stands-num g3 (omega arith))
       (put-before (word fleu ∷ word n ∷ []) (many n datum s (b + 4 + 1 + 1 + 2)) s) in
       record { next = b + 4 + 1 + 1 + 2 + size (parts datumLay ds); here = reads-as (sym e) refl refl (reads-before (word fleu ∷ word n ∷ []) m) }
 
@@ -275,7 +276,7 @@ flag-own (suc (suc b)) h = absurd (omega arith)
 
 -- a section that stands: each of its fields, at its place
 pub record StandsSection (s : List ℕ) (r : PaneAnimInfo) : Type 0 where
-  pub letters : Stands s 0 (number 4 pai1)
+  pub letters : Stands s 0 (bytes pai1)
   pub whole : Stands s 4 (number 4 (sectionSize r))
   pub frames : Stands s 8 (number 2 (r .frames))
   pub looping : Stands s 10 (number 1 (r .looping))
@@ -317,6 +318,10 @@ section-stands s r h =
       contents = stands-to h12 (omega (arith, z .offsets, z .fill, z .contentOffsets));
     }
 
+letters-get : (s : List ℕ) → Stands s 0 (bytes pai1) → get 4 s 0 ≡ ownLetters
+unfolding le ownLetters val
+letters-get s h = stands-get (stands-code {k = 4} {n = ownLetters} h) (omega arith)
+
 pub section-reads : (s : List ℕ) (r : PaneAnimInfo) → Within r → Stands s 0 (sectionLay r) → length s ≤ 16777216 → Reads s (section s 0) (cells r) (size (sectionLay r))
 unfolding sectionLay cells size contentTable sectionSize namesEnd shownIn
 section-reads s r w h short =
@@ -330,7 +335,7 @@ section-reads s r w h short =
     let end : all ≤ length s = omega (arith, g .contents .fits) in
     let b8 : 8 ≤ length s = omega (arith, g .offsets .fits) in
     let b20 : 20 ≤ length s = omega (arith, g .offsets .fits) in
-    let el : get 4 s 0 ≡ pai1 = stands-get (g .letters) (omega arith) in
+    let el : get 4 s 0 ≡ ownLetters = letters-get s (g .letters) in
     let es : get 4 s 4 ≡ all = stands-get (g .whole) (omega (arith, end)) in
     let ef : get 2 s 8 ≡ r .frames = stands-get (g .frames) (f .frames) in
     let eb : get 1 s 10 ≡ r .looping = stands-get (g .looping) (omega (arith, f .looping)) in
@@ -372,8 +377,6 @@ reads-back r w =
 -- the same of the call: with long enough tables it is accepted, and fills them with the record
 pub read-written : (r : PaneAnimInfo) → Within r → (w x : List ℕ) → length (words r) ≤ length w → length (texts r) ≤ length x
     → reading (written (sectionLay r)) w x ≡ (accepted (length (words r) ∷ length (texts r) ∷ []), sets w 0 (words r), sets x 0 (texts r))
-unfolding readingBy filled
 read-written r v w x hw hx =
     let b = reads-back r v in
-    let short : length (written (sectionLay r)) ≤ 16777216 = omega (arith, size-written (sectionLay r), v .short) in
-    rw (le-leb (length (written (sectionLay r))) 16777216 short, b .reads, b .words, b .texts, le-leb (length (words r)) (length w) hw, le-leb (length (texts r)) (length x) hx)
+    reading-gives section (written (sectionLay r)) w x (b .items) (size (sectionLay r)) (words r) (texts r) (omega (arith, size-written (sectionLay r), v .short)) (b .reads) (b .words) (b .texts) hw hx

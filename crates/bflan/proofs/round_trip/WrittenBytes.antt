@@ -8,6 +8,8 @@ use lib.Dec.{eqb}
 use lib.ListN.{length}
 use Rattle.core.specs.Choice.{pick}
 use Rattle.core.specs.Fill.{paddingOf}
+use Rattle.core.specs.Number.{le, val}
+use Rattle.bflan.specs.pai1.Reading.{ownLetters}
 use Rattle.core.proofs.Numbers.{Bytes, bytes-le, bytes-append, bytes-zeros}
 use Rattle.core.proofs.utf8.Bounds.{well-bytes}
 use Rattle.bflan.specs.Layout.{Layout, nothing, number, bytes, _⨾_, size, written, zeros, row, parts, table, ended}
@@ -27,6 +29,10 @@ none = record { bytes = λ i. omega arith }
 num : {k n : ℕ} → Laid (number k n)
 unfolding written
 num {k} {n} = record { bytes = bytes-le k n }
+
+code : (k n : ℕ) → Laid (bytes (le k n))
+unfolding written
+code k n = record { bytes = bytes-le k n }
 
 infixr 5 _then_
 _then_ : {a b : Layout} → Laid a → Laid b → Laid (a ⨾ b)
@@ -78,7 +84,7 @@ datum-laid d f = num then num then num then num then num then each-laid (number 
 
 head-laid : (letters n : ℕ) → Laid (infoHead letters n)
 unfolding infoHead
-head-laid letters n = num then num then num then num
+head-laid letters n = code 4 letters then num then num then num
 
 info-laid : (x : AnimInfo) → FineInfo x → Laid (infoLay x)
 unfolding infoLay
@@ -99,9 +105,9 @@ content-laid c f =
     (chars (f .name) then fill (28 - length (c .name)) then num then num then num then user-laid (c .type) _ then table-laid infoLay _ (c .infos) then parts-laid infoLay FineInfo info-laid (c .infos) (f .infos)) then fill (paddingOf (size (contentBody c)))
 
 section-laid : (r : PaneAnimInfo) → Fine r → Laid (sectionLay r)
-unfolding sectionLay
+unfolding sectionLay le ownLetters val
 section-laid r f =
-    num then num then num then num then num then num then num then num then table-laid ended _ (r .textures) then parts-laid ended FineText ended-laid (r .textures) (f .textures) then fill (paddingOf (namesEnd r))
+    code 4 ownLetters then num then num then num then num then num then num then num then table-laid ended _ (r .textures) then parts-laid ended FineText ended-laid (r .textures) (f .textures) then fill (paddingOf (namesEnd r))
     then table-laid contentLay _ (r .contents) then parts-laid contentLay FineContent content-laid (r .contents) (f .contents)
 
 pub written-bytes : (r : PaneAnimInfo) → Within r → Bytes (written (sectionLay r))

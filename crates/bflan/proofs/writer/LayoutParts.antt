@@ -12,7 +12,7 @@ use lib.ListN.{length, getD, take, drop, replicate, length-drop, length-replicat
 use lib.Seq.{sets, take-add, drop-drop, length-take-le}
 use Rattle.core.specs.Choice.{pick}
 use Rattle.core.specs.Fill.{paddingOf}
-use Rattle.core.specs.Number.{le, put}
+use Rattle.core.specs.Number.{le, put, val}
 use Rattle.core.specs.Run.{numbersLe, pairsLe}
 use Rattle.core.proofs.Numbers.{put-put}
 use Rattle.core.proofs.Runs.{numbers-le-append}
@@ -23,14 +23,14 @@ use Rattle.bflan.specs.Layout.{Layout, nothing, number, bytes, _⨾_, si
 use Rattle.bflan.specs.pai1.Layout.{keySkip, keyLay, targetLay, datumLay, infoHead, infoLay, dataOut, infosOut, tableFrom, infosFrom, userLay, contentBody, contentLay, namesEnd, contentTable, sectionSize, sectionLay}
 use Rattle.bflan.specs.pai1.Letters.{fleu, targetFits}
 use Rattle.bflan.specs.Limits.{limit}
-use Rattle.bflan.specs.pai1.Reading.{pai1}
+use Rattle.bflan.specs.pai1.Reading.{pai1, ownLetters}
 use Rattle.bflan.specs.pai1.Record.{ExtendedUserDataAnim, AnimInfo, Standard, ExtendedUserData, AnimContent, keyWidths}
 use Rattle.bflan.specs.inner.Pen.{Ready, laid, penBehind, listed}
 use Rattle.bflan.specs.inner.LayoutParts.{targetHead, datumHead, datumFront, nameLay, bodyLay, frameLay, namesLay, outOf, outBy}
 use Rattle.bflan.proofs.reader.Inversion.{TextAt, text-at, times-none, times-more, times-length, WordsAt, row-at, DatumAt, datum-at, info-at, info-extended, info-standard, ContentAt, content-at, SectionAt, section-at, TargetAt, target-at}
 use Rattle.bflan.proofs.Layouts.{size-written, section-size}
 use Rattle.bflan.proofs.judge.Measures.{size-parts, size-numbers}
-use Rattle.bflan.proofs.writer.Pens.{laid-fine, behind-fine, listed-size, Wrote, wrote-number, wrote-bytes, wrote-then, wrote-like, wrote-patched, Splits, split-behind, head-ready, head-done, whole-laid, whole-behind, like-ready, like-behind, like-laid}
+use Rattle.bflan.proofs.writer.Pens.{laid-fine, behind-fine, listed-size, Wrote, wrote-number, wrote-bytes, wrote-then, wrote-like, wrote-patched, Splits, split-behind, head-ready, head-done, whole-laid, whole-behind, like-ready, like-behind, like-laid, wrote-code}
 
 -- ---- fields
 
@@ -436,15 +436,15 @@ module _ (w x : List ℕ) (i j at : ℕ) {most : ℕ} (h : Ready datumLay (datum
 
 pub info-head-stored : (at l n : ℕ) {l0 l1 l2 : List ℕ} → l1 ≡ put 4 l0 at l → l2 ≡ sets l1 (at + 4) (written (number 1 n ⨾ number 1 0 ⨾ number 2 0))
     → Wrote l0 at (infoHead l n) l2
-unfolding size infoHead
-info-head-stored at l n e f = wrote-then (wrote-number e) (record { same = f }) refl
+unfolding size infoHead le
+info-head-stored at l n e f = wrote-then (wrote-code 4 l e) (record { same = f }) refl
 
 module _ (w x : List ℕ) (i j at : ℕ) {most : ℕ} (h : Ready infoLay (info w x i j) at most) where
   pub info-there : i + 2 ≤ length w
   info-there = info-at w x i j (h .judged) .there
 
   pub info-fits : at + 8 ≤ limit
-  unfolding infoLay infoHead size
+  unfolding infoLay infoHead size le
   info-fits = go (h .value) (h .short)
     where
       go : (a : AnimInfo) → at + size (infoLay a) ≤ limit → at + 8 ≤ limit
@@ -489,7 +489,7 @@ module _ (w x : List ℕ) (i j at : ℕ) {most : ℕ} (h : Ready infoLay (info w
         head-splits ts k (ap (λ (a : AnimInfo). written (infoLay a)) q ∙ rw (z, m, el))
 
     eight : 8 ≡ size (infoHead l n)
-    unfolding infoHead size
+    unfolding infoHead size le
     eight = refl
 
     module _ (f : l ≡ fleu) where
@@ -798,11 +798,11 @@ unfolding size frameLay
 frame-stored a b c d e1 e2 e3 e4 e5 =
     wrote-then (wrote-number e1) (wrote-then (wrote-number e2) (wrote-then (wrote-number e3) (wrote-then (wrote-number e4) (wrote-number e5) refl) refl) refl) refl
 
-pub start-stored : (l0 : List ℕ) (a b c d p q r s : ℕ) {l1 l2 l3 : List ℕ} → a ≡ p → b ≡ q → c ≡ r → d ≡ s → l1 ≡ put 4 l0 0 pai1 → l2 ≡ put 4 l1 4 0
-    → l3 ≡ sets l2 8 (written (frameLay a b c d)) → l3 ≡ sets l0 0 (written (number 4 pai1 ⨾ number 4 0 ⨾ frameLay p q r s))
-unfolding size
+pub start-stored : (l0 : List ℕ) (a b c d p q r s : ℕ) {l1 l2 l3 : List ℕ} → a ≡ p → b ≡ q → c ≡ r → d ≡ s → l1 ≡ put 4 l0 0 ownLetters → l2 ≡ put 4 l1 4 0
+    → l3 ≡ sets l2 8 (written (frameLay a b c d)) → l3 ≡ sets l0 0 (written (bytes pai1 ⨾ number 4 0 ⨾ frameLay p q r s))
+unfolding size le ownLetters val
 start-stored l0 a b c d p q r s ea eb ec ed e1 e2 e3 =
-    rw (← ea, ← eb, ← ec, ← ed) (wrote-then (wrote-number e1) (wrote-then {b = frameLay a b c d} (wrote-number e2) (record { same = e3 }) refl) refl .same)
+    rw (← ea, ← eb, ← ec, ← ed) (wrote-then {a = bytes pai1} (wrote-code 4 ownLetters e1) (wrote-then {b = frameLay a b c d} (wrote-number e2) (record { same = e3 }) refl) refl .same)
 
 -- the texture names
 module _ (n : ℕ) (w x : List ℕ) {most : ℕ} (h : Ready namesLay (times n (nextText (wide 4)) w x 4 0) 20 most) where
@@ -856,7 +856,7 @@ module _ (w x : List ℕ) {most : ℕ} (h : Ready sectionLay (section w x 0 0) 0
   abbrev cs : List AnimContent
   cs = h .value .contents
 
-  pieces : written (number 4 pai1 ⨾ number 4 (sectionSize (h .value)) ⨾ frameLay (h .value .frames) (h .value .looping) (length ts) (length cs)
+  pieces : written (bytes pai1 ⨾ number 4 (sectionSize (h .value)) ⨾ frameLay (h .value .frames) (h .value .looping) (length ts) (length cs)
       ⨾ number 4 (contentTable (h .value)) ⨾ namesLay ts ⨾ listed contentLay (contentTable (h .value) + 4 * length cs) cs) ≡ written (sectionLay (h .value))
   unfolding sectionLay frameLay namesLay listed namesEnd written
   pieces = simp append-assoc
@@ -909,7 +909,7 @@ module _ (w x : List ℕ) {most : ℕ} (h : Ready sectionLay (section w x 0 0) 0
           }
 
       pub section-done : (l0 : List ℕ) {l1 l2 l3 l4 l5 l6 : List ℕ} {e : Pen} {p s : ℕ}
-          → l1 ≡ sets l0 0 (written (number 4 pai1 ⨾ number 4 0 ⨾ frameLay (getD w 0 0) (getD w 1 0) (getD w 2 0) (getD w 3 0))) → l2 ≡ put 4 l1 16 0
+          → l1 ≡ sets l0 0 (written (bytes pai1 ⨾ number 4 0 ⨾ frameLay (getD w 0 0) (getD w 1 0) (getD w 2 0) (getD w 3 0))) → l2 ≡ put 4 l1 16 0
           → l3 ≡ laid namesLay (times n (nextText (wide 4)) w x 4 0) 20 l2 → p ≡ 16 → l4 ≡ put 4 l3 p (q .at)
           → e ≡ penBehind (listed contentLay (q .at + 4 * k - 0)) (times k content w x (q .word) (q .byte)) (q .at)
           → l5 ≡ laid (listed contentLay (q .at + 4 * k - 0)) (times k content w x (q .word) (q .byte)) (q .at) l4 → s ≡ 4 → l6 ≡ put 4 l5 s (e .at)
@@ -920,13 +920,13 @@ module _ (w x : List ℕ) {most : ℕ} (h : Ready sectionLay (section w x 0 0) 0
           let nc : k ≡ length cs = sym (times-length content w x k (q .word) (q .byte) contents-judged) in
           let end : e .at ≡ sectionSize (h .value) =
           ap (λ (z : Pen). z .at) (ee ∙ behind-fine (listed contentLay (q .at + 4 * k - 0)) contents-judged (q .at)) ∙ rw (from, table-at) contents-end in
-          let w1 : Wrote l0 0 (number 4 pai1 ⨾ number 4 0 ⨾ frameLay (getD w 0 0) (getD w 1 0) (getD w 2 0) (getD w 3 0)) l1 = record { same = e1 } in
+          let w1 : Wrote l0 0 (bytes pai1 ⨾ number 4 0 ⨾ frameLay (getD w 0 0) (getD w 1 0) (getD w 2 0) (getD w 3 0)) l1 = record { same = e1 } in
           let w2 : Wrote l1 16 (nothing ⨾ number 4 0 ⨾ namesLay ts) l3 =
           wrote-like (wrote-then {b = namesLay ts} (wrote-number e2) (record { same = e3 ∙ laid-fine namesLay names-judged 20 l2 }) refl) refl in
           let w3 : Wrote l1 16 (nothing ⨾ number 4 (q .at) ⨾ namesLay ts) l4 = wrote-patched w2 p (q .at) ep e4 in
           let w4 : Wrote l4 (q .at) (listed contentLay (q .at + 4 * k - 0) cs) l5 = record { same = e5 ∙ laid-fine (listed contentLay (q .at + 4 * k - 0)) contents-judged (q .at) l4 } in
-          let w5 : Wrote l0 0 ((number 4 pai1 ⨾ number 4 0 ⨾ frameLay (getD w 0 0) (getD w 1 0) (getD w 2 0) (getD w 3 0)) ⨾ (nothing ⨾ number 4 (q .at) ⨾ namesLay ts) ⨾ listed contentLay (q .at + 4 * k - 0) cs) l5 =
+          let w5 : Wrote l0 0 ((bytes pai1 ⨾ number 4 0 ⨾ frameLay (getD w 0 0) (getD w 1 0) (getD w 2 0) (getD w 3 0)) ⨾ (nothing ⨾ number 4 (q .at) ⨾ namesLay ts) ⨾ listed contentLay (q .at + 4 * k - 0) cs) l5 =
           wrote-then w1 (wrote-then w3 w4 (omega (arith, table-at, names-end))) refl in
-          let w6 : Wrote l0 0 (number 4 pai1 ⨾ number 4 0 ⨾ frameLay (getD w 0 0) (getD w 1 0) (getD w 2 0) (getD w 3 0) ⨾ number 4 (q .at) ⨾ namesLay ts ⨾ listed contentLay (q .at + 4 * k - 0) cs) l5 =
+          let w6 : Wrote l0 0 (bytes pai1 ⨾ number 4 0 ⨾ frameLay (getD w 0 0) (getD w 1 0) (getD w 2 0) (getD w 3 0) ⨾ number 4 (q .at) ⨾ namesLay ts ⨾ listed contentLay (q .at + 4 * k - 0) cs) l5 =
           wrote-like w5 (simp append-assoc) in
           whole-laid sectionLay h (wrote-patched w6 s (e .at) es e6) (rw (end, from, table-at, sym (at .frames), sym (at .looping), sym en ∙ nt, sym ek ∙ nc) pieces)

@@ -38,6 +38,11 @@ module _ {l m : List ℕ} {at : ℕ} where
   unfolding written
   wrote-bytes e = record { same = e }
 
+  -- letters
+  pub wrote-code : (k n : ℕ) → m ≡ put k l at n → Wrote l at (bytes (le k n)) m
+  unfolding put written
+  wrote-code k n e = record { same = e }
+
   pub wrote-then : {a b : Layout} {p : ℕ} {r : List ℕ} → Wrote l at a m → Wrote m p b r → p ≡ at + size a → Wrote l at (a ⨾ b) r
   unfolding written
   wrote-then {a} {b} {p} {r} h k e =

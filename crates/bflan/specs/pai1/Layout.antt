@@ -5,6 +5,7 @@ use lib.Dec.{eqb}
 use lib.ListN.{length}
 use Rattle.core.specs.Choice.{pick}
 use Rattle.core.specs.Fill.{paddingOf}
+use Rattle.core.specs.Number.{le}
 use Rattle.bflan.specs.pai1.Letters.{fleu}
 use Rattle.bflan.specs.pai1.Reading.{pai1}
 use Rattle.bflan.specs.pai1.Record.{AnimTarget, ExtendedUserDataAnim, AnimInfo, Standard, ExtendedUserData, AnimContent, PaneAnimInfo, keyWidths}
@@ -33,8 +34,9 @@ datumLay d =
 
 -- ---- an info
 
+-- letters are bytes, not a number
 unfoldable pub infoHead : ℕ → ℕ → Layout
-infoHead letters n = number 4 letters ⨾ number 1 n ⨾ number 1 0 ⨾ number 2 0
+infoHead letters n = bytes (le 4 letters) ⨾ number 1 n ⨾ number 1 0 ⨾ number 2 0
 
 unfoldable pub infoLay : AnimInfo → Layout
 infoLay (Standard letters ts) = infoHead letters (length ts) ⨾ table targetLay (8 + 4 * length ts) ts ⨾ parts targetLay ts
@@ -85,7 +87,7 @@ sectionSize r = contentTable r + (4 * length (r .contents) + size (parts content
 
 unfoldable pub sectionLay : PaneAnimInfo → Layout
 sectionLay r =
-    number 4 pai1 ⨾ number 4 (sectionSize r) ⨾ number 2 (r .frames) ⨾ number 1 (r .looping) ⨾ number 1 0 ⨾ number 2 (length (r .textures))
+    bytes pai1 ⨾ number 4 (sectionSize r) ⨾ number 2 (r .frames) ⨾ number 1 (r .looping) ⨾ number 1 0 ⨾ number 2 (length (r .textures))
     ⨾ number 2 (length (r .contents)) ⨾ number 4 (contentTable r) ⨾ table ended (4 * length (r .textures)) (r .textures)
     ⨾ parts ended (r .textures) ⨾ zeros (paddingOf (namesEnd r)) ⨾ table contentLay (contentTable r + 4 * length (r .contents)) (r .contents)
     ⨾ parts contentLay (r .contents)

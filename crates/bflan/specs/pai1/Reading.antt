@@ -4,6 +4,7 @@ use Prim.Native.Nat.{ℕ, zero, suc, _+_, _*_}
 use mathlib.Core.List.{List, [], _∷_, _++_, map}
 use lib.Dec.{leb, eqb}
 use Rattle.core.specs.Choice.{pick}
+use Rattle.core.specs.Number.{val}
 use Rattle.bflan.specs.declared.fault.Fault.the-variants.{OtherLetters}
 use Rattle.bflan.specs.pai1.Letters.{fleu, lettersOf, targetOf}
 use Rattle.bflan.specs.Reader.{P, _>>=_, ret, given, fail, here, Item, word, num, seekTo, skip, fixedText, oneEnded, numbers, many, visit}
@@ -113,9 +114,12 @@ texture base = do
   at ← seekTo base
   oneEnded
 
--- `pai1`
-abbrev pub pai1 : ℕ
-pai1 = 0x31696170
+-- the section's letters, by their ASCII codes, and the number that they are
+abbrev pub pai1 : List ℕ
+pai1 = 0x70 ∷ 0x61 ∷ 0x69 ∷ 0x31 ∷ []
+
+unfoldable pub ownLetters : ℕ
+ownLetters = val pai1
 
 -- looping: nonzero is yes
 unfoldable pub flagOf : ℕ → ℕ
@@ -148,4 +152,4 @@ unfoldable pub section : P (List Item)
 section = do
   letters ← num 4
   size ← num 4
-  given (eqb letters pai1) (body size) (fail (OtherLetters letters))
+  given (eqb letters ownLetters) (body size) (fail (OtherLetters letters))

@@ -5,7 +5,7 @@ ghost use lib.ListN.{length, getD};
 ghost use lib.Seq.{sets};
 ghost use Rattle.bflan.specs.Judge.{nextText, times, wide};
 ghost use Rattle.bflan.specs.pai1.Judge.{section};
-ghost use Rattle.bflan.specs.Layout.{number, _⨾_, written, ended};
+ghost use Rattle.bflan.specs.Layout.{number, bytes, _⨾_, written, ended};
 ghost use Rattle.bflan.specs.pai1.Layout.{sectionLay};
 ghost use Rattle.bflan.specs.pai1.Reading.{pai1};
 ghost use Rattle.bflan.specs.inner.Pen.{Ready, laid, penBehind, listed};
@@ -80,7 +80,7 @@ fn put_frame(out: &mut [u8], frames: u32, looping: u32, textures: u32, contents:
 
 // The letters, the place of the size, and what is behind them by the first four words; that place.
 fn put_start(words: &[u32], out: &mut [u8]) -> Placeholder32
-    ensures { λ r. ⌜ (r .0 ≡ 4) × (now (out .exit) ≡ sets (now (out .entry)) 0 (written (number 4 pai1 ⨾ number 4 0 ⨾ frameLay (getD (now (words .entry)) 0 0) (getD (now (words .entry)) 1 0) (getD (now (words .entry)) 2 0) (getD (now (words .entry)) 3 0)))) ⌝ }
+    ensures { λ r. ⌜ (r .0 ≡ 4) × (now (out .exit) ≡ sets (now (out .entry)) 0 (written (bytes pai1 ⨾ number 4 0 ⨾ frameLay (getD (now (words .entry)) 0 0) (getD (now (words .entry)) 1 0) (getD (now (words .entry)) 2 0) (getD (now (words .entry)) 3 0)))) ⌝ }
 {
     write_u32(out, 0, PAI1);
     let size = write_placeholder_u32(out, 4);
