@@ -42,11 +42,11 @@ row-bind {A} {B} (k ∷ ks) c d s i = go (num k s i) (λ v j. row-bind ks (λ vs
 
 -- ---- the numbers of a head at b, each by how far behind b it stands
 
-abbrev behind : ℕ → ℕ → ℕ
+abbrev pub behind : ℕ → ℕ → ℕ
 behind b zero = b
 behind b (suc o) = b + suc o
 
-behind-is : (b o : ℕ) → behind b o ≡ b + o
+pub behind-is : (b o : ℕ) → behind b o ≡ b + o
 behind-is b zero = omega arith
 behind-is b (suc o) = refl
 

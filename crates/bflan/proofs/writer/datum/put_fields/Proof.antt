@@ -1,6 +1,7 @@
 -- `writer::datum::put_fields` meets its contract.
 -- Assumes nothing.
-use Rattle.bflan.proofs.writer.LayoutParts.{fields-stored}
+use Rattle.bflan.specs.inner.LayoutParts.{datumHead}
+use Rattle.bflan.proofs.writer.LayoutParts.{stored-none, stored-more, row-stored}
 use borrow.Author.Needs.{needs}
 use Rattle.bflan.proofs.writer.datum.put_fields.Statement.{statement}
 use Rattle.bflan.proofs.writer.datum.put_fields.Tie as tie
@@ -36,7 +37,8 @@ same-length : tie.Need-same-length
 same-length c = search needs
 
 returns : tie.Need-returns
-returns c = fields-stored (c .before .before .before .before .before .before .before .before .before .before .before .before .before .before .before .before .before .before .before .before .before .args .at) (c .before .before .before .before .before .before .before .before .before .before .before .before .before .before .before .before .before .before .before .before .before .args .size) (c .before .before .before .before .before .before .before .before .before .before .before .before .before .before .before .before .before .before .before .before .before .args .one) (c .before .before .before .before .before .before .before .before .before .before .before .before .before .before .before .before .before .before .before .before .before .args .two) (c .before .before .before .before .before .before .before .before .before .before .before .before .before .before .before .before .before .before .before .before .before .args .base) (c .before .before .before .before .before .before .before .before .before .before .before .before .before .before .before .before .before .before .before .before .before .args .three) (c .before .before .before .before .before .before .before .before .before .before .before .before .before .before .before .before .before .before .write-u32 .ensures) (c .before .before .before .before .before .before .before .before .before .before .before .before .before .before .put-half .ensures) (c .before .before .before .before .before .before .before .before .before .before .put-half2 .ensures) (c .before .before .before .before .before .before .write-u322 .ensures) (c .before .before .write-u323 .ensures) .same
+unfolding datumHead
+returns c = row-stored (stored-more (c .before .before .before .before .before .before .before .before .before .before .before .before .before .before .before .before .before .before .write-u32 .ensures) (stored-more (c .before .before .before .before .before .before .before .before .before .before .before .before .before .before .put-half .ensures) (stored-more (c .before .before .before .before .before .before .before .before .before .before .put-half2 .ensures) (stored-more (c .before .before .before .before .before .before .write-u322 .ensures) (stored-more (c .before .before .write-u323 .ensures) stored-none)))))
 
 pub put-fields-spec : {M : Type 1} → statement M
 put-fields-spec =

@@ -1,6 +1,7 @@
 -- `writer::section::put_frame` meets its contract.
 -- Assumes nothing.
-use Rattle.bflan.proofs.writer.LayoutParts.{frame-stored}
+use Rattle.bflan.specs.inner.LayoutParts.{frameLay}
+use Rattle.bflan.proofs.writer.LayoutParts.{stored-none, stored-more, row-stored}
 use borrow.Author.Needs.{needs}
 use Rattle.bflan.proofs.writer.section.put_frame.Statement.{statement}
 use Rattle.bflan.proofs.writer.section.put_frame.Tie as tie
@@ -24,7 +25,8 @@ same-length : tie.Need-same-length
 same-length c = search needs
 
 returns : tie.Need-returns
-returns c = frame-stored (c .before .before .before .before .before .before .before .before .before .before .before .before .before .before .before .before .before .before .before .before .before .args .frames) (c .before .before .before .before .before .before .before .before .before .before .before .before .before .before .before .before .before .before .before .before .before .args .looping) (c .before .before .before .before .before .before .before .before .before .before .before .before .before .before .before .before .before .before .before .before .before .args .textures) (c .before .before .before .before .before .before .before .before .before .before .before .before .before .before .before .before .before .before .before .before .before .args .contents) (c .before .before .before .before .before .before .before .before .before .before .before .before .before .before .before .before .before .before .put-half .ensures) (c .before .before .before .before .before .before .before .before .before .before .before .before .before .before .put-byte .ensures) (c .before .before .before .before .before .before .before .before .before .before .put-byte2 .ensures) (c .before .before .before .before .before .before .put-half2 .ensures) (c .before .before .put-half3 .ensures) .same
+unfolding frameLay
+returns c = row-stored (stored-more (c .before .before .before .before .before .before .before .before .before .before .before .before .before .before .before .before .before .before .put-half .ensures) (stored-more (c .before .before .before .before .before .before .before .before .before .before .before .before .before .before .put-byte .ensures) (stored-more (c .before .before .before .before .before .before .before .before .before .before .put-byte2 .ensures) (stored-more (c .before .before .before .before .before .before .put-half2 .ensures) (stored-more (c .before .before .put-half3 .ensures) stored-none)))))
 
 pub put-frame-spec : {M : Type 1} → statement M
 put-frame-spec =
