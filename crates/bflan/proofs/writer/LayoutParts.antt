@@ -74,12 +74,12 @@ counts-stored {at = at} e f g = wrote-then (wrote-number e) (wrote-then (wrote-n
 
 pub data Stored (at : ℕ) : List ℕ → List ℕ → ℕ → List ℕ → List ℕ → Type 0 where
   stored-none : {o : ℕ} {l : List ℕ} → Stored at [] [] o l l
-  stored-more : {k v o : ℕ} {ks vs l m n : List ℕ} → m ≡ put k l (behind at o) v → Stored at ks vs (o + k) m n → Stored at (k ∷ ks) (v ∷ vs) o l n
+  stored-more : {k u v o : ℕ} {ks vs l m n : List ℕ} → m ≡ put k l (behind at o) u → u ≡ v → Stored at ks vs (o + k) m n → Stored at (k ∷ ks) (v ∷ vs) o l n
 
 stored-from : {at o : ℕ} {ks vs l n : List ℕ} → Stored at ks vs o l n → Wrote l (at + o) (rowLay ks vs) n
 unfolding rowLay written size
 stored-from stored-none = record { same = refl }
-stored-from {at} (stored-more {o = o} e r) = wrote-then (wrote-number (rw (behind-is at o) at e)) (stored-from r) (omega arith)
+stored-from {at} (stored-more {o = o} e d r) = wrote-then (wrote-number (rw (behind-is at o, d) at e)) (stored-from r) (omega arith)
 
 pub row-stored : {at : ℕ} {ks vs l n : List ℕ} → Stored at ks vs 0 l n → n ≡ sets l at (written (rowLay ks vs))
 row-stored {at} r = let e : at + 0 ≡ at = omega arith in rw e at (stored-from r .same)
@@ -361,10 +361,6 @@ numbers-parts : (vs : List ℕ) → written (parts (number 4) vs) ≡ numbersLe 
 unfolding parts written numbersLe
 numbers-parts [] = refl
 numbers-parts (v ∷ vs) = ap (λ (b : List ℕ). le 4 v ++ b) (numbers-parts vs)
-
-pub fields-by : {a b c d e p q r s t : ℕ} (out : List ℕ) (at : ℕ) {m : List ℕ} → a ≡ p → b ≡ q → c ≡ r → d ≡ s → e ≡ t
-    → m ≡ sets out at (written (datumHead a b c d e)) → m ≡ sets out at (written (datumHead p q r s t))
-fields-by out at ea eb ec ed ee h = rw (← ea, ← eb, ← ec, ← ed, ← ee) h
 
 pub front-stored : (w : List ℕ) (i at n : ℕ) {l0 l1 l2 l3 : List ℕ} → n ≡ 3 * getD w (i + 3) 0 → i + 5 + n ≤ length w
     → l1 ≡ sets l0 at (written (datumHead (getD w i 0) (getD w (i + 1) 0) (getD w (i + 2) 0) (getD w (i + 3) 0) (getD w (i + 4) 0)))

@@ -1,5 +1,6 @@
 -- `writer::section::put_frame` meets its contract.
 -- Assumes nothing.
+use mathlib.Core.Path.{refl}
 use Rattle.bflan.specs.inner.LayoutParts.{frameLay}
 use Rattle.bflan.proofs.writer.LayoutParts.{stored-none, stored-more, row-stored}
 use borrow.Author.Needs.{needs}
@@ -26,7 +27,7 @@ same-length c = search needs
 
 returns : tie.Need-returns
 unfolding frameLay
-returns c = row-stored (stored-more (c .before .before .before .before .before .before .before .before .before .before .before .before .before .before .before .before .before .before .put-half .ensures) (stored-more (c .before .before .before .before .before .before .before .before .before .before .before .before .before .before .put-byte .ensures) (stored-more (c .before .before .before .before .before .before .before .before .before .before .put-byte2 .ensures) (stored-more (c .before .before .before .before .before .before .put-half2 .ensures) (stored-more (c .before .before .put-half3 .ensures) stored-none)))))
+returns c = row-stored (stored-more (c .before .before .before .before .before .before .before .before .before .before .before .before .before .before .before .before .before .before .put-half .ensures) refl (stored-more (c .before .before .before .before .before .before .before .before .before .before .before .before .before .before .put-byte .ensures) refl (stored-more (c .before .before .before .before .before .before .before .before .before .before .put-byte2 .ensures) refl (stored-more (c .before .before .before .before .before .before .put-half2 .ensures) refl (stored-more (c .before .before .put-half3 .ensures) refl stored-none)))))
 
 pub put-frame-spec : {M : Type 1} → statement M
 put-frame-spec =

@@ -1,7 +1,7 @@
 -- `writer::target::put_head` meets its contract.
 -- Assumes nothing.
 use Prim.Native.Nat.{_+_, _-_}
-use mathlib.Core.Path.{_≡_}
+use mathlib.Core.Path.{_≡_, refl}
 use native.Mathlib.Omega.{arith}
 use Rattle.bflan.specs.inner.LayoutParts.{targetHead}
 use Rattle.bflan.proofs.writer.LayoutParts.{stored-none, stored-more, row-stored}
@@ -56,7 +56,7 @@ same-length c = search needs
 
 returns : tie.Need-returns
 unfolding targetHead
-returns c = let z : c .before .before .before .before .before .before .before .before .before .before .before .before .before .before .before .before .before .before .before .before .before .before .before .before .before .before .before .before .before .args .at + 12 - c .before .before .before .before .before .before .before .before .before .before .before .before .before .before .before .before .before .before .before .before .before .before .before .before .before .before .before .before .before .args .at ≡ 12 = omega arith in row-stored (stored-more (c .before .before .before .before .before .before .before .before .before .before .before .before .before .before .before .before .before .before .before .before .before .before .before .before .before .before .put-byte .ensures) (stored-more (c .before .before .before .before .before .before .before .before .before .before .before .before .before .before .before .before .before .before .before .before .before .before .put-byte2 .ensures) (stored-more (c .before .before .before .before .before .before .before .before .before .before .before .before .before .before .before .before .before .before .put-byte3 .ensures) (stored-more (c .before .before .before .before .before .before .before .before .before .before .before .before .before .before .put-byte4 .ensures) (stored-more (c .before .before .before .before .before .before .before .before .before .before .put-half .ensures) (stored-more (c .before .before .before .before .before .before .put-half2 .ensures) (stored-more (rw z at (c .before .before .put-offset .ensures)) stored-none)))))))
+returns c = let z : c .before .before .before .before .before .before .before .before .before .before .before .before .before .before .before .before .before .before .before .before .before .before .before .before .before .before .before .before .before .args .at + 12 - c .before .before .before .before .before .before .before .before .before .before .before .before .before .before .before .before .before .before .before .before .before .before .before .before .before .before .before .before .before .args .at ≡ 12 = omega arith in row-stored (stored-more (c .before .before .before .before .before .before .before .before .before .before .before .before .before .before .before .before .before .before .before .before .before .before .before .before .before .before .put-byte .ensures) refl (stored-more (c .before .before .before .before .before .before .before .before .before .before .before .before .before .before .before .before .before .before .before .before .before .before .put-byte2 .ensures) refl (stored-more (c .before .before .before .before .before .before .before .before .before .before .before .before .before .before .before .before .before .before .put-byte3 .ensures) refl (stored-more (c .before .before .before .before .before .before .before .before .before .before .before .before .before .before .put-byte4 .ensures) refl (stored-more (c .before .before .before .before .before .before .before .before .before .before .put-half .ensures) refl (stored-more (c .before .before .before .before .before .before .put-half2 .ensures) refl (stored-more (c .before .before .put-offset .ensures) z stored-none)))))))
 
 pub put-head-spec : {M : Type 1} → statement M
 put-head-spec =
