@@ -17,7 +17,7 @@ use Rattle.core.proofs.Numbers.{read-value, read-past}
 use Rattle.core.proofs.Seeks.{seek-there, seek-over}
 use Rattle.bflan.specs.declared.fault.Fault.{Fault}
 use Rattle.bflan.specs.declared.fault.Fault.the-variants.{PastEnd}
-use Rattle.bflan.specs.Reader.{Res, ok, stop, P, andThen, ret, num, seekTo}
+use Rattle.bflan.specs.Reader.{Res, ok, stop, P, andThen, num, seekTo}
 use Rattle.bflan.specs.pai1.FieldValues.{numbersIn}
 use Rattle.bflan.specs.pai1.Places.{total}
 use Rattle.bflan.specs.inner.Row.{widthOf, cutIn, soughtCut}

@@ -1,19 +1,16 @@
 -- A target, by its twelve bytes and its keys; and walks over targets, which have words alone.
 -- Assumes nothing.
-use Prim.Native.Nat.{ℕ, zero, suc, _+_, _-_, _*_, _<_, _≤_}
+use Prim.Native.Nat.{ℕ, zero, suc, _+_, _*_, _<_, _≤_}
 use mathlib.Core.Path.{_≡_, refl, ap, sym, _∙_}
-use mathlib.Core.Bool.{Bool, true, false}
 use mathlib.Core.List.{List, [], _∷_, _++_, map, map-append}
 use native.Mathlib.Omega.{arith}
-use borrow.Author.Tests.{leb-true, leb-false, le-leb, lt-leb}
-use lib.Dec.{leb}
+use borrow.Author.Tests.{le-leb, lt-leb}
 use lib.ListN.{length, getD}
 use lib.Seq.{sets, length-sets}
 use Rattle.core.specs.Number.{get}
 use Rattle.core.specs.Run.{pairsAt, pairsOf}
 use Rattle.core.specs.Seek.{seekOf}
 use Rattle.core.specs.declared.seek.Sought.the-variants.{At, Past as SoughtPast}
-use Rattle.core.proofs.Seeks.{seek-there, seek-over}
 use Rattle.core.proofs.Stores.{sets-append}
 use Rattle.bflan.specs.declared.fault.Fault.{Fault}
 use Rattle.bflan.specs.declared.fault.Fault.the-variants.{PastEnd}

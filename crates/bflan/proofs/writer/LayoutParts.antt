@@ -783,12 +783,6 @@ module _ (w x : List ℕ) (i j at : ℕ) {most : ℕ} (h : Ready contentLay (con
 
 -- ---- a section
 
-pub start-stored : (l0 : List ℕ) (a b c d p q r s : ℕ) {l1 l2 l3 : List ℕ} → a ≡ p → b ≡ q → c ≡ r → d ≡ s → l1 ≡ put 4 l0 0 pai1 → l2 ≡ put 4 l1 4 0
-    → l3 ≡ sets l2 8 (written (frameLay a b c d)) → l3 ≡ sets l0 0 (written (number 4 pai1 ⨾ number 4 0 ⨾ frameLay p q r s))
-unfolding size
-start-stored l0 a b c d p q r s ea eb ec ed e1 e2 e3 =
-    rw (← ea, ← eb, ← ec, ← ed) (wrote-then (wrote-number e1) (wrote-then {b = frameLay a b c d} (wrote-number e2) (record { same = e3 }) refl) refl .same)
-
 -- the texture names
 module _ (n : ℕ) (w x : List ℕ) {most : ℕ} (h : Ready namesLay (times n (nextText (wide 4)) w x 4 0) 20 most) where
   names-count : length (h .value) ≡ n

@@ -1,9 +1,11 @@
 -- `writer::section::put_start` meets its contract.
 -- Assumes nothing.
-use denote.Ref.{now}
-use Rattle.core.specs.Number.{val}
+use mathlib.Core.Path.{refl}
+use mathlib.Core.List.{[], _∷_}
+use Rattle.bflan.specs.Layout.{row}
+use Rattle.bflan.specs.inner.LayoutParts.{frameLay}
 use Rattle.bflan.specs.pai1.Reading.{pai1}
-use Rattle.bflan.proofs.writer.LayoutParts.{start-stored}
+use Rattle.bflan.proofs.writer.LayoutParts.{stored-none, stored-more, row-stored}
 use borrow.Author.Needs.{needs}
 use Rattle.bflan.proofs.writer.section.put_start.Statement.{statement}
 use Rattle.bflan.proofs.writer.section.put_start.Tie as tie
@@ -26,15 +28,27 @@ word-of-requires-3 c κs = search needs
 word-of-requires-4 : tie.Need-word-of-requires-4
 word-of-requires-4 c κs = search needs
 
-put-frame-requires : tie.Need-put-frame-requires
-put-frame-requires c κs = search needs
+put-half-requires : tie.Need-put-half-requires
+put-half-requires c κs = search needs
+
+put-byte-requires : tie.Need-put-byte-requires
+put-byte-requires c κs = search needs
+
+put-byte-requires-2 : tie.Need-put-byte-requires-2
+put-byte-requires-2 c κs = search needs
+
+put-half-requires-2 : tie.Need-put-half-requires-2
+put-half-requires-2 c κs = search needs
+
+put-half-requires-3 : tie.Need-put-half-requires-3
+put-half-requires-3 c κs = search needs
 
 same-length : tie.Need-same-length
 same-length c = search needs
 
 returns : tie.Need-returns
-unfolding pai1 val
-returns c = (c .before .before .before .before .before .before .before .before .before .before .write-placeholder-u32 .ensures .0, start-stored (now (c .before .before .before .before .before .before .before .before .before .before .before .before .before .before .before .before .before .before .args .out)) _ _ _ _ _ _ _ _ (c .before .before .before .before .before .before .before .word-of .ensures) (c .before .before .before .before .before .before .word-of2 .ensures) (c .before .before .before .before .before .word-of3 .ensures) (c .before .before .before .before .word-of4 .ensures) (c .before .before .before .before .before .before .before .before .before .before .before .before .before .before .write-u32 .ensures) (c .before .before .before .before .before .before .before .before .before .before .write-placeholder-u32 .ensures .1) (c .before .before .put-frame .ensures))
+unfolding frameLay row
+returns c = (c .before .before .before .before .before .before .before .before .before .before .before .before .before .before .before .before .before .before .before .before .before .before .before .before .before .before .write-placeholder-u32 .ensures .0, row-stored {ks = 4 ∷ 4 ∷ 2 ∷ 1 ∷ 1 ∷ 2 ∷ 2 ∷ []} {vs = pai1 ∷ 0 ∷ _ ∷ _ ∷ 0 ∷ _ ∷ _ ∷ []} (stored-more (c .before .before .before .before .before .before .before .before .before .before .before .before .before .before .before .before .before .before .before .before .before .before .before .before .before .before .before .before .before .before .write-u32 .ensures) refl (stored-more (c .before .before .before .before .before .before .before .before .before .before .before .before .before .before .before .before .before .before .before .before .before .before .before .before .before .before .write-placeholder-u32 .ensures .1) refl (stored-more (c .before .before .before .before .before .before .before .before .before .before .before .before .before .before .before .before .before .before .put-half .ensures) (c .before .before .before .before .before .before .before .before .before .before .before .before .before .before .before .before .before .before .before .before .before .before .before .word-of .ensures) (stored-more (c .before .before .before .before .before .before .before .before .before .before .before .before .before .before .put-byte .ensures) (c .before .before .before .before .before .before .before .before .before .before .before .before .before .before .before .before .before .before .before .before .before .before .word-of2 .ensures) (stored-more (c .before .before .before .before .before .before .before .before .before .before .put-byte2 .ensures) refl (stored-more (c .before .before .before .before .before .before .put-half2 .ensures) (c .before .before .before .before .before .before .before .before .before .before .before .before .before .before .before .before .before .before .before .before .before .word-of3 .ensures) (stored-more (c .before .before .put-half3 .ensures) (c .before .before .before .before .before .before .before .before .before .before .before .before .before .before .before .before .before .before .before .before .word-of4 .ensures) stored-none))))))))
 
 pub put-start-spec : {M : Type 1} → statement M
 put-start-spec =
@@ -46,6 +60,10 @@ put-start-spec =
     word-of-requires-2
     word-of-requires-3
     word-of-requires-4
-    put-frame-requires
+    put-half-requires
+    put-byte-requires
+    put-byte-requires-2
+    put-half-requires-2
+    put-half-requires-3
     same-length
     returns)
