@@ -4,5 +4,6 @@ pub mod LayoutParts
 pub mod Measure
 pub mod Path
 pub mod Pen
+pub mod Row
 pub mod SectionParts
 pub mod Walk

@@ -5,6 +5,7 @@ pub mod emit;
 pub mod info;
 pub mod keys;
 pub mod offset;
+pub mod row;
 pub mod section;
 pub mod tally;
 pub mod target;

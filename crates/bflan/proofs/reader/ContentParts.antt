@@ -25,10 +25,12 @@ use Rattle.bflan.specs.Reader.{Res, ok, stop, andThen, _>>=_, ret, Item,
 use Rattle.bflan.specs.pai1.Reading.{info, typeOf, infoTable, content}
 use Rattle.bflan.specs.pai1.RecordAt.{nameSize}
 use Rattle.bflan.specs.Items.{shownAt}
+use Rattle.bflan.specs.pai1.Places.{total}
+use Rattle.bflan.specs.inner.Row.{cutIn}
 use Rattle.bflan.specs.inner.Walk.{withWords, withText, walkOf}
 use Rattle.bflan.proofs.reader.Emits.{sought-on, sought-past, sought-there, run-put2, run-named}
-use Rattle.bflan.proofs.reader.KeyRuns.{num-there, num-to, num-short, numbers-run}
-use Rattle.bflan.proofs.reader.Rows.{rowThen, Row}
+use Rattle.bflan.proofs.reader.KeyRuns.{num-there, num-short, numbers-run}
+use Rattle.bflan.proofs.reader.Rows.{rowThen, fieldsAt, row-there, row-cut}
 use Rattle.bflan.proofs.reader.Walks.{before, before-before, put-before}
 
 -- ---- the name
@@ -59,6 +61,9 @@ contentAfter base name vs =
     _>>=_ (infoTable base (getD vs 1 0))
     (λ at. _>>=_ (numbers (getD vs 0 0)) (λ offsets. _>>=_ (visit base info offsets) (λ is. ret (name ∷ word (typeOf (getD vs 1 0)) ∷ word (getD vs 0 0) ∷ is))))
 
+abbrev pub widths : List ℕ
+widths = 1 ∷ 1 ∷ 2 ∷ []
+
 module _ (base : ℕ) (s : List ℕ) (i : ℕ) where
   whole-name : base + 28 ≤ length s → fixedText 28 s base ≡ ok (text base (nameSize s base)) (base + 28)
   whole-name h = let e : base + min 28 (length s - base) ≡ base + 28 = omega arith in name-there s base (omega arith) ∙ ap (λ (n : ℕ). ok (text base (nameSize s base)) n) e
@@ -78,10 +83,10 @@ module _ (base : ℕ) (s : List ℕ) (i : ℕ) where
     unfolding content fixedText
     content-unended a f = rw (sought-on s base i p e, f)
 
-    -- its three numbers as a row, and what is behind them
-    pub content-row : {len q : ℕ} {x : Res (List Item)} → fixedOf 28 s p ≡ Text len q → Row (1 ∷ 1 ∷ 2 ∷ []) (contentAfter base (text p len)) s q x → content base s i ≡ x
-    unfolding content fixedText rowThen
-    content-row f r = rw (sought-on s base i p e, f) (r .gives)
+    -- its three numbers are a row
+    pub content-short : {len q : ℕ} {a : Fault} → fixedOf 28 s p ≡ Text len q → length s < q + 4 → a ≡ cutIn widths s q → content base s i ≡ stop a
+    unfolding content fixedText rowThen total
+    content-short {len} {q} f h d = rw (d, sought-on s base i p e, f) (row-cut s widths (contentAfter base (text p len)) q (omega arith) h)
 
   -- ---- behind them
 
@@ -91,14 +96,11 @@ module _ (base : ℕ) (s : List ℕ) (i : ℕ) where
       _>>=_ (numbers n) (λ offsets. _>>=_ (visit base info offsets) (λ is. ret (text base (nameSize s base) ∷ word (typeOf type) ∷ word n ∷ is))) s q
 
   abbrev pub contentRest : ℕ → ℕ → Res (List Item)
-  contentRest n type =
-      _>>=_ (infoTable base type)
-      (λ at. _>>=_ (numbers n) (λ offsets. _>>=_ (visit base info offsets) (λ is. ret (text base (nameSize s base) ∷ word (typeOf type) ∷ word n ∷ is))))
-      s (base + 32)
+  contentRest n type = contentAfter base (text base (nameSize s base)) (n ∷ type ∷ []) s (base + 32)
 
   pub content-there : base + 32 ≤ length s → content base s i ≡ contentRest (get 1 s (base + 28)) (get 1 s (base + 29))
-  unfolding content
-  content-there h = rw (sought-there s base i (omega arith), whole-name (omega arith), num-to 1 s (base + 28) (base + 29) (omega arith) (omega arith), num-to 1 s (base + 29) (base + 30) (omega arith) (omega arith), num-to 2 s (base + 30) (base + 32) (omega arith) (omega arith))
+  unfolding content rowThen total fieldsAt
+  content-there h = rw (sought-there s base i (omega arith), whole-name (omega arith)) (row-there s widths (contentAfter base (text base (nameSize s base))) base 28 h)
 
   pub rest-at : (n type q : ℕ) → infoTable base type s (base + 32) ≡ ok q q → contentRest n type ≡ contentTable n type q
   rest-at n type q e = rw e

@@ -6,7 +6,7 @@ use mathlib.Core.List.{List, [], _∷_, _++_, map}
 use native.Mathlib.Omega.{arith}
 use lib.ListN.{length, getD, set}
 use lib.Seq.{sets, length-sets}
-use Rattle.core.specs.Number.{readOf}
+use Rattle.core.specs.Number.{get, readOf}
 use Rattle.core.specs.declared.number.Read.the-variants.{Value, Past as ReadPast}
 use Rattle.core.proofs.Stores.{sets-append}
 use Rattle.bflan.specs.declared.reader.datum.Fields.{Fields}
@@ -16,13 +16,15 @@ use Rattle.bflan.specs.declared.reader.tally.Tally.{Tally}
 use Rattle.bflan.specs.inner.DatumParts.{head, fieldsOf, keyText, valuesAndKeyText}
 use Rattle.bflan.specs.Reader.{Res, ok, stop, P, andThen, _>>=_, ret, here, Item, word, num, seekTo, oneEnded, numbers}
 use Rattle.bflan.specs.pai1.Reading.{texture, datum}
+use Rattle.bflan.specs.pai1.Places.{total}
+use Rattle.bflan.specs.inner.Row.{cutIn}
 use Rattle.bflan.specs.inner.Walk.{asItems, sat, withWords, walkOf}
 use Rattle.bflan.proofs.reader.Emits.{num-on, num-past}
 use Rattle.bflan.proofs.reader.KeyRuns.{words-words, texts-words, tallied-words, moved-more}
-use Rattle.bflan.proofs.reader.Rows.{rowThen, Row, row-bind}
+use Rattle.bflan.proofs.reader.Rows.{rowThen, row-bind, fieldsAt, row-there, row-cut}
 use Rattle.bflan.proofs.reader.Walks.{before, joined, put-before, sets-sat, run-before}
 
--- ---- the head: the reads of the code are a row
+-- ---- the head: its reads are a row
 
 abbrev pub fieldsIn : List ℕ → Fields
 fieldsIn vs = record { size = getD vs 0 0; one = getD vs 1 0; two = getD vs 2 0; base = getD vs 3 0; three = getD vs 4 0 }
@@ -34,8 +36,15 @@ head-row : (s : List ℕ) (p : ℕ) → head s p ≡ rowThen widths (λ vs. ret 
 unfolding head rowThen
 head-row s p = refl
 
-pub head-by : (s : List ℕ) (p : ℕ) {x : Res Fields} → Row widths (λ vs. ret (fieldsIn vs)) s p x → x ≡ head s p
-head-by s p r = sym (head-row s p ∙ r .gives)
+module _ (s : List ℕ) (p : ℕ) where
+  pub head-short : {f : Fault} → length s < p + 16 → f ≡ cutIn widths s p → stop f ≡ head s p
+  unfolding total
+  head-short h e = rw e (sym (head-row s p ∙ row-cut s widths (λ vs. ret (fieldsIn vs)) p (omega arith) h))
+
+  pub head-there : {a b c d e : ℕ} → p + 16 ≤ length s → a ≡ get 4 s p → b ≡ get 2 s (p + 4) → c ≡ get 2 s (p + 6) → d ≡ get 4 s (p + 8) → e ≡ get 4 s (p + 12)
+      → ok (record { size = a; one = b; two = c; base = d; three = e }) (p + 16) ≡ head s p
+  unfolding total fieldsAt
+  head-there h ea eb ec ed ee = rw (ea, eb, ec, ed, ee) (sym (head-row s p ∙ row-there s widths (λ vs. ret (fieldsIn vs)) p 0 h))
 
 -- ---- the key text, by core's answer
 

@@ -1,25 +1,24 @@
 -- An info by its eight bytes: the reads of its head, and what follows it.
 -- Assumes nothing.
-use Prim.Native.Nat.{ℕ, _+_, _≤_}
-use mathlib.Core.Path.{_≡_, ap, sym, _∙_}
+use Prim.Native.Nat.{ℕ, _+_, _<_, _≤_}
+use mathlib.Core.Path.{_≡_, refl, ap, sym, _∙_}
 use mathlib.Core.List.{List, [], _∷_}
-use native.Mathlib.Omega.{arith}
 use borrow.Author.Tests.{eq-eqb, ne-eqb}
 use lib.Dec.{eqb}
 use lib.ListN.{length, getD}
 use Rattle.core.specs.Number.{get}
-use Rattle.core.specs.Seek.{seekOf}
-use Rattle.core.specs.declared.seek.Sought.the-variants.{At, Past as SoughtPast}
 use Rattle.core.specs.Run.{numbersAt}
 use Rattle.core.specs.declared.run.Run.the-variants.{Next, Cut}
 use Rattle.core.specs.Run.{numbersOf}
+use Rattle.bflan.specs.declared.fault.Fault.{Fault}
 use Rattle.bflan.specs.declared.fault.Fault.the-variants.{PastEnd}
 use Rattle.bflan.specs.pai1.Letters.{fleu, lettersOf}
-use Rattle.bflan.specs.Reader.{Res, ok, stop, _>>=_, ret, given, Item, word, numbers, many, visit}
+use Rattle.bflan.specs.Reader.{Res, ok, stop, andThen, _>>=_, ret, given, Item, word, seekTo, numbers, many, visit}
 use Rattle.bflan.specs.pai1.Reading.{target, datum, info}
-use Rattle.bflan.proofs.reader.Emits.{sought-on, sought-past, sought-there}
-use Rattle.bflan.proofs.reader.KeyRuns.{num-to, numbers-run}
-use Rattle.bflan.proofs.reader.Rows.{rowThen, Row}
+use Rattle.bflan.specs.pai1.Places.{total}
+use Rattle.bflan.specs.inner.Row.{soughtCut}
+use Rattle.bflan.proofs.reader.KeyRuns.{numbers-run}
+use Rattle.bflan.proofs.reader.Rows.{rowThen, fieldsAt, sought-row, sought-short}
 use Rattle.bflan.proofs.reader.Walks.{before, put-before}
 
 -- what is read behind the numbers of an info's head
@@ -29,27 +28,26 @@ infoAfter base vs =
     (_>>=_ (many (getD vs 1 0) datum) (λ ds. ret (word fleu ∷ word (getD vs 1 0) ∷ ds)))
     (_>>=_ (numbers (getD vs 1 0)) (λ offsets. _>>=_ (visit base (target (getD vs 0 0)) offsets) (λ ts. ret (word (lettersOf (getD vs 0 0)) ∷ word (getD vs 1 0) ∷ ts))))
 
-module _ (base : ℕ) (s : List ℕ) (i : ℕ) where
-  pub info-past : (o k : ℕ) → seekOf s base ≡ SoughtPast o k → info base s i ≡ stop (PastEnd o k)
-  unfolding info
-  info-past o k e = rw (sought-past s base i o k e)
+abbrev pub widths : List ℕ
+widths = 4 ∷ 1 ∷ 1 ∷ 2 ∷ []
 
-  -- its numbers as a row, and what is behind them
-  pub info-row : {p : ℕ} {x : Res (List Item)} → seekOf s base ≡ At p → Row (4 ∷ 1 ∷ 1 ∷ 2 ∷ []) (infoAfter base) s p x → info base s i ≡ x
+module _ (base : ℕ) (s : List ℕ) (i : ℕ) where
+  -- a seek, its numbers as a row, and what is behind them
+  info-seek : info base s i ≡ andThen (seekTo base s i) (λ at. rowThen widths (infoAfter base)) s
   unfolding info rowThen
-  info-row {p} e r = rw (sought-on s base i p e) (r .gives)
+  info-seek = refl
+
+  pub info-short : {f : Fault} → length s < base + 8 → f ≡ soughtCut widths s base → info base s i ≡ stop f
+  unfolding total
+  info-short h e = rw e (info-seek ∙ sought-short s widths (infoAfter base) base i h)
 
   -- what follows the head, by its letters and its count
   abbrev pub infoRest : ℕ → ℕ → Res (List Item)
-  infoRest letters n =
-      given (eqb letters fleu)
-      (_>>=_ (many n datum) (λ ds. ret (word fleu ∷ word n ∷ ds)))
-      (_>>=_ (numbers n) (λ offsets. _>>=_ (visit base (target letters) offsets) (λ ts. ret (word (lettersOf letters) ∷ word n ∷ ts))))
-      s (base + 8)
+  infoRest letters n = infoAfter base (letters ∷ n ∷ []) s (base + 8)
 
   pub info-there : base + 8 ≤ length s → info base s i ≡ infoRest (get 4 s base) (get 1 s (base + 4))
-  unfolding info
-  info-there h = rw (sought-there s base i (omega arith), num-to 4 s base (base + 4) (omega arith) (omega arith), num-to 1 s (base + 4) (base + 5) (omega arith) (omega arith), num-to 1 s (base + 5) (base + 6) (omega arith) (omega arith), num-to 2 s (base + 6) (base + 8) (omega arith) (omega arith))
+  unfolding total fieldsAt
+  info-there h = info-seek ∙ sought-row s widths (infoAfter base) base i h
 
   -- an extended info
   pub rest-extended : (letters n : ℕ) → letters ≡ fleu → infoRest letters n ≡ before (word fleu ∷ word n ∷ []) (many n datum s (base + 8))

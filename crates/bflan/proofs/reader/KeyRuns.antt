@@ -36,10 +36,6 @@ pub num-there : (k : ℕ) (s : List ℕ) (p : ℕ) → p + k ≤ length s → nu
 unfolding num
 num-there k s p h = rw (read-there k s p h)
 
--- the same, with the place behind it by its name
-pub num-to : (k : ℕ) (s : List ℕ) (p q : ℕ) → p + k ≡ q → q ≤ length s → num k s p ≡ ok (get k s p) q
-num-to k s p q e h = num-there k s p (omega arith) ∙ ap (ok (get k s p)) e
-
 pub num-short : (k : ℕ) (s : List ℕ) (p : ℕ) → length s < p + k → num k s p ≡ stop (PastEnd p k)
 unfolding num
 num-short k s p h = rw (read-short k s p h)

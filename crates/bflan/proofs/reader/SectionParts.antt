@@ -1,6 +1,6 @@
 -- A section by its header, its head and what is behind them.
 -- Assumes nothing.
-use Prim.Native.Nat.{ℕ, _+_, _-_, _<_, _≤_}
+use Prim.Native.Nat.{ℕ, _+_, _<_, _≤_}
 use mathlib.Core.Path.{_≡_, refl, ap, sym, _∙_}
 use mathlib.Core.List.{List, [], _∷_, _++_, append-nil, map}
 use native.Mathlib.Omega.{arith}
@@ -8,11 +8,13 @@ use borrow.Author.Tests.{eq-eqb, ne-eqb}
 use lib.Dec.{eqb}
 use lib.ListN.{length, getD}
 use lib.Seq.{sets}
-use Rattle.core.specs.Number.{get}
+use Rattle.core.specs.Number.{get, readOf}
 use Rattle.core.specs.Run.{numbersAt, numbersOf}
 use Rattle.core.specs.Seek.{seekOf}
+use Rattle.core.specs.declared.number.Read.the-variants.{Value, Past as ReadPast}
 use Rattle.core.specs.declared.run.Run.the-variants.{Next, Cut}
 use Rattle.core.specs.declared.seek.Sought.the-variants.{At, Past as SoughtPast}
+use Rattle.core.proofs.Numbers.{read-value}
 use Rattle.bflan.specs.declared.fault.Fault.{Fault}
 use Rattle.bflan.specs.declared.fault.Fault.the-variants.{PastEnd, OtherLetters}
 use Rattle.bflan.specs.declared.reader.section.SectionHead.{SectionHead}
@@ -25,9 +27,10 @@ use Rattle.bflan.specs.pai1.Reading.{content, texture, contents, ownLett
 use Rattle.bflan.specs.inner.SectionParts.{header, head, headWords, afterHead, contentsAndSize, texturesAndContents}
 use Rattle.bflan.specs.inner.Walk.{withWords, walkOf, walked}
 use Rattle.bflan.specs.pai1.Places.{total}
-use Rattle.bflan.proofs.reader.Emits.{sought-on, sought-past, four-stores}
+use Rattle.bflan.specs.inner.Row.{cutIn}
+use Rattle.bflan.proofs.reader.Emits.{sought-on, sought-past, num-on, num-past, four-stores}
 use Rattle.bflan.proofs.reader.KeyRuns.{num-there, numbers-run}
-use Rattle.bflan.proofs.reader.Rows.{rowThen, Row, row-bind, row-ends}
+use Rattle.bflan.proofs.reader.Rows.{rowThen, row-bind, fieldsAt, row-there, row-cut, row-fits}
 use Rattle.bflan.proofs.reader.TargetParts.{run-words}
 use Rattle.bflan.proofs.reader.Walks.{before, joined, put-before, turn-on, turn-no, told-stop, told-ok}
 
@@ -60,22 +63,6 @@ module _ (s : List ℕ) where
   pub section-body : 8 ≤ length s → get 4 s 0 ≡ ownLetters → section s 0 ≡ body (get 4 s 4) s 8
   unfolding section
   section-body h e = rw (num-there 4 s 0 (omega arith), num-there 4 s 4 h, eq-eqb (get 4 s 0) ownLetters e)
-
-  -- ---- the next twelve
-
-  module _ (size : ℕ) where
-    -- the four words of the head that the bytes are
-    abbrev pub headItems : List Item
-    headItems = word (get 2 s 8) ∷ word (flagOf (get 1 s 10)) ∷ word (get 2 s 12) ∷ word (get 2 s 14) ∷ []
-
-    module _ (h : 20 ≤ length s) where
-      pub body-there : (q : ℕ) → numbersOf (get 2 s 12) s 20 ≡ Next q
-          → body size s 8 ≡ before headItems (joined (visit 20 texture (numbersAt (get 2 s 12) s 20) s q) (λ j. joined (contents (get 4 s 16) (get 2 s 14) s j) (λ k. endAt (seekTo size s k))))
-      unfolding body
-      body-there q t =
-          let r : numbers (get 2 s 12) s 20 ≡ ok (numbersAt (get 2 s 12) s 20) q = numbers-run (get 2 s 12) s 20 ∙ rw t in
-          rw (num-there 2 s 8 (omega arith), num-there 1 s 10 (omega arith), num-there 1 s 11 (omega arith), num-there 2 s 12 (omega arith), num-there 2 s 14 (omega arith), num-there 4 s 16 h, r)
-          (chain headItems s size (get 4 s 16) (get 2 s 14) (visit 20 texture (numbersAt (get 2 s 12) s 20) s q))
 
 -- ---- the contents
 
@@ -132,23 +119,23 @@ abbrev pub widths : List ℕ
 widths = 2 ∷ 1 ∷ 1 ∷ 2 ∷ 2 ∷ 4 ∷ []
 
 module _ (s : List ℕ) where
-  -- the reads of the code, as a row, are the head
+  -- its reads are a row
   head-row : head s 8 ≡ rowThen widths (λ vs. ret (headOf vs)) s 8
   unfolding head rowThen
   head-row = refl
 
-  head-ends : (h : SectionHead) (q : ℕ) → rowThen widths (λ vs. ret (headOf vs)) s 8 ≡ ok h q → (q ≡ 20) × (q ≤ length s)
+  pub head-short : {f : Fault} → length s < 20 → f ≡ cutIn widths s 8 → stop f ≡ head s 8
   unfolding total
-  head-ends h q e = row-ends s 2 (1 ∷ 1 ∷ 2 ∷ 2 ∷ 4 ∷ []) headOf 8 h q e
+  head-short h e = rw e (sym (head-row ∙ row-cut s widths (λ vs. ret (headOf vs)) 8 (omega arith) h))
 
-  pub head-stop : (f : Fault) → Row widths (λ vs. ret (headOf vs)) s 8 (stop f) → stop f ≡ head s 8
-  head-stop f r = sym (head-row ∙ r .gives)
-
-  pub head-whole : (h : SectionHead) (q : ℕ) → Row widths (λ vs. ret (headOf vs)) s 8 (ok h q) → ok h 20 ≡ head s 8
-  head-whole h q r = sym (head-row ∙ r .gives ∙ ap (ok h) (head-ends h q (r .gives) .0))
+  pub head-there : {a b c d e : ℕ} → 20 ≤ length s → a ≡ get 2 s 8 → b ≡ get 1 s 10 → c ≡ get 2 s 12 → d ≡ get 2 s 14 → e ≡ get 4 s 16
+      → ok (record { frames = a; looping = b; textures = c; contents = d; table = e }) 20 ≡ head s 8
+  unfolding total fieldsAt
+  head-there h ea eb ec ed ee = rw (ea, eb, ec, ed, ee) (sym (head-row ∙ row-there s widths (λ vs. ret (headOf vs)) 8 0 h))
 
   pub head-fits : (h : SectionHead) → ok h 20 ≡ head s 8 → 20 ≤ length s
-  head-fits h e = head-ends h 20 (sym head-row ∙ sym e) .1
+  unfolding total
+  head-fits h e = row-fits s widths (λ vs. ret (headOf vs)) 8 (omega arith) (sym head-row ∙ sym e)
 
   module _ (size : ℕ) where
     body-row : body size s 8 ≡ rowThen widths (λ vs. afterHead size (headOf vs)) s 8
@@ -171,15 +158,30 @@ module _ (s : List ℕ) where
           let r : numbers (h .textures) s 20 ≡ stop (PastEnd o k) = numbers-run (h .textures) s 20 ∙ rw t in
           rw r
 
-      pub behind-parts : (q : ℕ) → numbersOf (h .textures) s 20 ≡ Next q
-          → afterHead size h s 20 ≡ before (map word (headWords h)) (texturesAndContents size (numbersAt (h .textures) s 20) (h .table) (h .contents) s q)
+      behind-chain : (q : ℕ) → numbersOf (h .textures) s 20 ≡ Next q
+          → afterHead size h s 20
+          ≡ before (map word (headWords h)) (joined (visit 20 texture (numbersAt (h .textures) s 20) s q) (λ j. joined (contents (h .table) (h .contents) s j) (λ k. endAt (seekTo size s k))))
       unfolding afterHead
-      behind-parts q t =
+      behind-chain q t =
           let os = numbersAt (h .textures) s 20 in
           let r : numbers (h .textures) s 20 ≡ ok os q = numbers-run (h .textures) s 20 ∙ rw t in
-          rw r
-          (chain (map word (headWords h)) s size (h .table) (h .contents) (visit 20 texture os s q)
-          ∙ ap (before (map word (headWords h))) (chained s size (h .table) (h .contents) (visit 20 texture os s q) ∙ sym (parts-is s size (h .table) (h .contents) os q)))
+          rw r (chain (map word (headWords h)) s size (h .table) (h .contents) (visit 20 texture os s q))
+
+      pub behind-parts : (q : ℕ) → numbersOf (h .textures) s 20 ≡ Next q
+          → afterHead size h s 20 ≡ before (map word (headWords h)) (texturesAndContents size (numbersAt (h .textures) s 20) (h .table) (h .contents) s q)
+      behind-parts q t =
+          let os = numbersAt (h .textures) s 20 in
+          behind-chain q t
+          ∙ ap (before (map word (headWords h))) (chained s size (h .table) (h .contents) (visit 20 texture os s q) ∙ sym (parts-is s size (h .table) (h .contents) os q))
+
+    -- the four words of the head that the bytes are
+    abbrev pub headItems : List Item
+    headItems = word (get 2 s 8) ∷ word (flagOf (get 1 s 10)) ∷ word (get 2 s 12) ∷ word (get 2 s 14) ∷ []
+
+    pub body-there : 20 ≤ length s → (q : ℕ) → numbersOf (get 2 s 12) s 20 ≡ Next q
+        → body size s 8 ≡ before headItems (joined (visit 20 texture (numbersAt (get 2 s 12) s 20) s q) (λ j. joined (contents (get 4 s 16) (get 2 s 14) s j) (λ k. endAt (seekTo size s k))))
+    unfolding total fieldsAt
+    body-there h q t = body-row ∙ row-there s widths (λ vs. afterHead size (headOf vs)) 8 0 h ∙ behind-chain (headOf (fieldsAt widths s 8 0)) q t
 
 -- ---- the header, and what is behind it
 
@@ -191,15 +193,20 @@ module _ (s : List ℕ) where
   unfolding header rowThen
   header-row = refl
 
-  header-ends : (h : SectionHeader) (q : ℕ) → rowThen (4 ∷ 4 ∷ []) (λ vs. ret (headerOf vs)) s 0 ≡ ok h q → q ≡ 8
-  unfolding total
-  header-ends h q e = row-ends s 4 (4 ∷ []) headerOf 0 h q e .0
+  pub header-first : {o k : ℕ} → readOf 4 s 0 ≡ ReadPast o k → stop (PastEnd o k) ≡ header s 0
+  unfolding header
+  header-first e = rw (num-past 4 s 0 _ _ e)
 
-  pub header-stop : (f : Fault) → Row (4 ∷ 4 ∷ []) (λ vs. ret (headerOf vs)) s 0 (stop f) → stop f ≡ header s 0
-  header-stop f r = sym (header-row ∙ r .gives)
+  module _ {v p : ℕ} (e : readOf 4 s 0 ≡ Value v p) where
+    pub header-second : {o k : ℕ} → readOf 4 s p ≡ ReadPast o k → stop (PastEnd o k) ≡ header s 0
+    unfolding header
+    header-second d = rw (num-on 4 s 0 v p e, num-past 4 s p _ _ d)
 
-  pub header-whole : (h : SectionHeader) (q : ℕ) → Row (4 ∷ 4 ∷ []) (λ vs. ret (headerOf vs)) s 0 (ok h q) → ok h 8 ≡ header s 0
-  header-whole h q r = sym (header-row ∙ r .gives ∙ ap (ok h) (header-ends h q (r .gives)))
+    pub header-whole : {n q : ℕ} → readOf 4 s p ≡ Value n q → ok (record { magic = v; size = n }) 8 ≡ header s 0
+    unfolding header
+    header-whole {n} {q} d =
+        let z : q ≡ 8 = omega (arith, read-value 4 s 0 v p e .next, read-value 4 s p n q d .next) in
+        rw (num-on 4 s 0 v p e, num-on 4 s p n q d, z)
 
   -- a section by its header
   behindHeader : SectionHeader → List ℕ → ℕ → Res (List Item)

@@ -1,19 +1,16 @@
 -- A target, by its twelve bytes and its keys; and walks over targets, which have words alone.
 -- Assumes nothing.
-use Prim.Native.Nat.{ℕ, zero, suc, _+_, _-_, _*_, _<_, _≤_}
+use Prim.Native.Nat.{ℕ, zero, suc, _+_, _*_, _<_, _≤_}
 use mathlib.Core.Path.{_≡_, refl, ap, sym, _∙_}
-use mathlib.Core.Bool.{Bool, true, false}
 use mathlib.Core.List.{List, [], _∷_, _++_, map, map-append}
 use native.Mathlib.Omega.{arith}
-use borrow.Author.Tests.{leb-true, leb-false, le-leb, lt-leb}
-use lib.Dec.{leb}
+use borrow.Author.Tests.{le-leb, lt-leb}
 use lib.ListN.{length, getD}
 use lib.Seq.{sets, length-sets}
 use Rattle.core.specs.Number.{get}
 use Rattle.core.specs.Run.{pairsAt, pairsOf}
 use Rattle.core.specs.Seek.{seekOf}
 use Rattle.core.specs.declared.seek.Sought.the-variants.{At, Past as SoughtPast}
-use Rattle.core.proofs.Seeks.{seek-there, seek-over}
 use Rattle.core.proofs.Stores.{sets-append}
 use Rattle.bflan.specs.declared.fault.Fault.{Fault}
 use Rattle.bflan.specs.declared.fault.Fault.the-variants.{PastEnd}
@@ -23,14 +20,16 @@ use Rattle.bflan.specs.declared.reader.tally.Walk.the-variants.{Went, St
 use Rattle.bflan.specs.pai1.Letters.{targetOf}
 use Rattle.bflan.specs.Reader.{Res, ok, stop, P, andThen, _>>=_, ret, Item, word, num, seekTo, numbers, visit}
 use Rattle.bflan.specs.pai1.Reading.{curveOf, countOf, keys, target}
+use Rattle.bflan.specs.pai1.Places.{total}
+use Rattle.bflan.specs.inner.Row.{soughtCut}
 use Rattle.bflan.specs.inner.Walk.{asItems, sat, withWords, walkOf, walked}
 use Rattle.bflan.specs.Items.{wordsOf}
-use Rattle.bflan.proofs.reader.Emits.{sought-on, sought-past, sought-there}
-use Rattle.bflan.proofs.reader.KeyRuns.{asNumbers, num-to, keys-constant, keys-step, keys-hermite, keys-above, texts-words, words-more, texts-more, tallied-more, moved-fits}
-use Rattle.bflan.proofs.reader.Rows.{rowThen, Row}
+use Rattle.bflan.proofs.reader.Emits.{sought-on, sought-past}
+use Rattle.bflan.proofs.reader.KeyRuns.{asNumbers, keys-constant, keys-step, keys-hermite, keys-above, texts-words, words-more, texts-more, tallied-more, moved-fits}
+use Rattle.bflan.proofs.reader.Rows.{rowThen, fieldsAt, sought-row, sought-short}
 use Rattle.bflan.proofs.reader.Walks.{Three, before, joined, before-before, put-before, visit-cons, visit-nil, sets-sat}
 
--- ---- the reads of its head, by core's answers
+-- ---- its head
 
 -- what is read behind the numbers of a target's head
 abbrev pub targetAfter : ℕ → ℕ → List ℕ → List ℕ → ℕ → Res (List Item)
@@ -48,26 +47,22 @@ module _ (letters base : ℕ) (s : List ℕ) (i : ℕ) where
   unfolding target rowThen
   target-seek = refl
 
-  pub target-out : (o k : ℕ) → seekOf s base ≡ SoughtPast o k → target letters base s i ≡ stop (PastEnd o k)
-  target-out o k e = target-seek ∙ rw (sought-past s base i o k e)
-
-  pub target-row : {p : ℕ} {x : Res (List Item)} → seekOf s base ≡ At p → Row widths (targetAfter letters base) s p x → target letters base s i ≡ x
-  target-row {p} e r = target-seek ∙ rw (sought-on s base i p e) (r .gives)
+  pub target-short : {f : Fault} → length s < base + 12 → f ≡ soughtCut widths s base → target letters base s i ≡ stop f
+  unfolding total
+  target-short h e = rw e (target-seek ∙ sought-short s widths (targetAfter letters base) base i h)
 
   -- with all of them there it goes on with its keys, where its offset is in the section
-  abbrev targetRest : ℕ → ℕ → ℕ → ℕ → ℕ → Res (List Item)
-  targetRest layer raw curve n offset =
-      _>>=_ (seekTo (base + offset)) (λ at. _>>=_ (keys curve n) (λ ks. ret (word layer ∷ word (targetOf letters raw) ∷ word (curveOf curve) ∷ word (countOf curve n) ∷ ks))) s (base + 12)
-
-  target-there : base + 12 ≤ length s → target letters base s i ≡ targetRest (get 1 s base) (get 1 s (base + 1)) (get 1 s (base + 2)) (get 2 s (base + 4)) (get 4 s (base + 8))
-  unfolding target
-  target-there h = rw (sought-there s base i (omega arith), num-to 1 s base (base + 1) (omega arith) (omega arith), num-to 1 s (base + 1) (base + 2) (omega arith) (omega arith), num-to 1 s (base + 2) (base + 3) (omega arith) (omega arith), num-to 1 s (base + 3) (base + 4) (omega arith) (omega arith), num-to 2 s (base + 4) (base + 6) (omega arith) (omega arith), num-to 2 s (base + 6) (base + 8) (omega arith) (omega arith), num-to 4 s (base + 8) (base + 12) (omega arith) (omega arith))
+  target-there : base + 12 ≤ length s → target letters base s i ≡ targetAfter letters base (fieldsAt widths s base 0) s (base + 12)
+  unfolding total
+  target-there h = target-seek ∙ sought-row s widths (targetAfter letters base) base i h
 
   pub target-on : (p : ℕ) → base + 12 ≤ length s → seekOf s (base + get 4 s (base + 8)) ≡ At p
       → target letters base s i ≡ andThen (keys (get 1 s (base + 2)) (get 2 s (base + 4)) s p) (λ ks. ret (word (get 1 s base) ∷ word (targetOf letters (get 1 s (base + 1))) ∷ word (curveOf (get 1 s (base + 2))) ∷ word (countOf (get 1 s (base + 2)) (get 2 s (base + 4))) ∷ ks)) s
+  unfolding fieldsAt
   target-on p h k = target-there h ∙ rw (sought-on s (base + get 4 s (base + 8)) (base + 12) p k)
 
   pub target-past : (o k : ℕ) → base + 12 ≤ length s → seekOf s (base + get 4 s (base + 8)) ≡ SoughtPast o k → target letters base s i ≡ stop (PastEnd o k)
+  unfolding fieldsAt
   target-past o k h z = target-there h ∙ rw (sought-past s (base + get 4 s (base + 8)) (base + 12) o k z)
 
   -- the same with the fields as code has them

@@ -30,6 +30,7 @@ use Rattle.bflan.specs.inner.LayoutParts.{targetHead, datumHead, datumFr
 use Rattle.bflan.proofs.reader.Inversion.{TextAt, text-at, times-none, times-more, times-length, WordsAt, row-at, DatumAt, datum-at, info-at, info-extended, info-standard, ContentAt, content-at, SectionAt, section-at, TargetAt, target-at}
 use Rattle.bflan.proofs.Layouts.{size-written, section-size}
 use Rattle.bflan.proofs.judge.Measures.{size-parts, size-numbers}
+use Rattle.bflan.proofs.reader.Rows.{behind, behind-is}
 use Rattle.bflan.proofs.writer.Pens.{laid-fine, behind-fine, listed-size, Wrote, wrote-number, wrote-bytes, wrote-then, wrote-like, wrote-patched, Splits, split-behind, head-ready, head-done, whole-laid, whole-behind, like-ready, like-behind, like-laid, wrote-code}
 
 -- ---- fields
@@ -69,19 +70,19 @@ pub counts-stored : {l m n o : List ℕ} {at a b : ℕ} → m ≡ put 1 l at a �
 unfolding size
 counts-stored {at = at} e f g = wrote-then (wrote-number e) (wrote-then (wrote-number f) (wrote-number g) (omega arith)) refl
 
-pub head-stored : (at a b c n : ℕ) {l0 l1 l2 l3 l4 l5 l6 l7 : List ℕ} → l1 ≡ put 1 l0 at a → l2 ≡ put 1 l1 (at + 1) b → l3 ≡ put 1 l2 (at + 2) c
-    → l4 ≡ put 1 l3 (at + 3) 0 → l5 ≡ put 2 l4 (at + 4) n → l6 ≡ put 2 l5 (at + 6) 0 → l7 ≡ put 4 l6 (at + 8) (at + 12 - at)
-    → Wrote l0 at (targetHead a b c n) l7
-unfolding size targetHead
-head-stored at a b c n e1 e2 e3 e4 e5 e6 e7 =
-    let z : at + 12 - at ≡ 12 = omega arith in
-    wrote-then (wrote-number e1)
-    (wrote-then (wrote-number e2)
-    (wrote-then (wrote-number e3)
-    (wrote-then (wrote-number e4) (wrote-then (wrote-number e5) (wrote-then (wrote-number e6) (wrote-number (rw z at e7)) (omega arith)) (omega arith)) (omega arith))
-    (omega arith))
-    (omega arith))
-    refl
+-- ---- a row of numbers, stored one after another: the first of them o behind at
+
+pub data Stored (at : ℕ) : List ℕ → List ℕ → ℕ → List ℕ → List ℕ → Type 0 where
+  stored-none : {o : ℕ} {l : List ℕ} → Stored at [] [] o l l
+  stored-more : {k u v o : ℕ} {ks vs l m n : List ℕ} → m ≡ put k l (behind at o) u → u ≡ v → Stored at ks vs (o + k) m n → Stored at (k ∷ ks) (v ∷ vs) o l n
+
+stored-from : {at o : ℕ} {ks vs l n : List ℕ} → Stored at ks vs o l n → Wrote l (at + o) (rowLay ks vs) n
+unfolding rowLay written size
+stored-from stored-none = record { same = refl }
+stored-from {at} (stored-more {o = o} e d r) = wrote-then (wrote-number (rw (behind-is at o, d) at e)) (stored-from r) (omega arith)
+
+pub row-stored : {at : ℕ} {ks vs l n : List ℕ} → Stored at ks vs 0 l n → n ≡ sets l at (written (rowLay ks vs))
+row-stored {at} r = let e : at + 0 ≡ at = omega arith in rw e at (stored-from r .same)
 
 -- ---- a text, and what is behind it
 
@@ -324,7 +325,7 @@ module _ (letters : ℕ) (w x : List ℕ) (i j at : ℕ) {most : ℕ} (h : Ready
   module _ (a b c n : ℕ) (ea : a ≡ getD w i 0) (eb : b ≡ getD w (i + 1) 0) (ec : c ≡ getD w (i + 2) 0) (en : n ≡ getD w (i + 3) 0) where
     target-splits : Splits targetLay (target letters w x i j) (λ (l : Layout). l) (fine (targetHead a b c n) (i + 4) j)
         (parts (keyLay c)) (times n (row (keyWidths c)) w x (i + 4) j)
-    unfolding targetLay targetHead written
+    unfolding targetLay targetHead rowLay written
     target-splits =
         let k : times n (row (keyWidths c)) w x (i + 4) j ≡ fine (h .value .keys) (h .word) (h .byte) = rw (ec, en) (t-at .keys) in
         let z : length (h .value .keys) ≡ n = times-length (row (keyWidths c)) w x n (i + 4) j k in
@@ -343,7 +344,7 @@ module _ (letters : ℕ) (w x : List ℕ) (i j at : ℕ) {most : ℕ} (h : Ready
         }
 
     twelve : 12 ≡ size (targetHead a b c n)
-    unfolding targetHead size
+    unfolding targetHead rowLay size
     twelve = refl
 
     pub keys-ready : (c < 3) × (i + 4 ≤ length w) × Ready (parts (keyLay c)) (times n (row (keyWidths c)) w x (i + 4) j) (at + 12) most
@@ -361,21 +362,11 @@ unfolding parts written numbersLe
 numbers-parts [] = refl
 numbers-parts (v ∷ vs) = ap (λ (b : List ℕ). le 4 v ++ b) (numbers-parts vs)
 
-pub fields-stored : (at a b c d e : ℕ) {l0 l1 l2 l3 l4 l5 : List ℕ} → l1 ≡ put 4 l0 at a → l2 ≡ put 2 l1 (at + 4) b → l3 ≡ put 2 l2 (at + 6) c
-    → l4 ≡ put 4 l3 (at + 8) d → l5 ≡ put 4 l4 (at + 12) e → Wrote l0 at (datumHead a b c d e) l5
-unfolding size datumHead
-fields-stored at a b c d e e1 e2 e3 e4 e5 =
-    wrote-then (wrote-number e1) (wrote-then (wrote-number e2) (wrote-then (wrote-number e3) (wrote-then (wrote-number e4) (wrote-number e5) (omega arith)) (omega arith)) (omega arith)) refl
-
-pub fields-by : {a b c d e p q r s t : ℕ} (out : List ℕ) (at : ℕ) {m : List ℕ} → a ≡ p → b ≡ q → c ≡ r → d ≡ s → e ≡ t
-    → m ≡ sets out at (written (datumHead a b c d e)) → m ≡ sets out at (written (datumHead p q r s t))
-fields-by out at ea eb ec ed ee h = rw (← ea, ← eb, ← ec, ← ed, ← ee) h
-
 pub front-stored : (w : List ℕ) (i at n : ℕ) {l0 l1 l2 l3 : List ℕ} → n ≡ 3 * getD w (i + 3) 0 → i + 5 + n ≤ length w
     → l1 ≡ sets l0 at (written (datumHead (getD w i 0) (getD w (i + 1) 0) (getD w (i + 2) 0) (getD w (i + 3) 0) (getD w (i + 4) 0)))
     → l2 ≡ sets l1 (at + 16) (numbersLe (take n (drop (i + 5) w))) → l3 ≡ put 4 l2 (at + 16 + 4 * n) (at + 16 + 4 * n + 4 - (at + 16 + 4 * n))
     → Wrote l0 at (datumFront w i) l3
-unfolding size datumFront datumHead
+unfolding size datumFront datumHead rowLay
 front-stored w i at n {l0} {l1} {l2} {l3} en h e1 e2 e3 =
     let c : length (take (3 * getD w (i + 3) 0) (drop (i + 5) w)) ≡ n = ap (λ (d : ℕ). length (take d (drop (i + 5) w))) (sym en) ∙ length-take-le n (drop (i + 5) w) (rw length-drop (omega (arith, h))) in
     let z = size-numbers (take (3 * getD w (i + 3) 0) (drop (i + 5) w)) in
@@ -384,7 +375,7 @@ front-stored w i at n {l0} {l1} {l2} {l3} en h e1 e2 e3 =
     (wrote-number (rw four at e3)) (omega (arith, z, c))) refl
 
 pub front-size : (w : List ℕ) (i : ℕ) → i + 5 + 3 * getD w (i + 3) 0 ≤ length w → size (datumFront w i) ≡ 20 + 4 * (3 * getD w (i + 3) 0)
-unfolding size datumFront datumHead
+unfolding size datumFront datumHead rowLay
 front-size w i h =
     let z = size-numbers (take (3 * getD w (i + 3) 0) (drop (i + 5) w)) in
     let c : length (take (3 * getD w (i + 3) 0) (drop (i + 5) w)) ≡ 3 * getD w (i + 3) 0 = length-take-le (3 * getD w (i + 3) 0) (drop (i + 5) w) (rw length-drop (omega (arith, h))) in
@@ -396,7 +387,7 @@ module _ (w x : List ℕ) (i j at : ℕ) {most : ℕ} (h : Ready datumLay (datum
 
   datum-splits : Splits datumLay (datum w x i j) (λ (l : Layout). l) (fine (datumFront w i) (i + 5 + 3 * getD w (i + 3) 0) j)
       ended (nextText (wide 4) w x (i + 5 + 3 * getD w (i + 3) 0) j)
-  unfolding datumLay datumFront datumHead written
+  unfolding datumLay datumFront datumHead rowLay written
   datum-splits =
       record {
         whole = h .value;
@@ -792,18 +783,6 @@ module _ (w x : List ℕ) (i j at : ℕ) {most : ℕ} (h : Ready contentLay (con
 
 -- ---- a section
 
-pub frame-stored : (a b c d : ℕ) {l0 l1 l2 l3 l4 l5 : List ℕ} → l1 ≡ put 2 l0 8 a → l2 ≡ put 1 l1 10 b → l3 ≡ put 1 l2 11 0 → l4 ≡ put 2 l3 12 c → l5 ≡ put 2 l4 14 d
-    → Wrote l0 8 (frameLay a b c d) l5
-unfolding size frameLay
-frame-stored a b c d e1 e2 e3 e4 e5 =
-    wrote-then (wrote-number e1) (wrote-then (wrote-number e2) (wrote-then (wrote-number e3) (wrote-then (wrote-number e4) (wrote-number e5) refl) refl) refl) refl
-
-pub start-stored : (l0 : List ℕ) (a b c d p q r s : ℕ) {l1 l2 l3 : List ℕ} → a ≡ p → b ≡ q → c ≡ r → d ≡ s → l1 ≡ put 4 l0 0 ownLetters → l2 ≡ put 4 l1 4 0
-    → l3 ≡ sets l2 8 (written (frameLay a b c d)) → l3 ≡ sets l0 0 (written (bytes pai1 ⨾ number 4 0 ⨾ frameLay p q r s))
-unfolding size le ownLetters val
-start-stored l0 a b c d p q r s ea eb ec ed e1 e2 e3 =
-    rw (← ea, ← eb, ← ec, ← ed) (wrote-then {a = bytes pai1} (wrote-code 4 ownLetters e1) (wrote-then {b = frameLay a b c d} (wrote-number e2) (record { same = e3 }) refl) refl .same)
-
 -- the texture names
 module _ (n : ℕ) (w x : List ℕ) {most : ℕ} (h : Ready namesLay (times n (nextText (wide 4)) w x 4 0) 20 most) where
   names-count : length (h .value) ≡ n
@@ -858,7 +837,7 @@ module _ (w x : List ℕ) {most : ℕ} (h : Ready sectionLay (section w x 0 0) 0
 
   pieces : written (bytes pai1 ⨾ number 4 (sectionSize (h .value)) ⨾ frameLay (h .value .frames) (h .value .looping) (length ts) (length cs)
       ⨾ number 4 (contentTable (h .value)) ⨾ namesLay ts ⨾ listed contentLay (contentTable (h .value) + 4 * length cs) cs) ≡ written (sectionLay (h .value))
-  unfolding sectionLay frameLay namesLay listed namesEnd written
+  unfolding sectionLay frameLay rowLay namesLay listed namesEnd written
   pieces = simp append-assoc
 
   names-end : size (namesLay ts) + 20 ≡ contentTable (h .value)
@@ -914,7 +893,7 @@ module _ (w x : List ℕ) {most : ℕ} (h : Ready sectionLay (section w x 0 0) 0
           → e ≡ penBehind (listed contentLay (q .at + 4 * k - 0)) (times k content w x (q .word) (q .byte)) (q .at)
           → l5 ≡ laid (listed contentLay (q .at + 4 * k - 0)) (times k content w x (q .word) (q .byte)) (q .at) l4 → s ≡ 4 → l6 ≡ put 4 l5 s (e .at)
           → l6 ≡ laid sectionLay (section w x 0 0) 0 l0
-      unfolding frameLay size written
+      unfolding frameLay rowLay size written
       section-done l0 {l1} {l2} {l3} {l4} {l5} {l6} {e} {p} {s} e1 e2 e3 ep e4 ee e5 es e6 =
           let nt : n ≡ length ts = sym (times-length (nextText (wide 4)) w x n 4 0 names-judged) in
           let nc : k ≡ length cs = sym (times-length content w x k (q .word) (q .byte) contents-judged) in

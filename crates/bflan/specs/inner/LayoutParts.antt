@@ -1,12 +1,12 @@
 -- The pieces of a layout that functions of their own write.
 use Prim.Native.Nat.{ℕ, _+_, _-_, _*_}
-use mathlib.Core.List.{List}
+use mathlib.Core.List.{List, [], _∷_}
 use lib.Dec.{eqb}
 use lib.ListN.{length, getD, take, drop}
 use Rattle.core.specs.Choice.{pick}
 use Rattle.core.specs.Fill.{paddingOf}
 use Rattle.bflan.specs.Judge.{Judged, fine, badWord, badText}
-use Rattle.bflan.specs.Layout.{Layout, number, bytes, _⨾_, size, zeros, parts, ended}
+use Rattle.bflan.specs.Layout.{Layout, number, bytes, _⨾_, size, zeros, row, parts, ended}
 use Rattle.bflan.specs.pai1.Layout.{infoLay, infosOut, tableFrom, userLay}
 use Rattle.bflan.specs.pai1.Letters.{fleu}
 use Rattle.bflan.specs.pai1.Record.{AnimInfo}
@@ -16,12 +16,11 @@ use Rattle.bflan.specs.inner.Pen.{listed}
 
 -- a target before its keys
 unfoldable pub targetHead : ℕ → ℕ → ℕ → ℕ → Layout
-targetHead layer target curve n =
-    number 1 layer ⨾ number 1 target ⨾ number 1 curve ⨾ number 1 0 ⨾ number 2 n ⨾ number 2 0 ⨾ number 4 12
+targetHead layer target curve n = row (1 ∷ 1 ∷ 1 ∷ 1 ∷ 2 ∷ 2 ∷ 4 ∷ []) (layer ∷ target ∷ curve ∷ 0 ∷ n ∷ 0 ∷ 12 ∷ [])
 
 -- a datum before its values
 unfoldable pub datumHead : ℕ → ℕ → ℕ → ℕ → ℕ → Layout
-datumHead size one two base three = number 4 size ⨾ number 2 one ⨾ number 2 two ⨾ number 4 base ⨾ number 4 three
+datumHead size one two base three = row (4 ∷ 2 ∷ 2 ∷ 4 ∷ 4 ∷ []) (size ∷ one ∷ two ∷ base ∷ three ∷ [])
 
 -- and before its key, by its words
 unfoldable pub datumFront : List ℕ → ℕ → Layout
@@ -40,7 +39,7 @@ bodyLay type is =
 
 -- a section's frame count, looping flag and counts
 unfoldable pub frameLay : ℕ → ℕ → ℕ → ℕ → Layout
-frameLay frames looping textures contents = number 2 frames ⨾ number 1 looping ⨾ number 1 0 ⨾ number 2 textures ⨾ number 2 contents
+frameLay frames looping textures contents = row (2 ∷ 1 ∷ 1 ∷ 2 ∷ 2 ∷ []) (frames ∷ looping ∷ 0 ∷ textures ∷ contents ∷ [])
 
 -- its texture names, with the zeros behind them
 unfoldable pub namesLay : List (List ℕ) → Layout

@@ -15,12 +15,11 @@ use crate::reader::emit::put2;
 use crate::reader::info::infos;
 use crate::reader::offset::byte_at;
 use crate::reader::offset::offset_at;
+use crate::reader::row::cut;
 use crate::reader::tally::Tally;
 use crate::reader::tally::Walk;
 use core::cursor::fixed_string_at;
 use core::cursor::seek_to;
-use core::cursor::u8_at;
-use core::number::Read;
 use core::run::Run;
 use core::run::numbers_end;
 use core::seek::Sought;
@@ -34,8 +33,7 @@ pub enum TableAt {
     Stop(Fault),
 }
 
-// Where the reading of a content stops whose thirty-two bytes are not all there: the reads in order. Where all but the last are there, that is
-// the one that is refused.
+// Where the reading of a content stops whose thirty-two bytes are not all there: the reads in order.
 fn short(s: &[u8], base: usize) -> Fault
     requires { ⌜ length (now s) < base + 32 ⌝ }
     ensures { λ r. ⌜ ((i : ℕ) → content base (now (s .entry)) i ≡ stop r) ⌝ }
@@ -45,13 +43,7 @@ fn short(s: &[u8], base: usize) -> Fault
         Sought::At(p) => match fixed_string_at(s, p, 28) {
             TextAt::Past(o, k) => Fault::PastEnd(o, k),
             TextAt::Unended(from) => Fault::NoZero(from),
-            TextAt::Text(_len, p1) => match u8_at(s, p1) {
-                Read::Past(o, k) => Fault::PastEnd(o, k),
-                Read::Value(_n, p2) => match u8_at(s, p2) {
-                    Read::Past(o, k) => Fault::PastEnd(o, k),
-                    Read::Value(_kind, p3) => Fault::PastEnd(p3, 2),
-                },
-            },
+            TextAt::Text(_len, q) => cut(s, q, b"\x01\x01\x02"),
         },
     }
 }

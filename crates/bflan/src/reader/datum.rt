@@ -10,11 +10,13 @@ ghost use Rattle.bflan.specs.inner.Walk.{withWords, walkOf, walked};
 use crate::fault::Fault;
 use crate::reader::emit::put2;
 use crate::reader::keys::values;
+use crate::reader::offset::half_at;
+use crate::reader::offset::word_at;
+use crate::reader::row::cut;
 use crate::reader::tally::Tally;
 use crate::reader::tally::Walk;
 use crate::reader::tally::more_words;
 use crate::reader::texture::text_at;
-use core::cursor::u16_at;
 use core::cursor::u32_at;
 use core::number::Read;
 use core::run::put_word;
@@ -34,34 +36,31 @@ pub enum Head {
     Short(Fault),
 }
 
+// The head at `p`, tested once.
 fn head_at(s: &[u8], p: usize) -> Head
     ensures { λ r. ⌜ asHead r ≡ head (now (s .entry)) p ⌝ }
 {
-    match u32_at(s, p) {
-        Read::Past(o, k) => Head::Short(Fault::PastEnd(o, k)),
-        Read::Value(size, p1) => match u16_at(s, p1) {
-            Read::Past(o, k) => Head::Short(Fault::PastEnd(o, k)),
-            Read::Value(one, p2) => match u16_at(s, p2) {
-                Read::Past(o, k) => Head::Short(Fault::PastEnd(o, k)),
-                Read::Value(two, p3) => match u32_at(s, p3) {
-                    Read::Past(o, k) => Head::Short(Fault::PastEnd(o, k)),
-                    Read::Value(base, p4) => match u32_at(s, p4) {
-                        Read::Past(o, k) => Head::Short(Fault::PastEnd(o, k)),
-                        Read::Value(three, p5) => Head::Got(
-                            Fields {
-                                size,
-                                one,
-                                two,
-                                base,
-                                three,
-                            },
-                            p5,
-                        ),
-                    },
+    if 16 <= s.len() {
+        if p <= s.len() - 16 {
+            let size = word_at(s, p);
+            let one = half_at(s, p + 4);
+            let two = half_at(s, p + 6);
+            let base = word_at(s, p + 8);
+            let three = word_at(s, p + 12);
+            let next = p + 16;
+            return Head::Got(
+                Fields {
+                    size,
+                    one,
+                    two,
+                    base,
+                    three,
                 },
-            },
-        },
+                next,
+            );
+        }
     }
+    Head::Short(cut(s, p, b"\x04\x02\x02\x04\x04"))
 }
 
 // The five words of a head.

@@ -1,12 +1,12 @@
 // Infos: eight bytes, and then targets at offsets, or extended data one after another.
 ghost use mathlib.Core.Path.{_≡_};
 ghost use mathlib.Core.List.{List};
-ghost use Prim.Native.Nat.{ℕ, _+_, _*_, _<_, _≤_};
+ghost use Prim.Native.Nat.{ℕ, _+_, _*_, _≤_};
 ghost use lib.ListN.{length};
 ghost use Rattle.core.specs.Number.{get};
 ghost use Rattle.core.specs.Run.{numbersAt};
 ghost use Rattle.bflan.specs.pai1.Letters.{fleu};
-ghost use Rattle.bflan.specs.Reader.{stop, visit};
+ghost use Rattle.bflan.specs.Reader.{visit};
 ghost use Rattle.bflan.specs.pai1.Reading.{info};
 ghost use Rattle.bflan.specs.inner.Walk.{walkOf, walked};
 use crate::fault::Fault;
@@ -17,37 +17,12 @@ use crate::reader::emit::put2;
 use crate::reader::offset::byte_at;
 use crate::reader::offset::offset_at;
 use crate::reader::offset::word_at;
+use crate::reader::row::sought_cut;
 use crate::reader::tally::Tally;
 use crate::reader::tally::Walk;
 use crate::reader::target::targets;
-use core::cursor::seek_to;
-use core::cursor::u8_at;
-use core::cursor::u32_at;
-use core::number::Read;
 use core::run::Run;
 use core::run::numbers_end;
-use core::seek::Sought;
-
-// Where the reading of an info stops whose eight bytes are not all there: the reads in order. Where all but the last are there, that is the one
-// that is refused.
-fn short(s: &[u8], base: usize) -> Fault
-    requires { ⌜ length (now s) < base + 8 ⌝ }
-    ensures { λ r. ⌜ ((i : ℕ) → info base (now (s .entry)) i ≡ stop r) ⌝ }
-{
-    match seek_to(s, base) {
-        Sought::Past(o, k) => Fault::PastEnd(o, k),
-        Sought::At(p) => match u32_at(s, p) {
-            Read::Past(o, k) => Fault::PastEnd(o, k),
-            Read::Value(_letters, p1) => match u8_at(s, p1) {
-                Read::Past(o, k) => Fault::PastEnd(o, k),
-                Read::Value(_n, p2) => match u8_at(s, p2) {
-                    Read::Past(o, k) => Fault::PastEnd(o, k),
-                    Read::Value(_reserve, p3) => Fault::PastEnd(p3, 2),
-                },
-            },
-        },
-    }
-}
 
 // An extended info: two words, and its data.
 fn extended(s: &[u8], base: usize, n: u32, words: &mut [u32], texts: &mut [u8], t: Tally) -> Walk
@@ -80,7 +55,7 @@ pub(crate) fn info_at(s: &[u8], base: usize, words: &mut [u32], texts: &mut [u8]
     ensures { λ r. ⌜ ((i : ℕ) → walked r (now (words .exit)) (now (texts .exit)) ≡ walkOf (now (s .entry)) t (now (words .entry)) (now (texts .entry)) (info base (now (s .entry)) i)) ⌝ }
 {
     if s.len() < base + 8 {
-        return Walk::Stopped(short(s, base));
+        return Walk::Stopped(sought_cut(s, base, b"\x04\x01\x01\x02"));
     }
     let letters = word_at(s, base);
     let n = byte_at(s, base + 4);

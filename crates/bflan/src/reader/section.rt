@@ -10,12 +10,14 @@ ghost use Rattle.bflan.specs.inner.Walk.{withWords, walkOf, walked};
 use crate::fault::Fault;
 use crate::reader::content::contents_of;
 use crate::reader::emit::put2;
+use crate::reader::offset::byte_at;
+use crate::reader::offset::half_at;
+use crate::reader::offset::word_at;
+use crate::reader::row::cut;
 use crate::reader::tally::Tally;
 use crate::reader::tally::Walk;
 use crate::reader::texture::textures;
 use core::cursor::seek_to;
-use core::cursor::u8_at;
-use core::cursor::u16_at;
 use core::cursor::u32_at;
 use core::number::Read;
 use core::run::Run;
@@ -65,35 +67,25 @@ pub enum Head {
     Short(Fault),
 }
 
-// The head, read through a cursor as well: where it is short, the read that is short says so.
+// The head, tested once: where it is short, the read that is refused is looked for.
 fn head_at(s: &[u8]) -> Head
     ensures { λ r. ⌜ asHead r ≡ head (now (s .entry)) 8 ⌝ }
 {
-    match u16_at(s, 8) {
-        Read::Past(o, k) => Head::Short(Fault::PastEnd(o, k)),
-        Read::Value(frames, p1) => match u8_at(s, p1) {
-            Read::Past(o, k) => Head::Short(Fault::PastEnd(o, k)),
-            Read::Value(looping, p2) => match u8_at(s, p2) {
-                Read::Past(o, k) => Head::Short(Fault::PastEnd(o, k)),
-                Read::Value(_reserve, p3) => match u16_at(s, p3) {
-                    Read::Past(o, k) => Head::Short(Fault::PastEnd(o, k)),
-                    Read::Value(textures, p4) => match u16_at(s, p4) {
-                        Read::Past(o, k) => Head::Short(Fault::PastEnd(o, k)),
-                        Read::Value(contents, p5) => match u32_at(s, p5) {
-                            Read::Past(o, k) => Head::Short(Fault::PastEnd(o, k)),
-                            Read::Value(table, _p6) => Head::Got(SectionHead {
-                                frames,
-                                looping,
-                                textures,
-                                contents,
-                                table,
-                            }),
-                        },
-                    },
-                },
-            },
-        },
+    if s.len() < 20 {
+        return Head::Short(cut(s, 8, b"\x02\x01\x01\x02\x02\x04"));
     }
+    let frames = half_at(s, 8);
+    let looping = byte_at(s, 10);
+    let textures = half_at(s, 12);
+    let contents = half_at(s, 14);
+    let table = word_at(s, 16);
+    Head::Got(SectionHead {
+        frames,
+        looping,
+        textures,
+        contents,
+        table,
+    })
 }
 
 // The word of the looping byte: any but 0 is yes.

@@ -9,7 +9,7 @@ ghost use Rattle.core.specs.Run.{numbersAt};
 ghost use Rattle.core.specs.Seek.{seekOf};
 ghost use Rattle.core.specs.declared.seek.Sought.the-variants.{At};
 ghost use Rattle.bflan.specs.pai1.Letters.{targetOf};
-ghost use Rattle.bflan.specs.Reader.{stop, andThen, ret, word, visit};
+ghost use Rattle.bflan.specs.Reader.{andThen, ret, word, visit};
 ghost use Rattle.bflan.specs.pai1.Reading.{curveOf, countOf, keys, target};
 ghost use Rattle.bflan.specs.inner.Walk.{withWords, walkOf, walked};
 use crate::fault::Fault;
@@ -19,44 +19,11 @@ use crate::reader::keys::keys;
 use crate::reader::offset::byte_at;
 use crate::reader::offset::half_at;
 use crate::reader::offset::offset_at;
+use crate::reader::row::sought_cut;
 use crate::reader::tally::Tally;
 use crate::reader::tally::Walk;
-use core::cursor::seek_to;
-use core::cursor::u8_at;
-use core::cursor::u16_at;
-use core::number::Read;
 use core::seek::Sought;
 use core::seek::seek;
-
-// Where the reading of a target stops whose twelve bytes are not all there: the reads in order. Where all but the last are there, that is the one
-// that is refused.
-fn short(s: &[u8], base: usize) -> Fault
-    requires { ⌜ length (now s) < base + 12 ⌝ }
-    ensures { λ r. ⌜ ((letters : ℕ) (i : ℕ) → target letters base (now (s .entry)) i ≡ stop r) ⌝ }
-{
-    match seek_to(s, base) {
-        Sought::Past(o, k) => Fault::PastEnd(o, k),
-        Sought::At(p) => match u8_at(s, p) {
-            Read::Past(o, k) => Fault::PastEnd(o, k),
-            Read::Value(_layer, p1) => match u8_at(s, p1) {
-                Read::Past(o, k) => Fault::PastEnd(o, k),
-                Read::Value(_raw, p2) => match u8_at(s, p2) {
-                    Read::Past(o, k) => Fault::PastEnd(o, k),
-                    Read::Value(_curve, p3) => match u8_at(s, p3) {
-                        Read::Past(o, k) => Fault::PastEnd(o, k),
-                        Read::Value(_reserve, p4) => match u16_at(s, p4) {
-                            Read::Past(o, k) => Fault::PastEnd(o, k),
-                            Read::Value(_n, p5) => match u16_at(s, p5) {
-                                Read::Past(o, k) => Fault::PastEnd(o, k),
-                                Read::Value(_padding, p6) => Fault::PastEnd(p6, 4),
-                            },
-                        },
-                    },
-                },
-            },
-        },
-    }
-}
 
 // The words of a curve and of its key count: above curve 2 both are 0.
 fn put_curve(words: &mut [u32], t: Tally, curve: u32, n: usize) -> Tally
@@ -108,7 +75,7 @@ pub(crate) fn target_at(s: &[u8], letters: u32, base: usize, words: &mut [u32], 
     ensures { λ r. ⌜ ((i : ℕ) (x : List ℕ) → walked r (now (words .exit)) x ≡ walkOf (now (s .entry)) t (now (words .entry)) x (target letters base (now (s .entry)) i)) ⌝ }
 {
     if s.len() < base + 12 {
-        return Walk::Stopped(short(s, base));
+        return Walk::Stopped(sought_cut(s, base, b"\x01\x01\x01\x01\x02\x02\x04"));
     }
     let offset = offset_at(s, base + 8);
     match seek(s, base + offset) {

@@ -17,19 +17,7 @@ use crate::writer::field::put_offset;
 use core::number::write_u32;
 use core::run::write_numbers;
 
-// The five numbers.
-fn put_fields(out: &mut [u8], at: usize, size: u32, one: u32, two: u32, base: u32, three: u32)
-    requires { ⌜ at + 16 ≤ 16777216 ⌝ }
-    ensures { λ _. ⌜ now (out .exit) ≡ sets (now (out .entry)) at (written (datumHead size one two base three)) ⌝ }
-{
-    write_u32(out, at, size);
-    put_half(out, at + 4, one);
-    put_half(out, at + 6, two);
-    write_u32(out, at + 8, base);
-    write_u32(out, at + 12, three);
-}
-
-// The same by their words.
+// The five numbers, by their words.
 fn put_head(words: &[u32], i: usize, out: &mut [u8], at: usize)
     requires { ⌜ (i + 5 ≤ length (now words)) × (at + 16 ≤ 16777216) ⌝ }
     ensures { λ _. ⌜ now (out .exit) ≡ sets (now (out .entry)) at (written (datumHead (getD (now (words .entry)) i 0) (getD (now (words .entry)) (i + 1) 0) (getD (now (words .entry)) (i + 2) 0) (getD (now (words .entry)) (i + 3) 0) (getD (now (words .entry)) (i + 4) 0))) ⌝ }
@@ -39,7 +27,11 @@ fn put_head(words: &[u32], i: usize, out: &mut [u8], at: usize)
     let two = word_of(words, i + 2);
     let base = word_of(words, i + 3);
     let three = word_of(words, i + 4);
-    put_fields(out, at, size, one, two, base, three);
+    write_u32(out, at, size);
+    put_half(out, at + 4, one);
+    put_half(out, at + 6, two);
+    write_u32(out, at + 8, base);
+    write_u32(out, at + 12, three);
 }
 
 // What is before the key: the numbers, the values, and the key's offset, which counts from its own place.

@@ -67,17 +67,6 @@ fn put_names(words: &[u32], texts: &[u8], n: usize, out: &mut [u8]) -> Pen
     }
 }
 
-// The frame count, the looping flag and the counts.
-fn put_frame(out: &mut [u8], frames: u32, looping: u32, textures: u32, contents: u32)
-    ensures { λ _. ⌜ now (out .exit) ≡ sets (now (out .entry)) 8 (written (frameLay frames looping textures contents)) ⌝ }
-{
-    put_half(out, 8, frames);
-    put_byte(out, 10, looping);
-    put_byte(out, 11, 0);
-    put_half(out, 12, textures);
-    put_half(out, 14, contents);
-}
-
 // The letters, the place of the size, and what is behind them by the first four words; that place.
 fn put_start(words: &[u32], out: &mut [u8]) -> Placeholder32
     ensures { λ r. ⌜ (r .0 ≡ 4) × (now (out .exit) ≡ sets (now (out .entry)) 0 (written (bytes pai1 ⨾ number 4 0 ⨾ frameLay (getD (now (words .entry)) 0 0) (getD (now (words .entry)) 1 0) (getD (now (words .entry)) 2 0) (getD (now (words .entry)) 3 0)))) ⌝ }
@@ -88,7 +77,11 @@ fn put_start(words: &[u32], out: &mut [u8]) -> Placeholder32
     let looping = word_of(words, 1);
     let textures = word_of(words, 2);
     let contents = word_of(words, 3);
-    put_frame(out, frames, looping, textures, contents);
+    put_half(out, 8, frames);
+    put_byte(out, 10, looping);
+    put_byte(out, 11, 0);
+    put_half(out, 12, textures);
+    put_half(out, 14, contents);
     size
 }
 

@@ -2,11 +2,10 @@
 -- Assumes nothing.
 use mathlib.Core.Path.{sym, _∙_}
 use native.Mathlib.Omega.{arith}
-use Rattle.core.proofs.Numbers.{read-value}
 use Rattle.core.proofs.Seeks.{seek-at}
-use Rattle.bflan.proofs.reader.Rows.{row-here, row-next, row-short}
 use Rattle.core.proofs.Zeros.{fixed-text}
-use Rattle.bflan.proofs.reader.ContentParts.{content-past, content-none, content-unended, content-row}
+use Rattle.bflan.specs.inner.Row.{widthOf}
+use Rattle.bflan.proofs.reader.ContentParts.{content-past, content-none, content-unended, content-short}
 use borrow.Author.Needs.{needs}
 use Rattle.bflan.proofs.reader.content.short.Statement.{statement}
 use Rattle.bflan.proofs.reader.content.short.Tie as tie
@@ -32,23 +31,11 @@ enum-known-from c = search needs
 enum-known--len : tie.Need-enum-known--len
 enum-known--len c = search needs
 
-u8-at-requires : tie.Need-u8-at-requires
-u8-at-requires c κs = search needs
+slice-aggregate-cut : tie.Need-slice-aggregate-cut
+slice-aggregate-cut c = search needs
 
-enum-known-o-3 : tie.Need-enum-known-o-3
-enum-known-o-3 c = search needs
-
-enum-known--n : tie.Need-enum-known--n
-enum-known--n c = search needs
-
-u8-at-requires-2 : tie.Need-u8-at-requires-2
-u8-at-requires-2 c κs = search needs
-
-enum-known-o-4 : tie.Need-enum-known-o-4
-enum-known-o-4 c = search needs
-
-enum-known--kind : tie.Need-enum-known--kind
-enum-known--kind c = search needs
+cut-requires : tie.Need-cut-requires
+cut-requires c κs = search needs
 
 returns : tie.Need-returns
 returns c = λ i. content-past _ _ i _ _ (sym (c .before .before .before .seek-to .ensures) ∙ c .before .o .given .1)
@@ -60,13 +47,11 @@ returns-3 : tie.Need-returns-3
 returns-3 c = λ i. content-unended _ _ i (sym (c .before .before .before .before .before .before .before .seek-to .ensures) ∙ c .before .before .before .before .before .p .given .1) _ (sym (c .before .before .before .fixed-string-at .ensures) ∙ c .before .from .given .1)
 
 returns-4 : tie.Need-returns-4
-returns-4 c = λ i. content-row _ _ i (sym (c .before .before .before .before .before .before .before .before .before .before .before .seek-to .ensures) ∙ c .before .before .before .before .before .before .before .before .before .p .given .1) (sym (c .before .before .before .before .before .before .before .fixed-string-at .ensures) ∙ c .before .before .before .before .before .-len .given .1) (row-here (sym (c .before .before .before .u8-at .ensures) ∙ c .before .o3 .given .1))
-
-returns-5 : tie.Need-returns-5
-returns-5 c = λ i. content-row _ _ i (sym (c .before .before .before .before .before .before .before .before .before .before .before .before .before .before .before .seek-to .ensures) ∙ c .before .before .before .before .before .before .before .before .before .before .before .before .before .p .given .1) (sym (c .before .before .before .before .before .before .before .before .before .before .before .fixed-string-at .ensures) ∙ c .before .before .before .before .before .before .before .before .before .-len .given .1) (row-next (sym (c .before .before .before .before .before .before .before .u8-at .ensures) ∙ c .before .before .before .before .before .-n .given .1) (row-here (sym (c .before .before .before .u8-at2 .ensures) ∙ c .before .o4 .given .1)))
-
-returns-6 : tie.Need-returns-6
-returns-6 c = λ i. content-row _ _ i (sym (c .before .before .before .before .before .before .before .before .before .before .before .before .before .before .before .seek-to .ensures) ∙ c .before .before .before .before .before .before .before .before .before .before .before .before .before .p .given .1) (sym (c .before .before .before .before .before .before .before .before .before .before .before .fixed-string-at .ensures) ∙ c .before .before .before .before .before .before .before .before .before .-len .given .1) (row-next (sym (c .before .before .before .before .before .before .before .u8-at .ensures) ∙ c .before .before .before .before .before .-n .given .1) (row-next (sym (c .before .before .before .u8-at2 .ensures) ∙ c .before .-kind .given .1) (row-short (omega (arith, seek-at _ _ _ (sym (c .before .before .before .before .before .before .before .before .before .before .before .before .before .before .before .seek-to .ensures) ∙ c .before .before .before .before .before .before .before .before .before .before .before .before .before .p .given .1) .place, fixed-text _ _ _ _ _ (sym (c .before .before .before .before .before .before .before .before .before .before .before .fixed-string-at .ensures) ∙ c .before .before .before .before .before .before .before .before .before .-len .given .1) .field, read-value _ _ _ _ _ (sym (c .before .before .before .before .before .before .before .u8-at .ensures) ∙ c .before .before .before .before .before .-n .given .1) .next, read-value _ _ _ _ _ (sym (c .before .before .before .u8-at2 .ensures) ∙ c .before .-kind .given .1) .next, read-value _ _ _ _ _ (sym (c .before .before .before .u8-at2 .ensures) ∙ c .before .-kind .given .1) .fits, c .before .before .before .before .before .before .before .before .before .before .before .before .before .before .before .before .before .pre)))))
+unfolding widthOf
+returns-4 c =
+    let e = sym (c .before .before .before .before .before .before .before .before .before .seek-to .ensures) ∙ c .before .before .before .before .before .before .before .p .given .1 in
+    let f = sym (c .before .before .before .before .before .fixed-string-at .ensures) ∙ c .before .before .before .-len .given .1 in
+    λ i. content-short _ _ i e f (omega (arith, seek-at _ _ _ e .place, fixed-text _ _ _ _ _ f .field, c .before .before .before .before .before .before .before .before .before .before .before .pre)) (c .cut .ensures)
 
 pub short-spec : {M : Type 1} → statement M
 short-spec =
@@ -79,15 +64,9 @@ short-spec =
     enum-known-o-2
     enum-known-from
     enum-known--len
-    u8-at-requires
-    enum-known-o-3
-    enum-known--n
-    u8-at-requires-2
-    enum-known-o-4
-    enum-known--kind
+    slice-aggregate-cut
+    cut-requires
     returns
     returns-2
     returns-3
-    returns-4
-    returns-5
-    returns-6)
+    returns-4)

@@ -1,97 +1,80 @@
--- `datum::head_at` meets its contract: one arm for each number that is not there, and one for a head that is read whole.
+-- `datum::head_at` meets its contract.
 -- Assumes nothing.
-use mathlib.Core.Path.{refl, sym, _∙_}
-use Rattle.bflan.proofs.reader.Rows.{row-done, row-here, row-next}
-use Rattle.bflan.proofs.reader.DatumParts.{head-by}
+use Prim.Native.Nat.{_+_, _<_}
+use mathlib.Core.Logic.{⊎-elim}
+use native.Mathlib.Omega.{arith}
+use denote.Ref.{now}
+use lib.ListN.{length}
+use Rattle.bflan.specs.inner.Row.{widthOf}
+use Rattle.bflan.proofs.reader.DatumParts.{head-short, head-there}
 use borrow.Author.Needs.{needs}
 use Rattle.bflan.proofs.reader.datum.head_at.Statement.{statement}
 use Rattle.bflan.proofs.reader.datum.head_at.Tie as tie
 
-u32-at-requires : tie.Need-u32-at-requires
-u32-at-requires c κs = search needs
+sub-if2 : tie.Need-sub-if2
+sub-if2 c = search needs
 
-enum-known-o : tie.Need-enum-known-o
-enum-known-o c = search needs
+word-at-requires : tie.Need-word-at-requires
+word-at-requires c κs = search needs
 
-enum-known-size : tie.Need-enum-known-size
-enum-known-size c = search needs
+add-half-at : tie.Need-add-half-at
+add-half-at c = search needs
 
-u16-at-requires : tie.Need-u16-at-requires
-u16-at-requires c κs = search needs
+half-at-requires : tie.Need-half-at-requires
+half-at-requires c κs = search needs
 
-enum-known-o-2 : tie.Need-enum-known-o-2
-enum-known-o-2 c = search needs
+add-half-at-2 : tie.Need-add-half-at-2
+add-half-at-2 c = search needs
 
-enum-known-one : tie.Need-enum-known-one
-enum-known-one c = search needs
+half-at-requires-2 : tie.Need-half-at-requires-2
+half-at-requires-2 c κs = search needs
 
-u16-at-requires-2 : tie.Need-u16-at-requires-2
-u16-at-requires-2 c κs = search needs
+add-word-at : tie.Need-add-word-at
+add-word-at c = search needs
 
-enum-known-o-3 : tie.Need-enum-known-o-3
-enum-known-o-3 c = search needs
+word-at-requires-2 : tie.Need-word-at-requires-2
+word-at-requires-2 c κs = search needs
 
-enum-known-two : tie.Need-enum-known-two
-enum-known-two c = search needs
+add-word-at-2 : tie.Need-add-word-at-2
+add-word-at-2 c = search needs
 
-u32-at-requires-2 : tie.Need-u32-at-requires-2
-u32-at-requires-2 c κs = search needs
+word-at-requires-3 : tie.Need-word-at-requires-3
+word-at-requires-3 c κs = search needs
 
-enum-known-o-4 : tie.Need-enum-known-o-4
-enum-known-o-4 c = search needs
-
-enum-known-base : tie.Need-enum-known-base
-enum-known-base c = search needs
-
-u32-at-requires-3 : tie.Need-u32-at-requires-3
-u32-at-requires-3 c κs = search needs
-
-enum-known-o-5 : tie.Need-enum-known-o-5
-enum-known-o-5 c = search needs
-
-enum-known-three : tie.Need-enum-known-three
-enum-known-three c = search needs
+add-next : tie.Need-add-next
+add-next c = search needs
 
 returns : tie.Need-returns
-returns c = head-by _ _ (row-here (sym (c .before .before .before .u32-at .ensures) ∙ c .before .o .given .1))
+returns c = head-there _ _ (omega (arith, c .before .before .before .before .before .if2 .taken, c .before .before .before .before .before .before .if1 .taken)) (c .before .before .before .before .word-at .ensures) (c .before .before .before .half-at .ensures .0) (c .before .before .half-at2 .ensures .0) (c .before .word-at2 .ensures) (c .word-at3 .ensures)
+
+slice-aggregate-cut : tie.Need-slice-aggregate-cut
+slice-aggregate-cut c = search needs
+
+cut-requires : tie.Need-cut-requires
+cut-requires c κs = search needs
 
 returns-2 : tie.Need-returns-2
-returns-2 c = head-by _ _ (row-next (sym (c .before .before .before .before .before .before .before .u32-at .ensures) ∙ c .before .before .before .before .before .size .given .1) (row-here (sym (c .before .before .before .u16-at .ensures) ∙ c .before .o2 .given .1)))
-
-returns-3 : tie.Need-returns-3
-returns-3 c = head-by _ _ (row-next (sym (c .before .before .before .before .before .before .before .before .before .before .before .u32-at .ensures) ∙ c .before .before .before .before .before .before .before .before .before .size .given .1) (row-next (sym (c .before .before .before .before .before .before .before .u16-at .ensures) ∙ c .before .before .before .before .before .one .given .1) (row-here (sym (c .before .before .before .u16-at2 .ensures) ∙ c .before .o3 .given .1))))
-
-returns-4 : tie.Need-returns-4
-returns-4 c = head-by _ _ (row-next (sym (c .before .before .before .before .before .before .before .before .before .before .before .before .before .before .before .u32-at .ensures) ∙ c .before .before .before .before .before .before .before .before .before .before .before .before .before .size .given .1) (row-next (sym (c .before .before .before .before .before .before .before .before .before .before .before .u16-at .ensures) ∙ c .before .before .before .before .before .before .before .before .before .one .given .1) (row-next (sym (c .before .before .before .before .before .before .before .u16-at2 .ensures) ∙ c .before .before .before .before .before .two .given .1) (row-here (sym (c .before .before .before .u32-at2 .ensures) ∙ c .before .o4 .given .1)))))
-
-returns-5 : tie.Need-returns-5
-returns-5 c = head-by _ _ (row-next (sym (c .before .before .before .before .before .before .before .before .before .before .before .before .before .before .before .before .before .before .before .u32-at .ensures) ∙ c .before .before .before .before .before .before .before .before .before .before .before .before .before .before .before .before .before .size .given .1) (row-next (sym (c .before .before .before .before .before .before .before .before .before .before .before .before .before .before .before .u16-at .ensures) ∙ c .before .before .before .before .before .before .before .before .before .before .before .before .before .one .given .1) (row-next (sym (c .before .before .before .before .before .before .before .before .before .before .before .u16-at2 .ensures) ∙ c .before .before .before .before .before .before .before .before .before .two .given .1) (row-next (sym (c .before .before .before .before .before .before .before .u32-at2 .ensures) ∙ c .before .before .before .before .before .base .given .1) (row-here (sym (c .before .before .before .u32-at3 .ensures) ∙ c .before .o5 .given .1))))))
-
-returns-6 : tie.Need-returns-6
-returns-6 c = head-by _ _ (row-next (sym (c .before .before .before .before .before .before .before .before .before .before .before .before .before .before .before .before .before .before .before .u32-at .ensures) ∙ c .before .before .before .before .before .before .before .before .before .before .before .before .before .before .before .before .before .size .given .1) (row-next (sym (c .before .before .before .before .before .before .before .before .before .before .before .before .before .before .before .u16-at .ensures) ∙ c .before .before .before .before .before .before .before .before .before .before .before .before .before .one .given .1) (row-next (sym (c .before .before .before .before .before .before .before .before .before .before .before .u16-at2 .ensures) ∙ c .before .before .before .before .before .before .before .before .before .two .given .1) (row-next (sym (c .before .before .before .before .before .before .before .u32-at2 .ensures) ∙ c .before .before .before .before .before .base .given .1) (row-next (sym (c .before .before .before .u32-at3 .ensures) ∙ c .before .three .given .1) (row-done refl))))))
+unfolding widthOf
+returns-2 c =
+    let h : length (now (c .before .before .before .before .args .s)) < c .before .before .before .before .args .p + 16 = ⊎-elim (λ w. omega arith) (λ w. omega arith) (c .before .before .if1 .came) in
+    head-short _ _ h (c .cut .ensures)
 
 pub head-at-spec : {M : Type 1} → statement M
 head-at-spec =
     tie.close
     (tie.spec
-    u32-at-requires
-    enum-known-o
-    enum-known-size
-    u16-at-requires
-    enum-known-o-2
-    enum-known-one
-    u16-at-requires-2
-    enum-known-o-3
-    enum-known-two
-    u32-at-requires-2
-    enum-known-o-4
-    enum-known-base
-    u32-at-requires-3
-    enum-known-o-5
-    enum-known-three
+    sub-if2
+    word-at-requires
+    add-half-at
+    half-at-requires
+    add-half-at-2
+    half-at-requires-2
+    add-word-at
+    word-at-requires-2
+    add-word-at-2
+    word-at-requires-3
+    add-next
     returns
-    returns-2
-    returns-3
-    returns-4
-    returns-5
-    returns-6)
+    slice-aggregate-cut
+    cut-requires
+    returns-2)

@@ -1,11 +1,12 @@
 -- `info::info_at` meets its contract.
 -- Assumes nothing.
-use mathlib.Core.Path.{sym, ap, _∙_}
+use mathlib.Core.Path.{sym, _∙_}
 use native.Mathlib.Omega.{arith}
 use denote.Ref.{now}
 use Rattle.core.specs.Number.{val}
 use Rattle.bflan.specs.pai1.Letters.{fleu}
-use Rattle.bflan.specs.inner.Walk.{walkOf}
+use Rattle.bflan.specs.inner.Row.{widthOf}
+use Rattle.bflan.proofs.reader.InfoParts.{info-short}
 use Rattle.bflan.proofs.reader.Walks.{told-stop}
 use borrow.Author.Needs.{needs}
 use Rattle.bflan.proofs.reader.info.info_at.Statement.{statement}
@@ -14,11 +15,15 @@ use Rattle.bflan.proofs.reader.info.info_at.Tie as tie
 add-if1 : tie.Need-add-if1
 add-if1 c = search needs
 
-short-requires : tie.Need-short-requires
-short-requires c κs = search needs
+slice-aggregate-sought-cut : tie.Need-slice-aggregate-sought-cut
+slice-aggregate-sought-cut c = search needs
+
+sought-cut-requires : tie.Need-sought-cut-requires
+sought-cut-requires c κs = search needs
 
 returns : tie.Need-returns
-returns c = λ i. told-stop _ _ _ _ _ _ _ ∙ ap (walkOf (now (c .before .before .before .before .before .args .s)) (c .before .before .before .before .before .args .t) (now (c .before .before .before .before .before .args .words)) (now (c .before .before .before .before .before .args .texts))) (sym (c .short .ensures i))
+unfolding widthOf
+returns c = λ i. let d = info-short (c .before .before .before .before .before .before .args .base) (now (c .before .before .before .before .before .before .args .s)) i (c .before .before .if1 .taken) (c .sought-cut .ensures) in rw d (told-stop _ _ _ _ _ _ _)
 
 word-at-requires : tie.Need-word-at-requires
 word-at-requires c κs = search needs
@@ -57,7 +62,8 @@ info-at-spec =
     tie.close
     (tie.spec
     add-if1
-    short-requires
+    slice-aggregate-sought-cut
+    sought-cut-requires
     returns
     word-at-requires
     add-byte-at

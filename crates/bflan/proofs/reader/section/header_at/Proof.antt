@@ -1,8 +1,7 @@
 -- `section::header_at` meets its contract: one arm for each number that is not there, and one for a header that is read whole.
 -- Assumes nothing.
-use mathlib.Core.Path.{refl, sym, _∙_}
-use Rattle.bflan.proofs.reader.SectionParts.{header-stop, header-whole}
-use Rattle.bflan.proofs.reader.Rows.{row-done, row-here, row-next}
+use mathlib.Core.Path.{sym, _∙_}
+use Rattle.bflan.proofs.reader.SectionParts.{header-first, header-second, header-whole}
 use borrow.Author.Needs.{needs}
 use Rattle.bflan.proofs.reader.section.header_at.Statement.{statement}
 use Rattle.bflan.proofs.reader.section.header_at.Tie as tie
@@ -26,13 +25,13 @@ enum-known-size : tie.Need-enum-known-size
 enum-known-size c = search needs
 
 returns : tie.Need-returns
-returns c = header-stop _ _ (row-here (sym (c .before .before .before .u32-at .ensures) ∙ c .before .o .given .1))
+returns c = header-first _ (sym (c .before .before .before .u32-at .ensures) ∙ c .before .o .given .1)
 
 returns-2 : tie.Need-returns-2
-returns-2 c = header-stop _ _ (row-next (sym (c .before .before .before .before .before .before .before .u32-at .ensures) ∙ c .before .before .before .before .before .magic .given .1) (row-here (sym (c .before .before .before .u32-at2 .ensures) ∙ c .before .o2 .given .1)))
+returns-2 c = header-second _ (sym (c .before .before .before .before .before .before .before .u32-at .ensures) ∙ c .before .before .before .before .before .magic .given .1) (sym (c .before .before .before .u32-at2 .ensures) ∙ c .before .o2 .given .1)
 
 returns-3 : tie.Need-returns-3
-returns-3 c = header-whole _ _ _ (row-next (sym (c .before .before .before .before .before .before .before .u32-at .ensures) ∙ c .before .before .before .before .before .magic .given .1) (row-next (sym (c .before .before .before .u32-at2 .ensures) ∙ c .before .size .given .1) (row-done refl)))
+returns-3 c = header-whole _ (sym (c .before .before .before .before .before .before .before .u32-at .ensures) ∙ c .before .before .before .before .before .magic .given .1) (sym (c .before .before .before .u32-at2 .ensures) ∙ c .before .size .given .1)
 
 pub header-at-spec : {M : Type 1} → statement M
 header-at-spec =

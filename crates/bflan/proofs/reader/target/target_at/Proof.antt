@@ -4,7 +4,8 @@ use Prim.Native.Nat.{ℕ, _+_}
 use mathlib.Core.Path.{ap, sym, _∙_}
 use denote.Ref.{now}
 use Rattle.core.specs.Seek.{seekOf}
-use Rattle.bflan.proofs.reader.TargetParts.{target-past}
+use Rattle.bflan.specs.inner.Row.{widthOf}
+use Rattle.bflan.proofs.reader.TargetParts.{target-short, target-past}
 use Rattle.bflan.proofs.reader.Walks.{told-stop}
 use borrow.Author.Needs.{needs}
 use Rattle.bflan.proofs.reader.target.target_at.Statement.{statement}
@@ -13,11 +14,15 @@ use Rattle.bflan.proofs.reader.target.target_at.Tie as tie
 add-if1 : tie.Need-add-if1
 add-if1 c = search needs
 
-short-requires : tie.Need-short-requires
-short-requires c κs = search needs
+slice-aggregate-sought-cut : tie.Need-slice-aggregate-sought-cut
+slice-aggregate-sought-cut c = search needs
+
+sought-cut-requires : tie.Need-sought-cut-requires
+sought-cut-requires c κs = search needs
 
 returns : tie.Need-returns
-returns c = λ i x. let d = c .short .ensures (c .before .before .before .before .args .letters) i in rw d (told-stop _ _ _ _ _ _ _)
+unfolding widthOf
+returns c = λ i x. let d = target-short (c .before .before .before .before .before .args .letters) (c .before .before .before .before .before .args .base) (now (c .before .before .before .before .before .args .s)) i (c .before .before .if1 .taken) (c .sought-cut .ensures) in rw d (told-stop _ _ _ _ _ _ _)
 
 add-offset-at : tie.Need-add-offset-at
 add-offset-at c = search needs
@@ -54,7 +59,8 @@ target-at-spec =
     tie.close
     (tie.spec
     add-if1
-    short-requires
+    slice-aggregate-sought-cut
+    sought-cut-requires
     returns
     add-offset-at
     offset-at-requires

@@ -1,0 +1,32 @@
+-- `row::sought_cut` meets its contract.
+-- Assumes nothing.
+use mathlib.Core.Path.{sym, ap, _∙_}
+use mathlib.Core.List.{map}
+use denote.Ref.{now}
+use Rattle.bflan.specs.inner.Row.{widthOf, cutAt, soughtCut}
+use borrow.Author.Needs.{needs}
+use Rattle.bflan.proofs.reader.row.sought_cut.Statement.{statement}
+use Rattle.bflan.proofs.reader.row.sought_cut.Tie as tie
+
+seek-to-requires : tie.Need-seek-to-requires
+seek-to-requires c κs = search needs
+
+enum-known-o : tie.Need-enum-known-o
+enum-known-o c = search needs
+
+enum-known-p : tie.Need-enum-known-p
+enum-known-p c = search needs
+
+cut-requires : tie.Need-cut-requires
+cut-requires c κs = search needs
+
+returns : tie.Need-returns
+unfolding soughtCut
+returns c = ap (cutAt (map widthOf (now (c .before .before .before .before .before .before .args .widths))) (now (c .before .before .before .before .before .before .args .s))) (sym (c .before .o .given .1) ∙ c .before .before .before .seek-to .ensures)
+
+returns-2 : tie.Need-returns-2
+unfolding soughtCut
+returns-2 c = c .cut .ensures ∙ ap (cutAt (map widthOf (now (c .before .before .before .before .before .before .before .args .widths))) (now (c .before .before .before .before .before .before .before .args .s))) (sym (c .before .before .p .given .1) ∙ c .before .before .before .before .seek-to .ensures)
+
+pub sought-cut-spec : {M : Type 1} → statement M
+sought-cut-spec = tie.close (tie.spec seek-to-requires enum-known-o enum-known-p cut-requires returns returns-2)
