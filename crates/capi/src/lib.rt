@@ -28,11 +28,6 @@ use bflan::find::of_finding;
 use bflan::place::Place;
 use bflan::read::of_reading;
 use bflan::write::of_writing;
-use core::float::HermiteBits;
-use core::float::from_bits;
-use core::float::hermite_from_bits;
-use edit::edit::Change;
-use edit::key::NewKey;
 use edit::undo::of_undoing;
 
 #[no_mangle]
@@ -152,8 +147,8 @@ pub extern "C" fn nnbfl_edit_frame_count(
 )
     ensures { λ _. ⌜ (now (section .exit), now (journal .exit), now (answer .exit)) ≡ changed (now (section .entry)) (now (journal .entry)) count FrameCount (value ∷ []) (now (answer .entry)) ⌝ }
 {
-    let new = Change::FrameCount(value);
-    change(section, journal, count, new, answer);
+    let place = Place::FrameCount;
+    change(section, journal, count, place, 1, value, 0, 0, answer);
 }
 
 #[no_mangle]
@@ -166,8 +161,8 @@ pub extern "C" fn nnbfl_edit_looping(
 )
     ensures { λ _. ⌜ (now (section .exit), now (journal .exit), now (answer .exit)) ≡ changed (now (section .entry)) (now (journal .entry)) count Looping (value ∷ []) (now (answer .entry)) ⌝ }
 {
-    let new = Change::Looping(value);
-    change(section, journal, count, new, answer);
+    let place = Place::Looping;
+    change(section, journal, count, place, 1, value, 0, 0, answer);
 }
 
 #[no_mangle]
@@ -183,8 +178,8 @@ pub extern "C" fn nnbfl_edit_layer(
 )
     ensures { λ _. ⌜ (now (section .exit), now (journal .exit), now (answer .exit)) ≡ changed (now (section .entry)) (now (journal .entry)) count (Layer content info target) (value ∷ []) (now (answer .entry)) ⌝ }
 {
-    let new = Change::Layer(content, info, target, value);
-    change(section, journal, count, new, answer);
+    let place = Place::Layer(content, info, target);
+    change(section, journal, count, place, 1, value, 0, 0, answer);
 }
 
 #[no_mangle]
@@ -200,8 +195,8 @@ pub extern "C" fn nnbfl_edit_target(
 )
     ensures { λ _. ⌜ (now (section .exit), now (journal .exit), now (answer .exit)) ≡ changed (now (section .entry)) (now (journal .entry)) count (Target content info target) (value ∷ []) (now (answer .entry)) ⌝ }
 {
-    let new = Change::Target(content, info, target, value);
-    change(section, journal, count, new, answer);
+    let place = Place::Target(content, info, target);
+    change(section, journal, count, place, 1, value, 0, 0, answer);
 }
 
 #[no_mangle]
@@ -218,9 +213,8 @@ pub extern "C" fn nnbfl_edit_constant_key(
 )
     ensures { λ _. ⌜ (now (section .exit), now (journal .exit), now (answer .exit)) ≡ changed (now (section .entry)) (now (journal .entry)) count (Key content info target key) (value ∷ []) (now (answer .entry)) ⌝ }
 {
-    let new_key = NewKey::Constant(from_bits(value));
-    let new = Change::Key(content, info, target, key, new_key);
-    change(section, journal, count, new, answer);
+    let place = Place::Key(content, info, target, key);
+    change(section, journal, count, place, 1, value, 0, 0, answer);
 }
 
 #[no_mangle]
@@ -238,9 +232,8 @@ pub extern "C" fn nnbfl_edit_step_key(
 )
     ensures { λ _. ⌜ (now (section .exit), now (journal .exit), now (answer .exit)) ≡ changed (now (section .entry)) (now (journal .entry)) count (Key content info target key) (frame ∷ value ∷ []) (now (answer .entry)) ⌝ }
 {
-    let new_key = NewKey::Step(from_bits(frame), value);
-    let new = Change::Key(content, info, target, key, new_key);
-    change(section, journal, count, new, answer);
+    let place = Place::Key(content, info, target, key);
+    change(section, journal, count, place, 2, frame, value, 0, answer);
 }
 
 #[no_mangle]
@@ -259,9 +252,18 @@ pub extern "C" fn nnbfl_edit_hermite_key(
 )
     ensures { λ _. ⌜ (now (section .exit), now (journal .exit), now (answer .exit)) ≡ changed (now (section .entry)) (now (journal .entry)) count (Key content info target key) (frame ∷ value ∷ slope ∷ []) (now (answer .entry)) ⌝ }
 {
-    let new_key = NewKey::Hermite(hermite_from_bits(HermiteBits(frame, value, slope)));
-    let new = Change::Key(content, info, target, key, new_key);
-    change(section, journal, count, new, answer);
+    let place = Place::Key(content, info, target, key);
+    change(
+        section,
+        journal,
+        count,
+        place,
+        3,
+        frame,
+        value,
+        slope,
+        answer,
+    );
 }
 
 #[no_mangle]
@@ -279,8 +281,8 @@ pub extern "C" fn nnbfl_edit_value(
 )
     ensures { λ _. ⌜ (now (section .exit), now (journal .exit), now (answer .exit)) ≡ changed (now (section .entry)) (now (journal .entry)) count (Value content info datum list index) (value ∷ []) (now (answer .entry)) ⌝ }
 {
-    let new = Change::Value(content, info, datum, list, index, value);
-    change(section, journal, count, new, answer);
+    let place = Place::Value(content, info, datum, list, index);
+    change(section, journal, count, place, 1, value, 0, 0, answer);
 }
 
 #[no_mangle]

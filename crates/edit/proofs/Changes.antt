@@ -1,30 +1,32 @@
 -- A change: which values a field takes, its bytes as they are written, the entry of the bytes that stood there, and what the call answers.
 -- Assumes nothing.
 use Prim.Native.Nat.{ℕ, zero, suc, _+_, _-_, _*_, _/_, _%_, _^_, _<_, _≤_, min}
-use mathlib.Core.Path.{_≡_, refl, sym, ap, subst, _∙_}
+use mathlib.Core.Path.{_≡_, refl, sym, ap, _∙_}
 use mathlib.Core.Bool.{Bool, true, false, _&&_}
 use mathlib.Core.List.{List, [], _∷_, _++_, append-nil}
 use native.Mathlib.Nat.{add-zero}
 use native.Mathlib.Omega.{arith}
 use borrow.Author.Tests.{leb-true, leb-false, lt-ltb, le-ltb}
-use lib.Dec.{eqb, leb, ltb}
+use lib.Dec.{leb, ltb}
 use lib.ListN.{length, getD, take, drop, replicate, length-drop}
 use lib.Seq.{sets, take-nil, drop-drop, length-take-le}
 use Rattle.core.specs.Choice.{pick}
 use Rattle.core.specs.Number.{le, val, get, put, readOf}
 use Rattle.core.specs.Outcome.{Outcome}
-use Rattle.core.specs.Float.{patternOf, patternsOf, putPatterns}
+use Rattle.core.specs.Float.{floatOf, hermiteOf, patternOf, patternsOf, putPatterns}
 use Rattle.core.specs.declared.float.Binary32.{Binary32}
+use Rattle.core.specs.declared.float.Hermite.{Hermite as HermiteForm}
 use Rattle.core.specs.declared.float.HermiteBits.{HermiteBits}
+use Rattle.core.proofs.Floats.{pattern-back, patterns-back}
 use Rattle.core.proofs.Numbers.{get-zero, get-suc, read-there}
 use Rattle.bflan.specs.Answer.{tooLong}
 use Rattle.bflan.specs.Layout.{written, row}
-use Rattle.bflan.specs.pai1.Letters.{fleu, targetFits}
+use Rattle.bflan.specs.pai1.Letters.{targetFits}
 use Rattle.bflan.specs.Limits.{limit}
 use Rattle.bflan.specs.pai1.Locating.{ofSpot, locatingIn, locating, ofLocated}
-use Rattle.bflan.specs.pai1.Places.{Spot, nowhere, spot, widths, total, fitWidths, allowed, fit, stride, after, keyIn, valueIn, targetIn, datumIn, infoTableIn, infoIn, contentIn, locate}
-use Rattle.bflan.specs.Reader.{Res, ok, stop, Item, many}
-use Rattle.bflan.specs.pai1.Reading.{curveOf, countOf, datum, section}
+use Rattle.bflan.specs.pai1.Places.{Spot, nowhere, spot, widths, total, fitWidths, allowed, fit, locate}
+use Rattle.bflan.specs.Reader.{Res, ok, stop, Item}
+use Rattle.bflan.specs.pai1.Reading.{section}
 use Rattle.bflan.specs.pai1.Record.{keyWidths}
 use Rattle.bflan.proofs.place.Fields.{unlike, and-left}
 use Rattle.bflan.specs.declared.fault.Fault.{Fault}
@@ -33,17 +35,15 @@ use Rattle.bflan.specs.declared.place.Field.the-variants.{FrameCount, Looping, 
 use Rattle.bflan.specs.declared.place.Located.{Located}
 use Rattle.bflan.specs.declared.place.Located.the-variants.{TooLong, Refused, NoSuchPlace, At}
 use Rattle.bflan.specs.declared.place.Place.{Place}
-use Rattle.edit.specs.declared.edit.Change.{Change}
-use Rattle.edit.specs.declared.edit.Change.the-variants.{FrameCount as setFrameCount, Looping as setLooping, Layer as setLayer, Target as setTarget, Key as setKey, Value as setValue}
 use Rattle.edit.specs.declared.edit.EditAnswer.the-variants.{Edited, TooLong as EditTooLong, Refused as EditRefused, NoSuchPlace as NoPlace, Unfit, JournalFull}
 use Rattle.edit.specs.declared.journal.Packed.{Packed}
-use Rattle.edit.specs.declared.key.NewKey.{NewKey}
-use Rattle.edit.specs.declared.key.NewKey.the-variants.{Constant, Step, Hermite}
+use Rattle.edit.specs.declared.key.NewKey.the-variants.{Step}
+use Rattle.edit.specs.declared.values.Values.{Values}
 use Rattle.edit.specs.declared.values.Values.the-variants.{One, Two, Three}
-use Rattle.edit.specs.Editing.{ofEditing, keyWords, placeOf, valuesOf, oldAt, atSpot, onReading, editing}
+use Rattle.edit.specs.Editing.{ofEditing, keyWords, oldAt, atSpot, onReading, editing}
 use Rattle.edit.specs.Format.{pai1}
 use Rattle.edit.specs.Journal.{entryWords, capacity, padded, entryOf, fieldSize}
-use Rattle.edit.specs.Packing.{packed, entryList, readValue, valuesIn, keyWidthsOf, widthsOf, oneMost}
+use Rattle.edit.specs.Packing.{packed, entryList, readValue, valuesIn, oneMost}
 use Rattle.edit.proofs.Calls.{size-some, le-one, le-two, put-at, behind-put}
 use Rattle.edit.proofs.Entries.{field-size}
 
@@ -209,93 +209,68 @@ module _ (s : List ℕ) (at : ℕ) where
       ∙ behind-put s₁ (at + 4) (b .1) (le 4 (b .2) ++ []) refl
       ∙ behind-put s at (b .0) (le 4 (b .1) ++ (le 4 (b .2) ++ [])) refl
 
--- ---- the field of a change's place, where it takes the new value, has the widths that the value is written with
+-- ---- a field that takes so many values has as many widths
 
--- a key that its curve takes is of the curve's kind
-kind-widths : (curve : ℕ) (new : NewKey) → fitWidths (keyWidths curve) (keyWords new) ≡ true → keyWidths curve ≡ keyWidthsOf new
-unfolding keyWidths keyWidthsOf keyWords valuesIn
-kind-widths zero (Constant v) e = refl
-kind-widths zero (Step f v) e = absurd (none-more (patternOf f) v [] 4 e)
-kind-widths zero (Hermite h) e = absurd (none-more (patternsOf h .0) (patternsOf h .1) (patternsOf h .2 ∷ []) 4 e)
-kind-widths (suc zero) (Constant v) e = absurd (unlike (step-one (patternOf v) ∙ e))
-kind-widths (suc zero) (Step f v) e = refl
-kind-widths (suc zero) (Hermite h) e = absurd (unlike (step-three (patternsOf h .0) (patternsOf h .1) (patternsOf h .2) ∙ e))
-kind-widths (suc (suc c)) (Constant v) e = absurd (unlike (hermite-one (patternOf v) ∙ e))
-kind-widths (suc (suc c)) (Step f v) e = absurd (unlike (hermite-two (patternOf f) v ∙ e))
-kind-widths (suc (suc c)) (Hermite h) e = refl
+widths-fit : (f : Field) (vs : List ℕ) → fit f vs ≡ true → fitWidths (widths f) vs ≡ true
+unfolding fit
+widths-fit f vs e = and-left (fitWidths (widths f) vs) (allowed f vs) e
 
-key-widths : (curve : ℕ) (new : NewKey) → fit (Key curve) (keyWords new) ≡ true → widths (Key curve) ≡ keyWidthsOf new
-unfolding fit widths
-key-widths curve new e = kind-widths curve new (and-left (fitWidths (keyWidths curve) (keyWords new)) (allowed (Key curve) (keyWords new)) e)
+one-widths : (curve a : ℕ) → fitWidths (keyWidths curve) (a ∷ []) ≡ true → keyWidths curve ≡ 4 ∷ []
+unfolding keyWidths valuesIn
+one-widths zero a e = refl
+one-widths (suc zero) a e = absurd (unlike (step-one a ∙ e))
+one-widths (suc (suc c)) a e = absurd (unlike (hermite-one a ∙ e))
 
-module _ (vs ks : List ℕ) where
-  record Alike (x : Spot) : Type 0 where
-    same : (at : ℕ) (f : Field) → x ≡ spot at f → fit f vs ≡ true → widths f ≡ ks
+two-widths : (f : Field) (a b : ℕ) → fitWidths (widths f) (a ∷ b ∷ []) ≡ true → widths f ≡ 4 ∷ 2 ∷ []
+unfolding widths keyWidths valuesIn
+two-widths FrameCount a b e = absurd (none-more a b [] 2 e)
+two-widths Looping a b e = absurd (none-more a b [] 1 e)
+two-widths Layer a b e = absurd (none-more a b [] 1 e)
+two-widths (Target letters) a b e = absurd (none-more a b [] 1 e)
+two-widths (Key zero) a b e = absurd (none-more a b [] 4 e)
+two-widths (Key (suc zero)) a b e = refl
+two-widths (Key (suc (suc c))) a b e = absurd (unlike (hermite-two a b ∙ e))
+two-widths Value a b e = absurd (none-more a b [] 4 e)
 
-  alike-none : Alike nowhere
-  alike-none = record { same = λ at f e. absurd (let z : _≡_ {A = ℕ} 0 1 = cc in omega arith) }
+three-widths : (f : Field) (a b c : ℕ) → fitWidths (widths f) (a ∷ b ∷ c ∷ []) ≡ true → widths f ≡ 4 ∷ 4 ∷ 4 ∷ []
+unfolding widths keyWidths valuesIn
+three-widths FrameCount a b c e = absurd (none-more a b (c ∷ []) 2 e)
+three-widths Looping a b c e = absurd (none-more a b (c ∷ []) 1 e)
+three-widths Layer a b c e = absurd (none-more a b (c ∷ []) 1 e)
+three-widths (Target letters) a b c e = absurd (none-more a b (c ∷ []) 1 e)
+three-widths (Key zero) a b c e = absurd (none-more a b (c ∷ []) 4 e)
+three-widths (Key (suc zero)) a b c e = absurd (unlike (step-three a b c ∙ e))
+three-widths (Key (suc (suc k))) a b c e = refl
+three-widths Value a b c e = absurd (none-more a b (c ∷ []) 4 e)
 
-  alike-spot : (at : ℕ) (f : Field) → (fit f vs ≡ true → widths f ≡ ks) → Alike (spot at f)
-  alike-spot at f h = record { same = λ b g e. let d : f ≡ g = cc in subst (λ (g : Field). fit g vs ≡ true → widths g ≡ ks) d h }
+-- so its bytes are those of a key of that many values
+module _ (s : List ℕ) (at : ℕ) (f : Field) where
+  pub constant-put : (curve v : ℕ) → f ≡ Key curve → fit f (v ∷ []) ≡ true → put 4 s at v ≡ sets s at (written (row (widths f) (v ∷ [])))
+  unfolding widths
+  constant-put curve v e h =
+      let w : fitWidths (widths (Key curve)) (v ∷ []) ≡ true = widths-fit (Key curve) (v ∷ []) (ap (λ (g : Field). fit g (v ∷ [])) (sym e) ∙ h) in
+      word-written s at v ∙ ap (λ (ks : List ℕ). sets s at (written (row ks (v ∷ [])))) (sym (ap widths e ∙ one-widths curve v w))
 
-  alike-pick : (b : Bool) (x : Spot) → Alike x → Alike (pick b x nowhere)
-  alike-pick true x h = h
-  alike-pick false x h = alike-none
+  module _ (v : Values) (h : fit f (valuesIn v) ≡ true) where
+    pub step-put : (a b : ℕ) → v ≡ Two a b → {s₁ s₂ : List ℕ} → s₁ ≡ put 4 s at a → s₂ ≡ put 2 s₁ (at + 4) (b % 65536) → s₂ ≡ sets s at (written (row (widths f) (valuesIn v)))
+    unfolding valuesIn
+    step-put a b e e₁ e₂ =
+        let w : fitWidths (widths f) (a ∷ b ∷ []) ≡ true = widths-fit f (a ∷ b ∷ []) (ap (λ (z : Values). fit f (valuesIn z)) (sym e) ∙ h) in
+        step-written s at a b e₁ e₂ ∙ ap (λ (ks : List ℕ). sets s at (written (row ks (a ∷ b ∷ [])))) (sym (two-widths f a b w)) ∙ ap (λ (z : Values). sets s at (written (row (widths f) (valuesIn z)))) (sym e)
 
-  alike-else : (b : Bool) (x : Spot) → Alike x → Alike (pick b nowhere x)
-  alike-else true x h = alike-none
-  alike-else false x h = h
+    pub hermite-put : (a b c : ℕ) → v ≡ Three a b c → {s′ : List ℕ} → s′ ≡ putPatterns s at (a, b, c) → s′ ≡ sets s at (written (row (widths f) (valuesIn v)))
+    unfolding valuesIn
+    hermite-put a b c e e′ =
+        let w : fitWidths (widths f) (a ∷ b ∷ c ∷ []) ≡ true = widths-fit f (a ∷ b ∷ c ∷ []) (ap (λ (z : Values). fit f (valuesIn z)) (sym e) ∙ h) in
+        e′ ∙ hermite-written s at (a, b, c) ∙ ap (λ (ks : List ℕ). sets s at (written (row ks (a ∷ b ∷ c ∷ [])))) (sym (three-widths f a b c w)) ∙ ap (λ (z : Values). sets s at (written (row (widths f) (valuesIn z)))) (sym e)
 
-  alike-after : (r : Res (List Item)) (g : ℕ → Spot) → ((q : ℕ) → Alike (g q)) → Alike (after r g)
-  alike-after (ok is q) g h = h q
-  alike-after (stop f) g h = alike-none
+-- a key that is given by its bits
+module _ (s : List ℕ) (at : ℕ) where
+  pub float-put : {s′ : List ℕ} (v : ℕ) (x : Binary32) → v < 2 ^ 32 → x ≡ floatOf v → s′ ≡ put 4 s at (patternOf x) → s′ ≡ put 4 s at v
+  float-put v x h e d = d ∙ ap (put 4 s at) (ap patternOf e ∙ pattern-back v h)
 
-  alike-path : (s : List ℕ) (c i : ℕ) (g : ℕ → Spot) → ((b : ℕ) → Alike (g b)) → Alike (contentIn s c (λ b. infoIn s b i g))
-  unfolding contentIn infoIn
-  alike-path s c i g h =
-      let b : ℕ = get 4 s (get 4 s 16 + 4 * c) in
-      let a : ℕ = b + get 4 s (infoTableIn s b + 4 * i) in
-      alike-pick (ltb c (get 2 s 14)) (pick (ltb i (get 1 s (b + 28))) (g a) nowhere) (alike-pick (ltb i (get 1 s (b + 28))) (g a) (h a))
-
-  alike-target : (s : List ℕ) (b t : ℕ) (g : ℕ → Spot) → ((q : ℕ) → Alike (g q)) → Alike (targetIn s b t g)
-  unfolding targetIn
-  alike-target s b t g h =
-      let q : ℕ = b + get 4 s (b + 8 + 4 * t) in
-      alike-else (eqb (get 4 s b) fleu) (pick (ltb t (get 1 s (b + 4))) (g q) nowhere) (alike-pick (ltb t (get 1 s (b + 4))) (g q) (h q))
-
-  alike-datum : (s : List ℕ) (b d : ℕ) (g : ℕ → Spot) → ((q : ℕ) → Alike (g q)) → Alike (datumIn s b d g)
-  unfolding datumIn
-  alike-datum s b d g h =
-      let r : Res (List Item) = many d datum s (b + 8) in
-      alike-pick (eqb (get 4 s b) fleu) (pick (ltb d (get 1 s (b + 4))) (after r g) nowhere) (alike-pick (ltb d (get 1 s (b + 4))) (after r g) (alike-after r g h))
-
-  alike-key : (s : List ℕ) (q k : ℕ) → ((curve : ℕ) → fit (Key curve) vs ≡ true → widths (Key curve) ≡ ks) → Alike (keyIn s q k)
-  unfolding keyIn
-  alike-key s q k h =
-      let curve : ℕ = curveOf (get 1 s (q + 2)) in
-      let at : ℕ = q + get 4 s (q + 8) + k * stride curve in
-      alike-pick (ltb k (countOf (get 1 s (q + 2)) (get 2 s (q + 4)))) (spot at (Key curve)) (alike-spot at (Key curve) (h curve))
-
-  alike-value : (s : List ℕ) (q l v : ℕ) → (fit Value vs ≡ true → widths Value ≡ ks) → Alike (valueIn s q l v)
-  unfolding valueIn
-  alike-value s q l v h =
-      let at : ℕ = q + 16 + 4 * (l * get 4 s (q + 8) + v) in
-      alike-pick (ltb l 3 && ltb v (get 4 s (q + 8))) (spot at Value) (alike-spot at Value h)
-
-alike : (s : List ℕ) (change : Change) → Alike (valuesOf change) (widthsOf change) (locate s (placeOf change))
-unfolding locate placeOf valuesOf widthsOf widths
-alike s (setFrameCount v) = alike-spot (v ∷ []) (2 ∷ []) _ _ (λ e. refl)
-alike s (setLooping v) = alike-spot (v ∷ []) (1 ∷ []) _ _ (λ e. refl)
-alike s (setLayer c i t v) = alike-path (v ∷ []) (1 ∷ []) s c i _ (λ b. alike-target (v ∷ []) (1 ∷ []) s b t _ (λ q. alike-spot (v ∷ []) (1 ∷ []) _ _ (λ e. refl)))
-alike s (setTarget c i t v) = alike-path (v ∷ []) (1 ∷ []) s c i _ (λ b. alike-target (v ∷ []) (1 ∷ []) s b t _ (λ q. alike-spot (v ∷ []) (1 ∷ []) _ _ (λ e. refl)))
-alike s (setKey c i t k new) =
-    alike-path (keyWords new) (keyWidthsOf new) s c i _
-    (λ b. alike-target (keyWords new) (keyWidthsOf new) s b t _ (λ q. alike-key (keyWords new) (keyWidthsOf new) s q k (λ curve. key-widths curve new)))
-alike s (setValue c i d l n v) =
-    alike-path (v ∷ []) (4 ∷ []) s c i _ (λ b. alike-datum (v ∷ []) (4 ∷ []) s b d _ (λ q. alike-value (v ∷ []) (4 ∷ []) s q l n (λ e. refl)))
-
-pub spot-widths : (s : List ℕ) (change : Change) (at : ℕ) (f : Field) → locate s (placeOf change) ≡ spot at f → fit f (valuesOf change) ≡ true → widths f ≡ widthsOf change
-spot-widths s change at f e = alike s change .same at f e
+  pub patterns-put : {s′ : List ℕ} (a b c : ℕ) (k : HermiteForm) → a < 2 ^ 32 → b < 2 ^ 32 → c < 2 ^ 32 → k ≡ hermiteOf (a, b, c) → s′ ≡ putPatterns s at (patternsOf k) → s′ ≡ putPatterns s at (a, b, c)
+  patterns-put a b c k ha hb hc e d = d ∙ ap (putPatterns s at) (ap patternsOf e ∙ patterns-back (a, b, c) (record { frame = ha; value = hb; slope = hc }))
 
 -- ---- the bytes that stood there
 

@@ -1,4 +1,4 @@
--- The old bytes of a field in three words, an entry of the journal, and the words of a new value: each as the code holds it.
+-- The old bytes of a field in three words, an entry of the journal, the words of a new value, and where a field stands: each as the code holds it.
 use Prim.Native.Nat.{ℕ}
 use mathlib.Core.Bool.{Bool, false}
 use mathlib.Core.List.{List, [], _∷_, _++_}
@@ -6,12 +6,18 @@ use lib.Dec.{leb}
 use Rattle.core.specs.Number.{le, get}
 use Rattle.core.specs.declared.number.Read.{Read}
 use Rattle.core.specs.declared.number.Read.the-variants.{Value as ReadAs, Past}
-use Rattle.edit.specs.declared.edit.Change.{Change}
-use Rattle.edit.specs.declared.edit.Change.the-variants.{FrameCount, Looping, Layer, Target, Key, Value}
+use Rattle.bflan.specs.declared.place.Field.{Field}
+use Rattle.bflan.specs.declared.place.Field.the-variants.{FrameCount as IsFrameCount, Looping as IsLooping, Layer as IsLayer, Target as IsTarget, Key as IsKey, Value as IsValue}
+use Rattle.bflan.specs.declared.place.Located.{Located}
+use Rattle.bflan.specs.declared.place.Located.the-variants.{TooLong as LocatedTooLong, Refused as LocatedRefused, NoSuchPlace as LocatedNoPlace, At}
+use Rattle.bflan.specs.declared.place.Place.{Place}
+use Rattle.bflan.specs.declared.place.Place.the-variants.{FrameCount as AtFrameCount, Looping as AtLooping, Layer as AtLayer, Target as AtTarget, Key as AtKey, Value as AtValue}
 use Rattle.edit.specs.declared.journal.Entry.{Entry}
 use Rattle.edit.specs.declared.journal.Packed.{Packed}
-use Rattle.edit.specs.declared.key.NewKey.{NewKey}
-use Rattle.edit.specs.declared.key.NewKey.the-variants.{Constant, Step, Hermite}
+use Rattle.edit.specs.declared.spot.Kind.{Kind}
+use Rattle.edit.specs.declared.spot.Kind.the-variants.{FrameCount, Looping, Layer, Target, Key, Value}
+use Rattle.edit.specs.declared.spot.SpotAt.{SpotAt}
+use Rattle.edit.specs.declared.spot.SpotAt.the-variants.{TooLong, Refused, NoSuchPlace, There}
 use Rattle.edit.specs.declared.values.Values.{Values}
 use Rattle.edit.specs.declared.values.Values.the-variants.{One, Two, Three}
 use Rattle.edit.specs.Journal.{padded}
@@ -39,19 +45,28 @@ valuesIn (One a) = a ∷ []
 valuesIn (Two a b) = a ∷ b ∷ []
 valuesIn (Three a b c) = a ∷ b ∷ c ∷ []
 
--- the widths that it is written with: those of its field, a key's by its kind
-unfoldable pub keyWidthsOf : NewKey → List ℕ
-keyWidthsOf (Constant value) = 4 ∷ []
-keyWidthsOf (Step frame value) = 4 ∷ 2 ∷ []
-keyWidthsOf (Hermite h) = 4 ∷ 4 ∷ 4 ∷ []
+-- a place, a field and what locating answers, by their numbers
+unfoldable pub placeAs : Kind → ℕ → ℕ → ℕ → ℕ → ℕ → Place
+placeAs FrameCount c i t k v = AtFrameCount
+placeAs Looping c i t k v = AtLooping
+placeAs Layer c i t k v = AtLayer c i t
+placeAs Target c i t k v = AtTarget c i t
+placeAs Key c i t k v = AtKey c i t k
+placeAs Value c i t k v = AtValue c i t k v
 
-unfoldable pub widthsOf : Change → List ℕ
-widthsOf (FrameCount v) = 2 ∷ []
-widthsOf (Looping v) = 1 ∷ []
-widthsOf (Layer c i t v) = 1 ∷ []
-widthsOf (Target c i t v) = 1 ∷ []
-widthsOf (Key c i t k new) = keyWidthsOf new
-widthsOf (Value c i d l n v) = 4 ∷ []
+unfoldable pub fieldAs : Kind → ℕ → Field
+fieldAs FrameCount n = IsFrameCount
+fieldAs Looping n = IsLooping
+fieldAs Layer n = IsLayer
+fieldAs Target n = IsTarget n
+fieldAs Key n = IsKey n
+fieldAs Value n = IsValue
+
+unfoldable pub locatedAs : SpotAt → Located
+locatedAs (TooLong size) = LocatedTooLong size
+locatedAs (Refused f) = LocatedRefused f
+locatedAs NoSuchPlace = LocatedNoPlace
+locatedAs (There at k n) = At at (fieldAs k n)
 
 -- one value of at most m
 unfoldable pub oneMost : List ℕ → ℕ → Bool

@@ -1,21 +1,27 @@
 // Editing one field of a section.
 ghost use mathlib.Core.Path.{_≡_};
 ghost use mathlib.Core.Bool.{true};
+ghost use mathlib.Core.List.{[], _∷_};
 ghost use Prim.Native.Nat.{_+_, _*_, _<_, _≤_};
 ghost use lib.ListN.{length};
 ghost use lib.Seq.{sets};
 ghost use Rattle.core.specs.Outcome.{flat, inOrder};
 ghost use Rattle.bflan.specs.Layout.{written, row};
 ghost use Rattle.bflan.specs.pai1.Places.{spot, widths, total, fit};
-ghost use Rattle.edit.specs.Editing.{ofEditing, keyWords, placeOf, valuesOf, oldAt, atSpot, editing};
+ghost use Rattle.edit.specs.Editing.{ofEditing, placeOf, valuesOf, oldAt, atSpot, editing};
 ghost use Rattle.edit.specs.Format.{pai1};
 ghost use Rattle.edit.specs.Journal.{entryWords, entryOf};
-ghost use Rattle.edit.specs.Packing.{keyWidthsOf, widthsOf};
+ghost use Rattle.edit.specs.Packing.{valuesIn};
 use crate::journal::ENTRY_WORDS;
 use crate::journal::Entry;
 use crate::journal::packed_at;
 use crate::journal::put_entry;
 use crate::key::NewKey;
+use crate::spot::SpotAt;
+use crate::spot::field_as;
+use crate::spot::spot_at;
+use crate::spot::way_of;
+use crate::values::Values;
 use crate::values::fits;
 use crate::values::place_of;
 use crate::values::size_of;
@@ -23,9 +29,9 @@ use crate::values::values_of;
 use bflan::fault::Fault;
 use bflan::fault::of_fault;
 use bflan::place::Field;
-use bflan::place::Located;
-use bflan::place::Place;
-use bflan::place::locate;
+use core::float::HermiteBits;
+use core::float::from_bits;
+use core::float::hermite_from_bits;
 use core::float::write_f32;
 use core::float::write_hermite;
 use core::number::write_u8;
@@ -75,33 +81,35 @@ fn keep_old(section: &[u8], journal: &mut [u32], count: usize, at: usize, f: Fie
     );
 }
 
-// A new key at `at`.
-fn put_key(out: &mut [u8], at: usize, new: NewKey)
-    requires { ⌜ at < length (now out) ⌝ }
-    ensures { λ _. ⌜ now (out .exit) ≡ sets (now (out .entry)) at (written (row (keyWidthsOf new) (keyWords new))) ⌝ }
+// One value at `at`.
+fn put_one(out: &mut [u8], at: usize, f: Field, v: u32)
+    requires { ⌜ (at < length (now out)) × (fit f (v ∷ []) ≡ true) ⌝ }
+    ensures { λ _. ⌜ now (out .exit) ≡ sets (now (out .entry)) at (written (row (widths f) (v ∷ []))) ⌝ }
 {
-    match new {
-        NewKey::Constant(value) => write_f32(out, at, value),
-        NewKey::Step(frame, value) => {
-            write_f32(out, at, frame);
-            write_u16(out, at + 4, (value % 65536) as u16);
-        }
-        NewKey::Hermite(h) => write_hermite(out, at, h),
+    match f {
+        Field::FrameCount => write_u16(out, at, (v % 65536) as u16),
+        Field::Looping => write_u8(out, at, (v % 256) as u8),
+        Field::Layer => write_u8(out, at, (v % 256) as u8),
+        Field::Target(_letters) => write_u8(out, at, (v % 256) as u8),
+        Field::Key(_curve) => write_f32(out, at, from_bits(v)),
+        Field::Value => write_u32(out, at, v),
     }
 }
 
-// The field at `at`, with the change's new value.
-fn write_field(section: &mut [u8], at: usize, change: Change)
-    requires { ⌜ at < length (now section) ⌝ }
-    ensures { λ _. ⌜ now (section .exit) ≡ sets (now (section .entry)) at (written (row (widthsOf change) (valuesOf change))) ⌝ }
+// The field at `at`, with values that it takes: two are a Step key's, and three a Hermite key's.
+fn write_field(section: &mut [u8], at: usize, f: Field, v: Values)
+    requires { ⌜ (at < length (now section)) × (fit f (valuesIn v) ≡ true) ⌝ }
+    ensures { λ _. ⌜ now (section .exit) ≡ sets (now (section .entry)) at (written (row (widths f) (valuesIn v))) ⌝ }
 {
-    match change {
-        Change::FrameCount(v) => write_u16(section, at, (v % 65536) as u16),
-        Change::Looping(v) => write_u8(section, at, (v % 256) as u8),
-        Change::Layer(_c, _i, _t, v) => write_u8(section, at, (v % 256) as u8),
-        Change::Target(_c, _i, _t, v) => write_u8(section, at, (v % 256) as u8),
-        Change::Key(_c, _i, _t, _k, new) => put_key(section, at, new),
-        Change::Value(_c, _i, _d, _l, _n, v) => write_u32(section, at, v),
+    match v {
+        Values::One(a) => put_one(section, at, f, a),
+        Values::Two(a, b) => {
+            write_f32(section, at, from_bits(a));
+            write_u16(section, at + 4, (b % 65536) as u16);
+        }
+        Values::Three(a, b, c) => {
+            write_hermite(section, at, hermite_from_bits(HermiteBits(a, b, c)))
+        }
     }
 }
 
@@ -111,18 +119,18 @@ fn change_at(
     count: usize,
     at: usize,
     f: Field,
-    change: Change,
+    v: Values,
 ) -> EditAnswer
-    requires { ⌜ (length (now section) ≤ 16777216) × (at + total (widths f) ≤ length (now section)) × (fit f (valuesOf change) ≡ true → widths f ≡ widthsOf change) ⌝ }
-    ensures { λ r. ⌜ (ofEditing r, now (section .exit), now (journal .exit)) ≡ atSpot (now (section .entry)) (now (journal .entry)) count (valuesOf change) (spot at f) ⌝ }
+    requires { ⌜ (length (now section) ≤ 16777216) × (at + total (widths f) ≤ length (now section)) ⌝ }
+    ensures { λ r. ⌜ (ofEditing r, now (section .exit), now (journal .exit)) ≡ atSpot (now (section .entry)) (now (journal .entry)) count (valuesIn v) (spot at f) ⌝ }
 {
-    if fits(f, values_of(change)) {
+    if fits(f, v) {
         let most = journal.len() / ENTRY_WORDS;
         if most <= count {
             return EditAnswer::JournalFull(most);
         }
         keep_old(section, journal, count, at, f);
-        write_field(section, at, change);
+        write_field(section, at, f, v);
         return EditAnswer::Edited(count + 1);
     }
     EditAnswer::Unfit
@@ -131,11 +139,17 @@ fn change_at(
 pub fn edit(section: &mut [u8], journal: &mut [u32], count: usize, change: Change) -> EditAnswer
     ensures { λ r. ⌜ (ofEditing r, now (section .exit), now (journal .exit)) ≡ editing pai1 (now (section .entry)) (now (journal .entry)) count (placeOf change) (valuesOf change) ⌝ }
 {
-    match locate(section, place_of(change)) {
-        Located::TooLong(size) => EditAnswer::TooLong(size),
-        Located::Refused(f) => EditAnswer::Refused(f),
-        Located::NoSuchPlace => EditAnswer::NoSuchPlace,
-        Located::At(at, f) => change_at(section, journal, count, at, f, change),
+    let v = values_of(change);
+    let w = way_of(place_of(change));
+    let kind = w.kind;
+    match spot_at(section, kind, w.content, w.info, w.target, w.key, w.value) {
+        SpotAt::TooLong(size) => EditAnswer::TooLong(size),
+        SpotAt::Refused(f) => EditAnswer::Refused(f),
+        SpotAt::NoSuchPlace => EditAnswer::NoSuchPlace,
+        SpotAt::There(at, k, n) => {
+            let f = field_as(k, n);
+            change_at(section, journal, count, at, f, v)
+        }
     }
 }
 

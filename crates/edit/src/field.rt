@@ -14,6 +14,10 @@ ghost use Rattle.edit.specs.FieldAt.{keyOf, readAt, fieldAt, ofValue, of
 ghost use Rattle.edit.specs.Packing.{valuesIn};
 use crate::journal::read_value;
 use crate::key::NewKey;
+use crate::spot::SpotAt;
+use crate::spot::field_as;
+use crate::spot::spot_at;
+use crate::spot::way_of;
 use crate::values::Values;
 use crate::values::key_values;
 use bflan::fault::Fault;
@@ -21,9 +25,7 @@ use bflan::fault::of_fault;
 use bflan::letters::AnimInfoType;
 use bflan::letters::kind_of;
 use bflan::place::Field;
-use bflan::place::Located;
 use bflan::place::Place;
-use bflan::place::locate;
 use core::float::Binary32;
 use core::float::Hermite;
 use core::float::HermiteBits;
@@ -143,11 +145,16 @@ fn value_at(s: &[u8], at: usize, f: Field) -> FieldValue
 pub fn field_at(section: &[u8], place: Place) -> FieldAnswer
     ensures { λ r. ⌜ r ≡ fieldAt (now (section .entry)) place ⌝ }
 {
-    match locate(section, place) {
-        Located::TooLong(size) => FieldAnswer::TooLong(size),
-        Located::Refused(f) => FieldAnswer::Refused(f),
-        Located::NoSuchPlace => FieldAnswer::NoSuchPlace,
-        Located::At(at, f) => FieldAnswer::Is(value_at(section, at, f)),
+    let w = way_of(place);
+    let kind = w.kind;
+    match spot_at(section, kind, w.content, w.info, w.target, w.key, w.value) {
+        SpotAt::TooLong(size) => FieldAnswer::TooLong(size),
+        SpotAt::Refused(f) => FieldAnswer::Refused(f),
+        SpotAt::NoSuchPlace => FieldAnswer::NoSuchPlace,
+        SpotAt::There(at, k, n) => {
+            let f = field_as(k, n);
+            FieldAnswer::Is(value_at(section, at, f))
+        }
     }
 }
 

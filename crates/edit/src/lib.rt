@@ -3,5 +3,6 @@ pub mod edit;
 pub mod field;
 mod journal;
 pub mod key;
+mod spot;
 pub mod undo;
 mod values;

@@ -10,8 +10,9 @@ use crate::key::NewKey;
 use bflan::letters::target_fits;
 use bflan::place::Field;
 use bflan::place::Place;
+use core::float::Binary32;
+use core::float::bits_of;
 use core::float::hermite_to_bits;
-use core::float::to_bits;
 
 pub enum Values {
     One(u32),
@@ -32,12 +33,20 @@ pub(crate) fn place_of(change: Change) -> Place
     }
 }
 
+// (`to_bits` says the same of a float. Handed to a function, the float would be one number of eight bytes for the compiler, and wait for its parts:
+// src/spot.rt.)
 pub(crate) fn key_values(new: NewKey) -> Values
     ensures { λ r. ⌜ valuesIn r ≡ keyWords new ⌝ }
 {
     match new {
-        NewKey::Constant(value) => Values::One(to_bits(value)),
-        NewKey::Step(frame, value) => Values::Two(to_bits(frame), value),
+        NewKey::Constant(value) => match value {
+            Binary32::Number(x) => Values::One(bits_of(x)),
+            Binary32::Nan(n) => Values::One(n),
+        },
+        NewKey::Step(frame, value) => match frame {
+            Binary32::Number(x) => Values::Two(bits_of(x), value),
+            Binary32::Nan(n) => Values::Two(n, value),
+        },
         NewKey::Hermite(h) => {
             let b = hermite_to_bits(h);
             Values::Three(b.0, b.1, b.2)

@@ -3,18 +3,7 @@
 use borrow.Author.Needs.{needs}
 use Rattle.capi.proofs.nnbfl_edit_step_key.Statement.{statement}
 use Rattle.capi.proofs.nnbfl_edit_step_key.Tie as tie
-use Prim.Native.Nat.{ℕ}
-use mathlib.Core.Path.{ap, _∙_}
-use mathlib.Core.List.{List}
-use native.Mathlib.Omega.{arith}
-use denote.Ref.{now}
-use Rattle.bflan.specs.declared.place.Place.the-variants.{Key}
-use Rattle.edit.specs.Editing.{placeOf, valuesOf}
-use Rattle.capi.specs.Changed.{changed}
-use Rattle.capi.proofs.Keys.{step-said}
-
-from-bits-requires : tie.Need-from-bits-requires
-from-bits-requires c κs = search needs
+use Rattle.capi.specs.Changed.{newKeyValues, newValues}
 
 change-requires : tie.Need-change-requires
 change-requires c κs = search needs
@@ -29,10 +18,9 @@ same-length-3 : tie.Need-same-length-3
 same-length-3 c = search needs
 
 returns : tie.Need-returns
-unfolding placeOf valuesOf
-returns c = c .before .before .before .before .before .before .change .ensures ∙ ap (λ (vs : List ℕ). changed (now (c .before .before .before .before .before .before .before .before .before .before .before .before .before .before .args .section)) (now (c .before .before .before .before .before .before .before .before .before .before .before .before .before .before .args .journal)) (c .before .before .before .before .before .before .before .before .before .before .before .before .before .before .args .count) (Key (c .before .before .before .before .before .before .before .before .before .before .before .before .before .before .args .content) (c .before .before .before .before .before .before .before .before .before .before .before .before .before .before .args .info) (c .before .before .before .before .before .before .before .before .before .before .before .before .before .before .args .target) (c .before .before .before .before .before .before .before .before .before .before .before .before .before .before .args .key)) vs (now (c .before .before .before .before .before .before .before .before .before .before .before .before .before .before .args .answer))) (step-said (c .before .before .before .before .before .before .before .before .before .before .before .before .before .before .args .frame) (c .before .before .before .before .before .before .before .before .before .before .before .before .before .before .args .value) _ (omega arith) (c .before .before .before .before .before .before .before .before .before .before .from-bits .ensures))
+unfolding newKeyValues newValues
+returns c = c .before .before .before .before .before .before .change .ensures
 
 pub nnbfl-edit-step-key-spec : {M : Type 1} → statement M
 nnbfl-edit-step-key-spec =
-    tie.close
-    (tie.spec from-bits-requires change-requires same-length same-length-2 same-length-3 returns)
+    tie.close (tie.spec change-requires same-length same-length-2 same-length-3 returns)

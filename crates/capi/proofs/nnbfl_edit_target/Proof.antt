@@ -3,7 +3,7 @@
 use borrow.Author.Needs.{needs}
 use Rattle.capi.proofs.nnbfl_edit_target.Statement.{statement}
 use Rattle.capi.proofs.nnbfl_edit_target.Tie as tie
-use Rattle.edit.specs.Editing.{placeOf, valuesOf}
+use Rattle.capi.specs.Changed.{newValues}
 
 change-requires : tie.Need-change-requires
 change-requires c κs = search needs
@@ -18,7 +18,7 @@ same-length-3 : tie.Need-same-length-3
 same-length-3 c = search needs
 
 returns : tie.Need-returns
-unfolding placeOf valuesOf
+unfolding newValues
 returns c = c .before .before .before .before .before .before .change .ensures
 
 pub nnbfl-edit-target-spec : {M : Type 1} → statement M

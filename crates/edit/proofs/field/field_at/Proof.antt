@@ -4,13 +4,20 @@ use borrow.Author.Needs.{needs}
 use Rattle.edit.proofs.field.field_at.Statement.{statement}
 use Rattle.edit.proofs.field.field_at.Tie as tie
 use mathlib.Core.Path.{sym, ap, _∙_}
+use denote.Ref.{now}
+use Rattle.bflan.specs.pai1.Locating.{locating}
+use Rattle.bflan.specs.declared.place.Located.the-variants.{At}
 use Rattle.bflan.proofs.place.Locating.{spotted}
 use Rattle.edit.specs.declared.field.FieldAnswer.the-variants.{Is}
 use Rattle.edit.specs.FieldAt.{atLocated}
+use Rattle.edit.specs.Packing.{locatedAs}
 use Rattle.edit.proofs.FieldAt.{field-by}
 
-locate-requires : tie.Need-locate-requires
-locate-requires c κs = search needs
+way-of-requires : tie.Need-way-of-requires
+way-of-requires c κs = search needs
+
+spot-at-requires : tie.Need-spot-at-requires
+spot-at-requires c κs = search needs
 
 enum-known-size : tie.Need-enum-known-size
 enum-known-size c = search needs
@@ -24,34 +31,40 @@ enum-told c = search needs
 enum-known-at : tie.Need-enum-known-at
 enum-known-at c = search needs
 
+field-as-requires : tie.Need-field-as-requires
+field-as-requires c κs = search needs
+
 value-at-requires : tie.Need-value-at-requires
-value-at-requires c κs = spotted _ _ _ _ (sym (c .before .before .before .locate .ensures) ∙ c .before .at .given .1) .inside
+unfolding locatedAs
+value-at-requires c κs = spotted _ _ _ _ (sym (c .before .before .before .before .spot-at .ensures ∙ ap (locating (now (c .before .before .before .before .before .before .before .args .section))) (sym (c .before .before .before .before .before .way-of .ensures))) ∙ ap locatedAs (c .before .before .at .given .1) ∙ ap (At (c .before .before .at .given .0 .0)) (sym (c .field-as .ensures))) .inside
 
 returns : tie.Need-returns
-unfolding atLocated
-returns c = field-by _ _ (c .before .before .before .locate .ensures) (c .before .size .given .1)
+unfolding atLocated locatedAs
+returns c = field-by _ _ (c .before .before .before .spot-at .ensures ∙ ap (locating (now (c .before .before .before .before .before .before .args .section))) (sym (c .before .before .before .before .way-of .ensures))) (ap locatedAs (c .before .size .given .1))
 
 returns-2 : tie.Need-returns-2
-unfolding atLocated
-returns-2 c = field-by _ _ (c .before .before .before .locate .ensures) (c .before .f .given .1)
+unfolding atLocated locatedAs
+returns-2 c = field-by _ _ (c .before .before .before .spot-at .ensures ∙ ap (locating (now (c .before .before .before .before .before .before .args .section))) (sym (c .before .before .before .before .way-of .ensures))) (ap locatedAs (c .before .f .given .1))
 
 returns-3 : tie.Need-returns-3
-unfolding atLocated
-returns-3 c = field-by _ _ (c .before .before .locate .ensures) (c .enum-told .given .1)
+unfolding atLocated locatedAs
+returns-3 c = field-by _ _ (c .before .before .spot-at .ensures ∙ ap (locating (now (c .before .before .before .before .before .args .section))) (sym (c .before .before .before .way-of .ensures))) (ap locatedAs (c .enum-told .given .1))
 
 returns-4 : tie.Need-returns-4
-unfolding atLocated
-returns-4 c = ap Is (c .value-at .ensures) ∙ field-by _ _ (c .before .before .before .before .locate .ensures) (c .before .before .at .given .1)
+unfolding atLocated locatedAs
+returns-4 c = ap Is (c .value-at .ensures) ∙ field-by _ _ (c .before .before .before .before .before .spot-at .ensures ∙ ap (locating (now (c .before .before .before .before .before .before .before .before .args .section))) (sym (c .before .before .before .before .before .before .way-of .ensures))) (ap locatedAs (c .before .before .before .at .given .1) ∙ ap (At (c .before .before .before .at .given .0 .0)) (sym (c .before .field-as .ensures)))
 
 pub field-at-spec : {M : Type 1} → statement M
 field-at-spec =
     tie.close
     (tie.spec
-    locate-requires
+    way-of-requires
+    spot-at-requires
     enum-known-size
     enum-known-f
     enum-told
     enum-known-at
+    field-as-requires
     value-at-requires
     returns
     returns-2

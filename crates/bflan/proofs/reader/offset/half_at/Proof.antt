@@ -1,39 +1,36 @@
--- `offset::half_at` meets its contract.
+-- `offset::half_at` meets its contract, by the laws of `get`.
 -- Assumes nothing.
-use Prim.Native.Nat.{ℕ}
-use mathlib.Core.Path.{_≡_, sym, _∙_}
+use mathlib.Core.List.{List}
+use Prim.Native.Nat.{ℕ, _+_}
 use native.Mathlib.Omega.{arith}
 use denote.Ref.{now}
-use Rattle.core.proofs.Numbers.{read-value, read-lt, read-there}
+use Rattle.core.proofs.Numbers.{get-zero, get-suc}
 use borrow.Author.Needs.{needs}
 use Rattle.bflan.proofs.reader.offset.half_at.Statement.{statement}
 use Rattle.bflan.proofs.reader.offset.half_at.Tie as tie
-use Rattle.bflan.proofs.reader.offset.half_at.Reads as reads
-use Rattle.bflan.proofs.reader.offset.half_at.Lts as lts
-use Rattle.core.proofs.number.read_u16.Reads as read-u16-reads
 
-read-u16-requires : tie.Need-read-u16-requires
-read-u16-requires c κs = search needs
+byte-at-requires : tie.Need-byte-at-requires
+byte-at-requires c κs = search needs
 
-enum-known-v : tie.Need-enum-known-v
-enum-known-v c = search needs
+add-byte-at : tie.Need-add-byte-at
+add-byte-at c = search needs
 
-enum-told : tie.Need-enum-told
-enum-told c = search needs
+byte-at-requires-2 : tie.Need-byte-at-requires-2
+byte-at-requires-2 c κs = search needs
+
+mul-result : tie.Need-mul-result
+mul-result c = search needs
+
+add-result : tie.Need-add-result
+add-result c = search needs
 
 returns : tie.Need-returns
 returns c =
-    let e = sym (c .before .before .before .read-u16 .ensures) ∙ c .before .v .given .1 in
-    let g = read-value 2 _ _ _ _ e in
-    let l = read-lt 2 _ _ _ _ (λ i. c .before .before .before .before .shared-slice-known .given i .fits) e in
-    (g .number, omega (arith, l))
-
-returns-2 : tie.Need-returns-2
-returns-2 c =
-    let e = sym (c .before .before .read-u16 .ensures) ∙ c .enum-told .given .1 in
-    let d = sym (read-there 2 (now (c .before .before .before .before .args .s)) (c .before .before .before .before .args .at) (c .before .before .before .before .pre)) ∙ e in
-    let z : _≡_ {A = ℕ} 0 1 = cc in
-    absurd (omega arith)
+    let s : List ℕ = now (c .before .before .before .args .s) in
+    let a : ℕ = c .before .before .before .args .at in
+    (omega (arith, get-suc 1 s a, get-suc 0 s a, get-suc 0 s (a + 1), get-zero s (a + 1), get-zero s (a + 1 + 1)), omega arith)
 
 pub half-at-spec : {M : Type 1} → statement M
-half-at-spec = tie.close (tie.spec read-u16-requires enum-known-v enum-told returns returns-2)
+half-at-spec =
+    tie.close
+    (tie.spec byte-at-requires add-byte-at byte-at-requires-2 mul-result add-result returns)

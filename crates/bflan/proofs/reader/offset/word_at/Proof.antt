@@ -1,39 +1,39 @@
--- `offset::word_at` meets its contract.
+-- `offset::word_at` meets its contract, by the laws of `get`.
 -- Assumes nothing.
-use Prim.Native.Nat.{ℕ}
-use mathlib.Core.Path.{_≡_, sym, _∙_}
+use mathlib.Core.List.{List}
+use Prim.Native.Nat.{ℕ, _+_}
+use mathlib.Core.Path.{_≡_, ap}
 use native.Mathlib.Omega.{arith}
 use denote.Ref.{now}
-use Rattle.core.proofs.Numbers.{read-value, read-lt, read-there}
+use Rattle.core.specs.Number.{get}
+use Rattle.core.proofs.Numbers.{get-zero, get-suc}
 use borrow.Author.Needs.{needs}
 use Rattle.bflan.proofs.reader.offset.word_at.Statement.{statement}
 use Rattle.bflan.proofs.reader.offset.word_at.Tie as tie
-use Rattle.bflan.proofs.reader.offset.word_at.Reads as reads
-use Rattle.bflan.proofs.reader.offset.word_at.Lts as lts
-use Rattle.core.proofs.number.read_u32.Reads as read-u32-reads
 
-read-u32-requires : tie.Need-read-u32-requires
-read-u32-requires c κs = search needs
+half-at-requires : tie.Need-half-at-requires
+half-at-requires c κs = search needs
 
-enum-known-v : tie.Need-enum-known-v
-enum-known-v c = search needs
+add-half-at : tie.Need-add-half-at
+add-half-at c = search needs
 
-enum-told : tie.Need-enum-told
-enum-told c = search needs
+half-at-requires-2 : tie.Need-half-at-requires-2
+half-at-requires-2 c κs = search needs
+
+mul-result : tie.Need-mul-result
+mul-result c = search needs
+
+add-result : tie.Need-add-result
+add-result c = search needs
 
 returns : tie.Need-returns
 returns c =
-    let e = sym (c .before .before .before .read-u32 .ensures) ∙ c .before .v .given .1 in
-    let g = read-value 4 _ _ _ _ e in
-    let l = read-lt 4 _ _ _ _ (λ i. c .before .before .before .before .shared-slice-known .given i .fits) e in
-    g .number
-
-returns-2 : tie.Need-returns-2
-returns-2 c =
-    let e = sym (c .before .before .read-u32 .ensures) ∙ c .enum-told .given .1 in
-    let d = sym (read-there 4 (now (c .before .before .before .before .args .s)) (c .before .before .before .before .args .at) (c .before .before .before .before .pre)) ∙ e in
-    let z : _≡_ {A = ℕ} 0 1 = cc in
-    absurd (omega arith)
+    let s : List ℕ = now (c .before .before .before .args .s) in
+    let a : ℕ = c .before .before .before .args .at in
+    let q : get 2 s (a + 2) ≡ get 2 s (a + 1 + 1) = ap (get 2 s) (omega arith) in
+    omega (arith, q, get-suc 3 s a, get-suc 2 s (a + 1), get-suc 1 s a, get-suc 0 s (a + 1), get-zero s (a + 1 + 1))
 
 pub word-at-spec : {M : Type 1} → statement M
-word-at-spec = tie.close (tie.spec read-u32-requires enum-known-v enum-told returns returns-2)
+word-at-spec =
+    tie.close
+    (tie.spec half-at-requires add-half-at half-at-requires-2 mul-result add-result returns)
