@@ -8,7 +8,7 @@ use Rattle.core.specs.declared.float.Binary32.{Binary32}
 use Rattle.core.specs.declared.float.Hermite.{Hermite as HermiteForm}
 use Rattle.core.proofs.Floats.{pattern-back, patterns-back}
 use Rattle.edit.specs.Editing.{keyWords}
-use Rattle.capi.specs.Changed.{newKeyValues}
+use Rattle.capi.specs.inner.NewValues.{newKeyValues}
 use Rattle.edit.specs.declared.key.NewKey.the-variants.{Constant, Step, Hermite}
 
 pub constant-said : (v : ℕ) (x : Binary32) → v < 2 ^ 32 → x ≡ floatOf v → keyWords (Constant x) ≡ v ∷ []

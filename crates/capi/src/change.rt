@@ -1,7 +1,8 @@
 // An edit by its place and its values, with its answer as numbers.
 ghost use mathlib.Core.Path.{_≡_};
 ghost use Rattle.edit.specs.Editing.{placeOf, valuesOf};
-ghost use Rattle.capi.specs.Changed.{newValues, changed};
+ghost use Rattle.capi.specs.Changed.{changed};
+ghost use Rattle.capi.specs.inner.NewValues.{newValues};
 use crate::answer::put3;
 use bflan::place::Place;
 use core::float::HermiteBits;

@@ -1,7 +1,7 @@
 pub mod Choice
 pub mod Fill
 pub mod Float
-pub mod Flow
+pub mod inner
 pub mod Number
 pub mod Outcome
 pub mod Part

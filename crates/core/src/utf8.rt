@@ -7,7 +7,7 @@ ghost use lib.ListN.{length, getD};
 ghost use lib.Seq.{sets};
 ghost use Rattle.core.specs.Choice.{pick};
 ghost use Rattle.core.specs.Utf8.{Classes, classOf, replacement, decode, decodedSize, sound, wellFormed};
-ghost use Rattle.core.specs.Flow.{Rows};
+ghost use Rattle.core.specs.inner.Flow.{Rows};
 use crate::fill::ahead;
 use crate::fill::copy;
 use crate::fill::copy_on;

@@ -19,7 +19,7 @@ use Rattle.edit.specs.declared.journal.Packed.{Packed}
 use Rattle.edit.specs.declared.undo.UndoAnswer.the-variants.{Undone, TooLong, NothingToUndo, BadJournal}
 use Rattle.edit.specs.Editing.{ofUndoing, restored, undoing}
 use Rattle.edit.specs.Journal.{entryWords, capacity, entryAt, bytesIn, fieldSize, allZero, sound}
-use Rattle.edit.specs.Packing.{unpacked, entryList}
+use Rattle.edit.specs.inner.Packing.{unpacked, entryList}
 
 -- ---- zeros behind the bytes of a number
 

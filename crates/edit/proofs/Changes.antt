@@ -43,7 +43,7 @@ use Rattle.edit.specs.declared.values.Values.the-variants.{One, Two, Thr
 use Rattle.edit.specs.Editing.{ofEditing, keyWords, oldAt, atSpot, onReading, editing}
 use Rattle.edit.specs.Format.{pai1}
 use Rattle.edit.specs.Journal.{entryWords, capacity, padded, entryOf, fieldSize}
-use Rattle.edit.specs.Packing.{packed, entryList, readValue, valuesIn, oneMost}
+use Rattle.edit.specs.inner.Packing.{packed, entryList, readValue, valuesIn, oneMost}
 use Rattle.edit.proofs.Calls.{size-some, le-one, le-two, put-at, behind-put}
 use Rattle.edit.proofs.Entries.{field-size}
 

@@ -3,4 +3,4 @@ pub mod FieldAt
 pub mod Format
 pub mod Journal
 pub mod Machine
-pub mod Packing
+pub mod inner

@@ -11,7 +11,7 @@ ghost use Rattle.bflan.specs.pai1.Places.{spot, widths, total, fit};
 ghost use Rattle.edit.specs.Editing.{ofEditing, placeOf, valuesOf, oldAt, atSpot, editing};
 ghost use Rattle.edit.specs.Format.{pai1};
 ghost use Rattle.edit.specs.Journal.{entryWords, entryOf};
-ghost use Rattle.edit.specs.Packing.{valuesIn};
+ghost use Rattle.edit.specs.inner.Packing.{valuesIn};
 use crate::journal::ENTRY_WORDS;
 use crate::journal::Entry;
 use crate::journal::packed_at;

@@ -11,7 +11,7 @@ ghost use Rattle.bflan.specs.pai1.Places.{widths, total};
 ghost use Rattle.bflan.specs.pai1.Reading.{flagOf};
 ghost use Rattle.bflan.specs.pai1.Record.{keyWidths};
 ghost use Rattle.edit.specs.FieldAt.{keyOf, readAt, fieldAt, ofValue, ofField};
-ghost use Rattle.edit.specs.Packing.{valuesIn};
+ghost use Rattle.edit.specs.inner.Packing.{valuesIn};
 use crate::journal::read_value;
 use crate::key::NewKey;
 use crate::spot::SpotAt;

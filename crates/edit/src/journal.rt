@@ -5,7 +5,7 @@ ghost use lib.ListN.{length, take, drop};
 ghost use lib.Seq.{sets};
 ghost use Prim.Native.Nat.{_+_, _*_, _<_, _≤_};
 ghost use Rattle.edit.specs.Journal.{entryWords, entryAt, fieldSize, allZero};
-ghost use Rattle.edit.specs.Packing.{unpacked, packed, readValue, entryList};
+ghost use Rattle.edit.specs.inner.Packing.{unpacked, packed, readValue, entryList};
 use core::number::Read;
 use core::number::read_u8;
 use core::number::read_u16;

@@ -6,7 +6,7 @@
 ghost use mathlib.Core.Path.{_≡_};
 ghost use Rattle.bflan.specs.pai1.Locating.{locating};
 ghost use Rattle.bflan.specs.declared.place.Located.the-variants.{At};
-ghost use Rattle.edit.specs.Packing.{placeAs, fieldAs, locatedAs};
+ghost use Rattle.edit.specs.inner.Packing.{placeAs, fieldAs, locatedAs};
 use bflan::fault::Fault;
 use bflan::place::Field;
 use bflan::place::Located;

@@ -5,7 +5,7 @@ ghost use lib.ListN.{length};
 ghost use Rattle.core.specs.Outcome.{flat, inOrder};
 ghost use Rattle.edit.specs.Editing.{ofUndoing, restored, undoing};
 ghost use Rattle.edit.specs.Journal.{sound};
-ghost use Rattle.edit.specs.Packing.{entryList};
+ghost use Rattle.edit.specs.inner.Packing.{entryList};
 use crate::journal::ENTRY_WORDS;
 use crate::journal::Entry;
 use crate::journal::entry_at;

@@ -4,7 +4,7 @@ ghost use mathlib.Core.List.{[], _∷_};
 ghost use Rattle.bflan.specs.pai1.Places.{widths, total, fitWidths, fit};
 ghost use Rattle.bflan.specs.declared.place.Field.the-variants.{Target, Key};
 ghost use Rattle.edit.specs.Editing.{placeOf, keyWords, valuesOf};
-ghost use Rattle.edit.specs.Packing.{valuesIn, oneMost};
+ghost use Rattle.edit.specs.inner.Packing.{valuesIn, oneMost};
 use crate::edit::Change;
 use crate::key::NewKey;
 use bflan::letters::target_fits;

@@ -3,7 +3,7 @@
 use borrow.Author.Needs.{needs}
 use Rattle.capi.proofs.nnbfl_edit_step_key.Statement.{statement}
 use Rattle.capi.proofs.nnbfl_edit_step_key.Tie as tie
-use Rattle.capi.specs.Changed.{newKeyValues, newValues}
+use Rattle.capi.specs.inner.NewValues.{newKeyValues, newValues}
 
 change-requires : tie.Need-change-requires
 change-requires c κs = search needs

@@ -3,7 +3,7 @@
 use borrow.Author.Needs.{needs}
 use Rattle.capi.proofs.nnbfl_edit_value.Statement.{statement}
 use Rattle.capi.proofs.nnbfl_edit_value.Tie as tie
-use Rattle.capi.specs.Changed.{newValues}
+use Rattle.capi.specs.inner.NewValues.{newValues}
 
 change-requires : tie.Need-change-requires
 change-requires c κs = search needs

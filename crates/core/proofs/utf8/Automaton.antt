@@ -12,7 +12,7 @@ use lib.ListN.{length, getD, take, drop, take-append-drop}
 use lib.Seq.{slice, slice-cons, slice-empty, length-slice, length-take-le, drop-append-le}
 use Rattle.core.specs.Choice.{pick}
 use Rattle.core.specs.Utf8.{Range, rows, within, classOf, byteClass, laterOf, matched, more, sound, wellFormed}
-use Rattle.core.specs.Flow.{awaits, entered, passed, firstFits, stateAfter, flows, stateOf, State, Rows, Flow}
+use Rattle.core.specs.inner.Flow.{awaits, entered, passed, firstFits, stateAfter, flows, stateOf, State, Rows, Flow}
 use Rattle.core.proofs.utf8.Steps.{class-below, matched-none}
 use Rattle.core.proofs.utf8.Pieces.{well-nil, well-good}
 use Rattle.core.proofs.utf8.Laws.{before, good-from}

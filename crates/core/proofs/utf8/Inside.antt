@@ -14,7 +14,7 @@ use lib.Seq.{drop-cons}
 use Rattle.core.specs.Choice.{pick}
 use Rattle.core.specs.declared.utf8.step.Step.the-variants.{Good, Bad}
 use Rattle.core.specs.Utf8.{Range, within, classOf, laterOf, matched, more, good, stepOf, sound}
-use Rattle.core.specs.Flow.{awaits, entered, passed, stateAfter}
+use Rattle.core.specs.inner.Flow.{awaits, entered, passed, stateAfter}
 use Rattle.core.proofs.utf8.Steps.{class-below, matched-none, step-none}
 use Rattle.core.proofs.utf8.Laws.{good-from}
 use Rattle.core.proofs.utf8.Automaton.{entered-awaits, entered-below, entered-known, Awaiting, awaiting, more-is, matched-on}

@@ -8,7 +8,7 @@ use native.Mathlib.Omega.{arith}
 use lib.Dec.{T, eqb, ltb, eqb→eq, ltb→lt}
 use lib.ListN.{length, getD}
 use Rattle.core.specs.Utf8.{rows, within, classOf, byteClass, Classes}
-use Rattle.core.specs.Flow.{stateAfter, Rows}
+use Rattle.core.specs.inner.Flow.{stateAfter, Rows}
 use Rattle.core.proofs.utf8.Steps.{byte-below}
 use Rattle.core.proofs.Table.{everywhere, at-entry, at-number, below, both-left, both-right}
 

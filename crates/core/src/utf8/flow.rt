@@ -3,7 +3,7 @@ ghost use mathlib.Core.Path.{_≡_};
 ghost use Prim.Native.Nat.{_≤_};
 ghost use lib.ListN.{length};
 ghost use Rattle.core.specs.Utf8.{Classes};
-ghost use Rattle.core.specs.Flow.{stateAfter, stateOf, State, Rows, Flow};
+ghost use Rattle.core.specs.inner.Flow.{stateAfter, stateOf, State, Rows, Flow};
 use crate::utf8::class::class_in;
 
 // For each class of a byte the states behind it, six bits for each state before it. A state is held as six times its number, so that it is

@@ -6,7 +6,7 @@ ghost use lib.Dec.{eqb};
 ghost use lib.ListN.{length, take, drop};
 ghost use Rattle.core.specs.Text.{every, ascii, plain, asciiSeen, isPlain};
 ghost use Rattle.core.specs.Utf8.{Classes, sound, illSize};
-ghost use Rattle.core.specs.Flow.{Rows, Flow};
+ghost use Rattle.core.specs.inner.Flow.{Rows, Flow};
 use crate::fill::least;
 use crate::utf8::flow::flow_over;
 use crate::utf8::flow::next_state;

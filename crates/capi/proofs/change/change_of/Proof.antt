@@ -8,7 +8,7 @@ use mathlib.Core.Path.{sym, ap, _∙_}
 use native.Mathlib.Omega.{arith}
 use Rattle.bflan.specs.declared.place.Place.{Place}
 use Rattle.edit.specs.Editing.{placeOf, valuesOf}
-use Rattle.capi.specs.Changed.{newKeyValues, newValues}
+use Rattle.capi.specs.inner.NewValues.{newKeyValues, newValues}
 use Rattle.capi.proofs.Keys.{constant-said, step-said, hermite-said, three-said}
 
 enum-told : tie.Need-enum-told

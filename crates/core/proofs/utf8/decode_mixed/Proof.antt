@@ -2,7 +2,7 @@
 -- Assumes nothing.
 use mathlib.Core.Path.{refl}
 use Rattle.core.specs.Utf8.{rows, within, classOf, byteClass}
-use Rattle.core.specs.Flow.{stateAfter}
+use Rattle.core.specs.inner.Flow.{stateAfter}
 use Rattle.core.proofs.utf8.Tables.{sample, classTest, rowTest, classes-by, rows-by}
 use borrow.Author.Needs.{needs}
 use Rattle.core.proofs.utf8.decode_mixed.Statement.{statement}

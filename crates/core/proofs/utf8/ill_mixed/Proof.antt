@@ -3,7 +3,7 @@
 use mathlib.Core.Path.{refl}
 use borrow.Author.Needs.{needs}
 use Rattle.core.specs.Utf8.{rows, within, classOf, byteClass}
-use Rattle.core.specs.Flow.{stateAfter}
+use Rattle.core.specs.inner.Flow.{stateAfter}
 use Rattle.core.proofs.utf8.Tables.{sample, classTest, rowTest, classes-by, rows-by}
 use Rattle.core.proofs.utf8.ill_mixed.Statement.{statement}
 use Rattle.core.proofs.utf8.ill_mixed.Tie as tie

@@ -12,7 +12,7 @@ use Rattle.bflan.specs.pai1.Places.{spot}
 use Rattle.bflan.specs.declared.place.Located.the-variants.{At}
 use Rattle.bflan.proofs.place.Locating.{spotted}
 use Rattle.edit.specs.Editing.{atSpot}
-use Rattle.edit.specs.Packing.{locatedAs}
+use Rattle.edit.specs.inner.Packing.{locatedAs}
 use Rattle.edit.proofs.Changes.{edit-long, edit-refused, edit-nowhere, edit-there}
 
 values-of-requires : tie.Need-values-of-requires

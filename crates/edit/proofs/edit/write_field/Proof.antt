@@ -9,7 +9,7 @@ use denote.Ref.{now}
 use lib.Seq.{sets}
 use Rattle.bflan.specs.Layout.{written, row}
 use Rattle.bflan.specs.pai1.Places.{widths, fit}
-use Rattle.edit.specs.Packing.{valuesIn}
+use Rattle.edit.specs.inner.Packing.{valuesIn}
 use Rattle.edit.specs.declared.values.Values.{Values}
 use Rattle.edit.proofs.Changes.{step-put, hermite-put, float-put, patterns-put}
 

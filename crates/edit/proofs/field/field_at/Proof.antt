@@ -10,7 +10,7 @@ use Rattle.bflan.specs.declared.place.Located.the-variants.{At}
 use Rattle.bflan.proofs.place.Locating.{spotted}
 use Rattle.edit.specs.declared.field.FieldAnswer.the-variants.{Is}
 use Rattle.edit.specs.FieldAt.{atLocated}
-use Rattle.edit.specs.Packing.{locatedAs}
+use Rattle.edit.specs.inner.Packing.{locatedAs}
 use Rattle.edit.proofs.FieldAt.{field-by}
 
 way-of-requires : tie.Need-way-of-requires

@@ -5,7 +5,7 @@ use Rattle.edit.proofs.field.field_values.Statement.{statement}
 use Rattle.edit.proofs.field.field_values.Tie as tie
 use mathlib.Core.Path.{sym, ap, _∙_}
 use Rattle.edit.specs.FieldAt.{ofValue}
-use Rattle.edit.specs.Packing.{valuesIn}
+use Rattle.edit.specs.inner.Packing.{valuesIn}
 
 enum-known-v : tie.Need-enum-known-v
 enum-known-v c = search needs

@@ -5,7 +5,7 @@ use Rattle.edit.proofs.field.key_at.Statement.{statement}
 use Rattle.edit.proofs.field.key_at.Tie as tie
 use native.Mathlib.Omega.{arith}
 use mathlib.Core.Path.{ap, _∙_}
-use Rattle.edit.specs.Packing.{readValue}
+use Rattle.edit.specs.inner.Packing.{readValue}
 use Rattle.edit.proofs.Changes.{got, size-rest}
 use Rattle.edit.proofs.FieldAt.{constant-room, step-room, constant-at, step-at, hermite-key}
 

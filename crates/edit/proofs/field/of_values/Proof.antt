@@ -5,7 +5,7 @@ use Rattle.edit.proofs.field.of_values.Statement.{statement}
 use Rattle.edit.proofs.field.of_values.Tie as tie
 use mathlib.Core.Path.{ap, sym}
 use Rattle.core.specs.Outcome.{flat, accepted, counted}
-use Rattle.edit.specs.Packing.{valuesIn}
+use Rattle.edit.specs.inner.Packing.{valuesIn}
 use Rattle.edit.specs.declared.values.Values.{Values}
 
 enum-known-v : tie.Need-enum-known-v

@@ -7,7 +7,7 @@ use mathlib.Core.Path.{refl, ap, _∙_}
 use Rattle.bflan.specs.pai1.Letters.{targetOf}
 use Rattle.bflan.specs.pai1.Places.{widths, total}
 use Rattle.bflan.specs.pai1.Reading.{flagOf}
-use Rattle.edit.specs.Packing.{readValue}
+use Rattle.edit.specs.inner.Packing.{readValue}
 use Rattle.edit.proofs.Changes.{got}
 use Rattle.edit.proofs.FieldAt.{field-room, frames-at, looping-at, layer-at, number-at, value-at, key-at}
 

@@ -3,7 +3,7 @@
 use borrow.Author.Needs.{needs}
 use Rattle.edit.proofs.journal.entry_at.Statement.{statement}
 use Rattle.edit.proofs.journal.entry_at.Tie as tie
-use Rattle.edit.specs.Packing.{entryList}
+use Rattle.edit.specs.inner.Packing.{entryList}
 use denote.Ref.{now}
 use Rattle.edit.proofs.Calls.{entry-read}
 

@@ -4,7 +4,7 @@ use borrow.Author.Needs.{needs}
 use Rattle.edit.proofs.journal.packed_at.Statement.{statement}
 use Rattle.edit.proofs.journal.packed_at.Tie as tie
 use mathlib.Core.Path.{ap, _∙_}
-use Rattle.edit.specs.Packing.{readValue}
+use Rattle.edit.specs.inner.Packing.{readValue}
 use Rattle.edit.proofs.Calls.{size-twelve}
 use Rattle.edit.proofs.Changes.{old-1, old-2, old-4, old-6, old-12}
 

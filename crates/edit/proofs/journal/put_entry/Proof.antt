@@ -6,7 +6,7 @@ use Rattle.edit.proofs.journal.put_entry.Tie as tie
 use native.Mathlib.Numerals.{add-one}
 use native.Mathlib.Omega.{arith}
 use lib.ListN.{length-set}
-use Rattle.edit.specs.Packing.{entryList}
+use Rattle.edit.specs.inner.Packing.{entryList}
 
 mul-i : tie.Need-mul-i
 mul-i c = search needs

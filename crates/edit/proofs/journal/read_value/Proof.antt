@@ -4,7 +4,7 @@ use borrow.Author.Needs.{needs}
 use Rattle.edit.proofs.journal.read_value.Statement.{statement}
 use Rattle.edit.proofs.journal.read_value.Tie as tie
 use mathlib.Core.Path.{sym, ap}
-use Rattle.edit.specs.Packing.{readValue}
+use Rattle.edit.specs.inner.Packing.{readValue}
 
 enum-known-r : tie.Need-enum-known-r
 enum-known-r c = search needs

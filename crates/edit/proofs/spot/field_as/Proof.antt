@@ -4,7 +4,7 @@ use borrow.Author.Needs.{needs}
 use Rattle.edit.proofs.spot.field_as.Statement.{statement}
 use Rattle.edit.proofs.spot.field_as.Tie as tie
 use mathlib.Core.Path.{sym, ap}
-use Rattle.edit.specs.Packing.{fieldAs}
+use Rattle.edit.specs.inner.Packing.{fieldAs}
 use Rattle.edit.specs.declared.spot.Kind.{Kind}
 
 enum-told : tie.Need-enum-told

@@ -6,7 +6,7 @@ use Rattle.edit.proofs.spot.spot_at.Tie as tie
 use mathlib.Core.Path.{sym, ap, _∙_}
 use denote.Ref.{now}
 use Rattle.bflan.specs.pai1.Locating.{locating}
-use Rattle.edit.specs.Packing.{locatedAs}
+use Rattle.edit.specs.inner.Packing.{locatedAs}
 
 place-as-requires : tie.Need-place-as-requires
 place-as-requires c κs = search needs

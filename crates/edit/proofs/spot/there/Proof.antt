@@ -5,7 +5,7 @@ use Rattle.edit.proofs.spot.there.Statement.{statement}
 use Rattle.edit.proofs.spot.there.Tie as tie
 use mathlib.Core.Path.{sym, ap}
 use Rattle.bflan.specs.declared.place.Located.the-variants.{At}
-use Rattle.edit.specs.Packing.{fieldAs, locatedAs}
+use Rattle.edit.specs.inner.Packing.{fieldAs, locatedAs}
 
 enum-told : tie.Need-enum-told
 enum-told c = search needs

@@ -3,7 +3,7 @@
 use borrow.Author.Needs.{needs}
 use Rattle.edit.proofs.spot.way_of.Statement.{statement}
 use Rattle.edit.proofs.spot.way_of.Tie as tie
-use Rattle.edit.specs.Packing.{placeAs}
+use Rattle.edit.specs.inner.Packing.{placeAs}
 
 enum-told : tie.Need-enum-told
 enum-told c = search needs

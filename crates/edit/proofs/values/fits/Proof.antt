@@ -6,7 +6,7 @@ use Rattle.edit.proofs.values.fits.Tie as tie
 use mathlib.Core.Path.{sym, ap, _∙_}
 use Rattle.bflan.specs.pai1.Places.{fit}
 use Rattle.bflan.specs.declared.place.Field.{Field}
-use Rattle.edit.specs.Packing.{valuesIn}
+use Rattle.edit.specs.inner.Packing.{valuesIn}
 use Rattle.edit.proofs.Changes.{fit-frames, fit-looping, fit-layer, fit-value}
 
 enum-told : tie.Need-enum-told

@@ -8,7 +8,7 @@ use mathlib.Core.List.{[], _∷_}
 use mathlib.Core.Path.{sym, ap, _∙_}
 use Rattle.bflan.specs.pai1.Places.{fitWidths}
 use Rattle.edit.specs.declared.values.Values.{Values}
-use Rattle.edit.specs.Packing.{valuesIn}
+use Rattle.edit.specs.inner.Packing.{valuesIn}
 use Rattle.edit.proofs.Changes.{hermite-one, hermite-two, hermite-three}
 
 enum-known-v : tie.Need-enum-known-v

@@ -7,7 +7,7 @@ use mathlib.Core.Path.{sym, ap, _∙_}
 use Rattle.bflan.specs.pai1.Places.{fit}
 use Rattle.bflan.specs.declared.place.Field.the-variants.{Target}
 use Rattle.edit.specs.declared.values.Values.{Values}
-use Rattle.edit.specs.Packing.{valuesIn}
+use Rattle.edit.specs.inner.Packing.{valuesIn}
 use Rattle.edit.proofs.Changes.{fit-above, fit-target, fit-two, fit-three}
 
 enum-known-v : tie.Need-enum-known-v

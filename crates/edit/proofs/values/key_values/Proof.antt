@@ -9,7 +9,7 @@ use mathlib.Core.List.{[], _∷_}
 use Rattle.core.specs.Float.{patternOf}
 use Rattle.core.specs.declared.float.HermiteBits.{HermiteBits}
 use Rattle.edit.specs.Editing.{keyWords}
-use Rattle.edit.specs.Packing.{valuesIn}
+use Rattle.edit.specs.inner.Packing.{valuesIn}
 use Rattle.edit.proofs.Changes.{step-words}
 
 enum-known-new : tie.Need-enum-known-new

@@ -5,7 +5,7 @@ use Rattle.edit.proofs.values.one_most.Statement.{statement}
 use Rattle.edit.proofs.values.one_most.Tie as tie
 use mathlib.Core.Path.{sym, ap}
 use Rattle.edit.specs.declared.values.Values.{Values}
-use Rattle.edit.specs.Packing.{valuesIn, oneMost}
+use Rattle.edit.specs.inner.Packing.{valuesIn, oneMost}
 
 enum-known-v : tie.Need-enum-known-v
 enum-known-v c = search needs

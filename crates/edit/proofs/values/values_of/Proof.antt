@@ -5,7 +5,7 @@ use Rattle.edit.proofs.values.values_of.Statement.{statement}
 use Rattle.edit.proofs.values.values_of.Tie as tie
 use mathlib.Core.Path.{sym, ap, _∙_}
 use Rattle.edit.specs.Editing.{valuesOf}
-use Rattle.edit.specs.Packing.{valuesIn}
+use Rattle.edit.specs.inner.Packing.{valuesIn}
 
 enum-known-change : tie.Need-enum-known-change
 enum-known-change c = search needs

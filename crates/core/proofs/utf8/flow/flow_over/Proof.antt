@@ -3,7 +3,7 @@
 use Prim.Native.Nat.{_-_, _≤_}
 use mathlib.Core.Path.{_≡_}
 use native.Mathlib.Omega.{arith}
-use Rattle.core.specs.Flow.{Flow}
+use Rattle.core.specs.inner.Flow.{Flow}
 use Rattle.core.proofs.utf8.Automaton.{flow-start, flow-turn}
 use borrow.Author.Needs.{needs}
 use Rattle.core.proofs.utf8.flow.flow_over.Statement.{statement}

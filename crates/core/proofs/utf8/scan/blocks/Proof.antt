@@ -7,7 +7,7 @@ use borrow.Author.Tests.{eqb-true}
 use denote.Ref.{now}
 use lib.ListN.{length, drop}
 use Rattle.core.specs.Utf8.{sound}
-use Rattle.core.specs.Flow.{Flow}
+use Rattle.core.specs.inner.Flow.{Flow}
 use Rattle.core.specs.Text.{ascii}
 use Rattle.core.proofs.Tests.{every-in}
 use Rattle.core.proofs.utf8.Laws.{both-true}

@@ -6,7 +6,7 @@ use Prim.Native.Nat.{_+_, _-_, _≤_}
 use native.Mathlib.Omega.{arith}
 use lib.ListN.{drop}
 use Rattle.core.specs.Utf8.{sound}
-use Rattle.core.specs.Flow.{stateOf, State}
+use Rattle.core.specs.inner.Flow.{stateOf, State}
 use Rattle.core.proofs.utf8.Automaton.{zero-state, state-zero, state-lost, not-zero, not-lost}
 use Rattle.core.proofs.utf8.Inside.{Inside, inside-start, inside-turn, inside-cut, inside-on, inside-new, inside-done}
 use borrow.Author.Needs.{needs}
