@@ -4,7 +4,7 @@ ghost use Prim.Native.Nat.{_≤_};
 ghost use lib.ListN.{length};
 ghost use Rattle.bflan.specs.pai1.Locating.{ofSpot, locating};
 ghost use Rattle.bflan.specs.inner.Path.{contentBase, infoBase, infoUnder, targetBase, afterBase, datumBase, layerUnder, numberUnder, keyUnder, valueUnder, SectionAt, ContentAt, InfoAt, TargetAt, DatumAt};
-ghost use Rattle.bflan.specs.pai1.Places.{stride, infoTableIn, keyIn, valueIn, locate};
+ghost use Rattle.bflan.specs.pai1.Places.{stride, infoTableIn, trackAt, keyIn, valueIn, locate};
 ghost use Rattle.bflan.specs.Reader.{many};
 ghost use Rattle.bflan.specs.pai1.Reading.{datum};
 use crate::fault::Fault;
@@ -40,6 +40,15 @@ pub enum Field {
     // A key of this curve.
     Key(u32),
     Value,
+}
+
+// Where a target stands, as reading has it: its first byte, its curve and its key count (a curve above 2 is an empty Constant), and the first
+// byte of its first key.
+pub struct Track {
+    pub start: usize,
+    pub curve: u32,
+    pub count: usize,
+    pub keys: usize,
 }
 
 // Where the field of a place stands.
@@ -159,22 +168,42 @@ fn stride(curve: u32) -> usize
     }
 }
 
-// A key of the target that starts at `b`. A curve above 2 has none.
+// The target that starts at `b`, as reading has it.
+fn track_at(s: &[u8], b: usize) -> Track
+    requires { ⌜ (length (now s) ≤ 16777216) × TargetAt (now s) b ⌝ }
+    ensures { λ r. ⌜ r ≡ trackAt (now (s .entry)) b ⌝ }
+{
+    let curve = byte_at(s, b + 2);
+    let n = half_at(s, b + 4) as usize;
+    let keys = b + offset_at(s, b + 8);
+    if 2 < curve {
+        return Track {
+            start: b,
+            curve: 0,
+            count: 0,
+            keys,
+        };
+    }
+    Track {
+        start: b,
+        curve,
+        count: n,
+        keys,
+    }
+}
+
+// A key of the target that starts at `b`.
 fn key_in(s: &[u8], b: usize, k: usize) -> Located
     requires { ⌜ (length (now s) ≤ 16777216) × TargetAt (now s) b ⌝ }
     ensures { λ r. ⌜ r ≡ ofSpot (keyIn (now (s .entry)) b k) ⌝ }
 {
-    let curve = byte_at(s, b + 2);
-    let n = half_at(s, b + 4) as usize;
-    if 2 < curve {
-        return Located::NoSuchPlace;
-    }
+    let t = track_at(s, b);
+    let n = t.count;
     if n <= k {
         return Located::NoSuchPlace;
     }
-    let start = b + offset_at(s, b + 8);
-    let gap = stride(curve);
-    Located::At(start + k * gap, Field::Key(curve))
+    let gap = stride(t.curve);
+    Located::At(t.keys + k * gap, Field::Key(t.curve))
 }
 
 // A value of the datum that starts at `b`.

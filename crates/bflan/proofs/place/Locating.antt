@@ -18,6 +18,7 @@ use Rattle.bflan.specs.declared.fault.Fault.the-variants.{OtherLetters}
 use Rattle.bflan.specs.declared.place.Field.{Field}
 use Rattle.bflan.specs.declared.place.Field.the-variants.{FrameCount as frames, Looping as looping, Layer as layer, Target as number′, Key as key, Value as value}
 use Rattle.bflan.specs.declared.place.Place.{Place}
+use Rattle.bflan.specs.declared.place.Track.{Track}
 use Rattle.bflan.specs.declared.place.Place.the-variants.{FrameCount, Looping, Layer, Target, Key, Value}
 use Rattle.bflan.specs.declared.place.Located.{Located}
 use Rattle.bflan.specs.declared.place.Located.the-variants.{TooLong, Refused, NoSuchPlace, At}
@@ -29,7 +30,7 @@ use Rattle.bflan.specs.pai1.Letters.{fleu, lettersOf}
 use Rattle.bflan.specs.Limits.{limit}
 use Rattle.bflan.specs.pai1.Locating.{ofSpot, locatingIn, locating}
 use Rattle.bflan.specs.inner.Path.{layerUnder, numberUnder, keyUnder, valueUnder, contentBase, infoBase, infoUnder, targetBase, afterBase, datumBase, TargetAt, DatumAt, InfoAt, ContentAt, SectionAt}
-use Rattle.bflan.specs.pai1.Places.{Spot, nowhere, spot, after as behind, widths, total, stride, keyIn, valueIn, targetIn, datumIn, infoTableIn, infoIn, contentIn, locate}
+use Rattle.bflan.specs.pai1.Places.{Spot, nowhere, spot, after as behind, widths, total, stride, trackAt, keyIn, valueIn, targetIn, datumIn, infoTableIn, infoIn, contentIn, locate}
 use Rattle.bflan.specs.Reader.{Res, ok, stop, P, andThen, _>>=_, ret, given, fail, here, Item, word, text, num, seekTo, skip, fixedText, numbers, many, visit}
 use Rattle.bflan.specs.pai1.Reading.{keyOf, curveOf, countOf, keys, target, datum, info, typeOf, infoTable, content, texture, ownLetters, contents, body, section}
 use Rattle.bflan.specs.pai1.Record.{keyWidths}
@@ -538,35 +539,31 @@ module _ (s : List ℕ) where
   stride-rest (suc zero) a b = absurd (b refl)
   stride-rest (suc (suc c)) a b = sym (stride-three c)
 
-  -- a key and a value
-  module _ (b k : ℕ) {curve n : ℕ} (ec : curve ≡ get 1 s (b + 2)) (en : n ≡ get 2 s (b + 4)) where
-    pub key-above : 2 < curve → NoSuchPlace ≡ ofSpot (keyIn s b k)
-    unfolding keyIn countOf ofSpot
-    key-above h =
-        let e : leb (get 1 s (b + 2)) 2 ≡ false = lt-leb (get 1 s (b + 2)) 2 (rw ec at h) in
-        let d : ltb k 0 ≡ false = le-ltb k 0 (omega arith) in
-        rw (e, d)
+  -- a target, a key and a value
+  module _ (b : ℕ) {curve n off : ℕ} (ec : curve ≡ get 1 s (b + 2)) (en : n ≡ get 2 s (b + 4)) (eo : off ≡ get 4 s (b + 8)) where
+    pub track-above : 2 < curve → _≡_ {A = Track} (record { start = b; curve = 0; count = 0; keys = b + off }) (trackAt s b)
+    unfolding curveOf countOf
+    track-above h = rw (lt-leb (get 1 s (b + 2)) 2 (rw ec at h), eo)
 
-    module _ (h : curve ≤ 2) where
-      low : leb (get 1 s (b + 2)) 2 ≡ true
-      low = le-leb (get 1 s (b + 2)) 2 (rw ec at h)
+    pub track-low : curve ≤ 2 → _≡_ {A = Track} (record { start = b; curve = curve; count = n; keys = b + off }) (trackAt s b)
+    unfolding curveOf countOf
+    track-low h = rw (le-leb (get 1 s (b + 2)) 2 (rw ec at h), eo, ec, en)
 
-      pub key-none : n ≤ k → NoSuchPlace ≡ ofSpot (keyIn s b k)
-      unfolding keyIn countOf ofSpot
-      key-none l = let d : ltb k (get 2 s (b + 4)) ≡ false = le-ltb k (get 2 s (b + 4)) (rw en at l) in rw (low, d)
+  module _ (b k : ℕ) {t : Track} (e : t ≡ trackAt s b) where
+    pub key-none : t .count ≤ k → NoSuchPlace ≡ ofSpot (keyIn s b k)
+    unfolding keyIn ofSpot
+    key-none l = rw (le-ltb k (trackAt s b .count) (rw e at l))
 
-      pub key-there : k < n → {off gap : ℕ} → off ≡ get 4 s (b + 8) → gap ≡ stride curve → At (b + off + k * gap) (key curve) ≡ ofSpot (keyIn s b k)
-      unfolding keyIn countOf curveOf ofSpot
-      key-there l eo eg = let d : ltb k (get 2 s (b + 4)) ≡ true = lt-ltb k (get 2 s (b + 4)) (rw en at l) in rw (low, d, eo, eg, ec)
+    pub key-there : k < t .count → {gap : ℕ} → gap ≡ stride (t .curve) → At (t .keys + k * gap) (key (t .curve)) ≡ ofSpot (keyIn s b k)
+    unfolding keyIn ofSpot
+    key-there l eg = rw (lt-ltb k (trackAt s b .count) (rw e at l), eg, e)
 
-      -- it lies in the section, so that its place is a number
-      pub key-fits : TargetAt s b → k < n → {off gap : ℕ} → off ≡ get 4 s (b + 8) → gap ≡ stride curve → b + off + k * gap ≤ length s
-      unfolding countOf curveOf
-      key-fits x l {off} {gap} eo eg =
-          let c : k < countOf (get 1 s (b + 2)) (get 2 s (b + 4)) = rw low (rw en at l) in
-          let f = x .keys k c in
-          let e : b + get 4 s (b + 8) + k * stride (curveOf (get 1 s (b + 2))) ≡ b + off + k * gap = rw (low, eo, eg, ec) in
-          omega (arith, f, e)
+    -- it lies in the section, so that its place is a number
+    pub key-fits : TargetAt s b → k < t .count → {gap : ℕ} → gap ≡ stride (t .curve) → t .keys + k * gap ≤ length s
+    key-fits x l {gap} eg =
+        let f = x .keys k (rw e at l) in
+        let d : trackAt s b .keys + k * stride (trackAt s b .curve) ≡ t .keys + k * gap = rw (eg, e) in
+        omega (arith, f, d)
 
   module _ (b l v : ℕ) {n : ℕ} (en : n ≡ get 4 s (b + 8)) where
     pub value-list : 3 ≤ l → NoSuchPlace ≡ ofSpot (valueIn s b l v)

@@ -10,6 +10,7 @@ use Rattle.core.specs.Number.{get}
 use Rattle.bflan.specs.declared.place.Place.{Place}
 use Rattle.bflan.specs.declared.place.Place.the-variants.{FrameCount, Looping, Layer, Target, Key, Value}
 use Rattle.bflan.specs.declared.place.Field.{Field}
+use Rattle.bflan.specs.declared.place.Track.{Track}
 use Rattle.bflan.specs.declared.place.Field.the-variants.{FrameCount as frames, Looping as looping, Layer as layer, Target as number, Key as key, Value as value}
 use Rattle.bflan.specs.pai1.Layout.{keySkip}
 use Rattle.bflan.specs.pai1.Letters.{fleu, lettersOf, targetFits}
@@ -64,11 +65,16 @@ pub data Spot : Type 0 where
 unfoldable pub stride : ℕ → ℕ
 stride curve = total (keyWidths curve) + keySkip curve
 
--- under the target that starts at b, of an info with these letters
+-- the target that starts at b, as reading has it: its curve and key count, and where its keys begin
+abbrev pub trackAt : List ℕ → ℕ → Track
+trackAt s b =
+    record { start = b; curve = curveOf (get 1 s (b + 2)); count = countOf (get 1 s (b + 2)) (get 2 s (b + 4)); keys = b + get 4 s (b + 8) }
+
+-- a key of it
 unfoldable pub keyIn : List ℕ → ℕ → ℕ → Spot
 keyIn s b k =
-    pick (ltb k (countOf (get 1 s (b + 2)) (get 2 s (b + 4))))
-    (spot (b + get 4 s (b + 8) + k * stride (curveOf (get 1 s (b + 2)))) (key (curveOf (get 1 s (b + 2)))))
+    pick (ltb k (trackAt s b .count))
+    (spot (trackAt s b .keys + k * stride (trackAt s b .curve)) (key (trackAt s b .curve)))
     nowhere
 
 -- under the datum that starts at b: three lists of base count values
