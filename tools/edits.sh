@@ -19,6 +19,7 @@ carry_out() { # EDIT HERE [src]
     while IFS= read -r line; do
         case $line in
         'at: '*) at=${line#at: } ;;
+        'among: '*) at=${line#among: } ;;
         'proof: '*) file=${line#proof: }; [ -f "$2/$file" ] && cp "${1%.edit}.proof" "$2/$file" || return 1 ;;
         'file: '*) file=${line#file: } ;;
         'old: '*) old=${line#old: } ;;

@@ -5,3 +5,4 @@ pub mod ReadTree
 pub mod Rewriting
 pub mod RoundTrip
 pub mod Verdicts
+pub mod WrittenBytes

@@ -1,4 +1,3 @@
 pub mod LayoutParts
 pub mod Pens
 pub mod WriteAnswers
-pub mod WrittenBytes

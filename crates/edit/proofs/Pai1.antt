@@ -17,7 +17,7 @@ use Rattle.bflan.specs.declared.place.Place.{Place}
 use Rattle.bflan.proofs.place.Fields.{Finding as Found, absent as gone, present as there, finding}
 use Rattle.bflan.proofs.Layouts.{size-written}
 use Rattle.bflan.proofs.round_trip.RoundTrip.{reads-back, read-written}
-use Rattle.bflan.proofs.writer.WrittenBytes.{written-bytes}
+use Rattle.bflan.proofs.round_trip.WrittenBytes.{written-bytes}
 use Rattle.edit.specs.Format.{pai1, Reads, Writes}
 use Rattle.edit.specs.Journal.{capacity}
 use Rattle.edit.specs.Machine.{Call, started, Agrees}
