@@ -72,10 +72,7 @@ trackAt s b =
 
 -- a key of it
 unfoldable pub keyIn : List ℕ → ℕ → ℕ → Spot
-keyIn s b k =
-    pick (ltb k (trackAt s b .count))
-    (spot (trackAt s b .keys + k * stride (trackAt s b .curve)) (key (trackAt s b .curve)))
-    nowhere
+keyIn s b k = pick (ltb k (trackAt s b .count)) (spot (trackAt s b .keys + k * stride (trackAt s b .curve)) (key (trackAt s b .curve))) nowhere
 
 -- under the datum that starts at b: three lists of base count values
 unfoldable pub valueIn : List ℕ → ℕ → ℕ → ℕ → Spot
