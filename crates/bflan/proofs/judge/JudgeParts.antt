@@ -15,7 +15,7 @@ use Rattle.core.specs.Number.{le}
 use Rattle.bflan.specs.declared.judge.Mark.{Mark}
 use Rattle.bflan.specs.declared.judge.Verdict.{Verdict}
 use Rattle.bflan.specs.declared.judge.Verdict.the-variants.{Fine, BadWord, BadText}
-use Rattle.bflan.specs.Judge.{Judged, fine, badWord, badText, J, andThen, ret, nextWord, nextChars, nextText, times, wide, row, ends, whole}
+use Rattle.bflan.specs.Judge.{Judged, fine, badWord, badText, J, andThen, _>>=_, ret, given, nextWord, nextChars, nextText, times, wide, row, ends, whole}
 use Rattle.bflan.specs.pai1.Judge.{target, datum, info, content, pane}
 use Rattle.bflan.specs.pai1.Letters.{fleu, lettersFit, targetFits}
 use Rattle.bflan.specs.Layout.{zeros, number, size, parts, ended}
@@ -24,11 +24,11 @@ use Rattle.bflan.specs.inner.Measure.{verdictOf}
 use Rattle.bflan.specs.inner.Measure.{fits, grown, filledUp, padded}
 use Rattle.bflan.specs.inner.JudgeParts.{ValuesAndKey, valuesAndKey, afterName, afterHead}
 use Rattle.bflan.specs.pai1.Places.{total}
-use Rattle.bflan.specs.pai1.Record.{AnimTarget, Standard, AnimInfo, AnimContent, PaneAnimInfo, keyWidths}
+use Rattle.bflan.specs.pai1.Record.{AnimTarget, ExtendedUserDataAnim, Standard, ExtendedUserData, AnimInfo, AnimContent, PaneAnimInfo, keyWidths}
 use Rattle.bflan.specs.inner.Walk.{sat}
 use Rattle.bflan.proofs.Layouts.{size-row, size-table, user-size}
 use Rattle.bflan.proofs.reader.Inversion.{times-length}
-use Rattle.bflan.proofs.judge.Measures.{marked, measured-padded, sat-filled, grown-sat, was-word, was-text, was-fine, measured-by, measured-grown, measured-made, then-grown, word-fine, word-bad, times-none, times-turn, steps-as, steps-word, steps-row, steps-times, ran, steps-measured, size-parts, size-numbers}
+use Rattle.bflan.proofs.judge.Measures.{testsThen, Tested, bad-at, marked, measured-padded, sat-filled, grown-sat, was-word, was-text, was-fine, measured-by, measured-grown, measured-made, then-grown, word-fine, word-bad, times-none, times-turn, steps-as, steps-word, steps-row, steps-times, ran, steps-measured, size-parts, size-numbers}
 
 -- ---- texts
 
@@ -162,24 +162,15 @@ keys-step w x i j curve n e = rw e
 -- ---- a target: refused at its first word, .., at its fourth, or measured with its keys
 
 module _ (letters : ℕ) (w x : List ℕ) (i j : ℕ) where
-  pub target-first : fits (wide 1) w i ≡ false → BadWord i ≡ verdictOf (λ t. size (targetLay t)) (target letters w x i j)
-  unfolding target verdictOf
-  target-first e = rw (word-bad (wide 1) w x i j e)
+  abbrev pub targetTests : List (ℕ → Bool)
+  targetTests = wide 1 ∷ targetFits letters ∷ (λ c. ltb c 3) ∷ wide 2 ∷ []
 
-  pub target-second : fits (wide 1) w i ≡ true → fits (targetFits letters) w (i + 1) ≡ false → BadWord (i + 1) ≡ verdictOf (λ t. size (targetLay t)) (target letters w x i j)
-  unfolding target verdictOf
-  target-second e1 e = rw (word-fine (wide 1) w x i j e1, word-bad (targetFits letters) w x (i + 1) j e)
+  abbrev pub targetThen : List ℕ → J AnimTarget
+  targetThen vs = _>>=_ (times (getD vs 3 0) (row (keyWidths (getD vs 2 0)))) (λ ks. ret (record { layer = getD vs 0 0; target = getD vs 1 0; curve = getD vs 2 0; keys = ks }))
 
-  pub target-third : fits (wide 1) w i ≡ true → fits (targetFits letters) w (i + 1) ≡ true → fits (λ c. ltb c 3) w (i + 1 + 1) ≡ false
-      → BadWord (i + 1 + 1) ≡ verdictOf (λ t. size (targetLay t)) (target letters w x i j)
-  unfolding target verdictOf
-  target-third e1 e2 e = rw (word-fine (wide 1) w x i j e1, word-fine (targetFits letters) w x (i + 1) j e2, word-bad (λ c. ltb c 3) w x (i + 1 + 1) j e)
-
-  pub target-fourth : fits (wide 1) w i ≡ true → fits (targetFits letters) w (i + 1) ≡ true → fits (λ c. ltb c 3) w (i + 1 + 1) ≡ true → fits (wide 2) w (i + 1 + 1 + 1) ≡ false
-      → BadWord (i + 1 + 1 + 1) ≡ verdictOf (λ t. size (targetLay t)) (target letters w x i j)
-  unfolding target verdictOf
-  target-fourth e1 e2 e3 e =
-      rw (word-fine (wide 1) w x i j e1, word-fine (targetFits letters) w x (i + 1) j e2, word-fine (λ c. ltb c 3) w x (i + 1 + 1) j e3, word-bad (wide 2) w x (i + 1 + 1 + 1) j e)
+  pub target-bad : {k : ℕ} → Tested targetTests targetThen w x i j (badWord k) → BadWord k ≡ verdictOf (λ t. size (targetLay t)) (target letters w x i j)
+  unfolding target testsThen
+  target-bad h = bad-at (λ t. size (targetLay t)) (h .gives)
 
   pub target-whole : fits (wide 1) w i ≡ true → fits (targetFits letters) w (i + 1) ≡ true → fits (λ c. ltb c 3) w (i + 1 + 1) ≡ true → fits (wide 2) w (i + 1 + 1 + 1) ≡ true
       → (curve n : ℕ) → curve ≡ getD w (i + 1 + 1) 0 → n ≡ getD w (i + 1 + 1 + 1) 0
@@ -224,28 +215,17 @@ module _ (n : ℕ) (w x : List ℕ) (i j : ℕ) where
           ∙ rw is (then-grown behindSize (λ t. size (ended t)) (nextText (wide 4) w x (m .word) (m .byte)) w x (size (parts (number 4) vs)) v _ ev (λ t u u′ d. refl))
 
 module _ (w x : List ℕ) (i j : ℕ) where
-  pub datum-first : fits (wide 4) w i ≡ false → BadWord i ≡ verdictOf (λ d. size (datumLay d)) (datum w x i j)
-  unfolding datum verdictOf
-  datum-first e = rw (word-bad (wide 4) w x i j e)
+  abbrev pub datumTests : List (ℕ → Bool)
+  datumTests = wide 4 ∷ wide 2 ∷ wide 2 ∷ wide 4 ∷ wide 4 ∷ []
 
-  pub datum-second : fits (wide 4) w i ≡ true → fits (wide 2) w (i + 1) ≡ false → BadWord (i + 1) ≡ verdictOf (λ d. size (datumLay d)) (datum w x i j)
-  unfolding datum verdictOf
-  datum-second e1 e = rw (word-fine (wide 4) w x i j e1, word-bad (wide 2) w x (i + 1) j e)
+  abbrev pub datumThen : List ℕ → J ExtendedUserDataAnim
+  datumThen vs =
+      _>>=_ (times (3 * getD vs 3 0) (nextWord (wide 4)))
+      (λ ns. _>>=_ (nextText (wide 4)) (λ key. ret (record { headerSize = getD vs 0 0; unk1 = getD vs 1 0; unk2 = getD vs 2 0; baseCount = getD vs 3 0; unk3 = getD vs 4 0; values = ns; key = key })))
 
-  pub datum-third : fits (wide 4) w i ≡ true → fits (wide 2) w (i + 1) ≡ true → fits (wide 2) w (i + 1 + 1) ≡ false → BadWord (i + 1 + 1) ≡ verdictOf (λ d. size (datumLay d)) (datum w x i j)
-  unfolding datum verdictOf
-  datum-third e1 e2 e = rw (word-fine (wide 4) w x i j e1, word-fine (wide 2) w x (i + 1) j e2, word-bad (wide 2) w x (i + 1 + 1) j e)
-
-  pub datum-fourth : fits (wide 4) w i ≡ true → fits (wide 2) w (i + 1) ≡ true → fits (wide 2) w (i + 1 + 1) ≡ true → fits (wide 4) w (i + 1 + 1 + 1) ≡ false
-      → BadWord (i + 1 + 1 + 1) ≡ verdictOf (λ d. size (datumLay d)) (datum w x i j)
-  unfolding datum verdictOf
-  datum-fourth e1 e2 e3 e = rw (word-fine (wide 4) w x i j e1, word-fine (wide 2) w x (i + 1) j e2, word-fine (wide 2) w x (i + 1 + 1) j e3, word-bad (wide 4) w x (i + 1 + 1 + 1) j e)
-
-  pub datum-fifth : fits (wide 4) w i ≡ true → fits (wide 2) w (i + 1) ≡ true → fits (wide 2) w (i + 1 + 1) ≡ true → fits (wide 4) w (i + 1 + 1 + 1) ≡ true → fits (wide 4) w (i + 1 + 1 + 1 + 1) ≡ false
-      → BadWord (i + 1 + 1 + 1 + 1) ≡ verdictOf (λ d. size (datumLay d)) (datum w x i j)
-  unfolding datum verdictOf
-  datum-fifth e1 e2 e3 e4 e =
-      rw (word-fine (wide 4) w x i j e1, word-fine (wide 2) w x (i + 1) j e2, word-fine (wide 2) w x (i + 1 + 1) j e3, word-fine (wide 4) w x (i + 1 + 1 + 1) j e4, word-bad (wide 4) w x (i + 1 + 1 + 1 + 1) j e)
+  pub datum-bad : {k : ℕ} → Tested datumTests datumThen w x i j (badWord k) → BadWord k ≡ verdictOf (λ d. size (datumLay d)) (datum w x i j)
+  unfolding datum testsThen
+  datum-bad h = bad-at (λ d. size (datumLay d)) (h .gives)
 
   pub datum-whole : fits (wide 4) w i ≡ true → fits (wide 2) w (i + 1) ≡ true → fits (wide 2) w (i + 1 + 1) ≡ true → fits (wide 4) w (i + 1 + 1 + 1) ≡ true → fits (wide 4) w (i + 1 + 1 + 1 + 1) ≡ true
       → (base : ℕ) → base ≡ getD w (i + 1 + 1 + 1) 0 → (v : Verdict) → v ≡ verdictOf behindSize (valuesAndKey (3 * base) w x (i + 1 + 1 + 1 + 1 + 1) j)
@@ -262,13 +242,14 @@ unfolding infoLay infoHead size le
 targets-size letters n ts l = let t = size-table targetLay (8 + 4 * length ts) ts in omega (arith, l, t)
 
 module _ (w x : List ℕ) (i j : ℕ) where
-  pub info-first : fits lettersFit w i ≡ false → BadWord i ≡ verdictOf (λ a. size (infoLay a)) (info w x i j)
-  unfolding info verdictOf
-  info-first e = rw (word-bad lettersFit w x i j e)
+  abbrev pub infoThen : List ℕ → J AnimInfo
+  infoThen vs =
+      given (eqb (getD vs 0 0) fleu) (_>>=_ (times (getD vs 1 0) datum) (λ ds. ret (ExtendedUserData ds)))
+      (_>>=_ (times (getD vs 1 0) (target (getD vs 0 0))) (λ ts. ret (Standard (getD vs 0 0) ts)))
 
-  pub info-second : fits lettersFit w i ≡ true → fits (wide 1) w (i + 1) ≡ false → BadWord (i + 1) ≡ verdictOf (λ a. size (infoLay a)) (info w x i j)
-  unfolding info verdictOf
-  info-second e1 e = rw (word-fine lettersFit w x i j e1, word-bad (wide 1) w x (i + 1) j e)
+  pub info-bad : {k : ℕ} → Tested (lettersFit ∷ wide 1 ∷ []) infoThen w x i j (badWord k) → BadWord k ≡ verdictOf (λ a. size (infoLay a)) (info w x i j)
+  unfolding info testsThen
+  info-bad h = bad-at (λ a. size (infoLay a)) (h .gives)
 
   module _ (e1 : fits lettersFit w i ≡ true) (e2 : fits (wide 1) w (i + 1) ≡ true) (letters n : ℕ) (el : letters ≡ getD w i 0) (en : n ≡ getD w (i + 1) 0) (v : Verdict) where
     pub info-data : letters ≡ fleu → v ≡ verdictOf (λ ds. size (parts datumLay ds)) (times n datum w x (i + 1 + 1) j) → grown 8 v ≡ verdictOf (λ a. size (infoLay a)) (info w x i j)
@@ -312,13 +293,12 @@ unfolding contentLay size filledUp
 content-size c h = rw (← body-size c h) (ap (λ (n : ℕ). size (contentBody c) + n) (sym (zeros-size (paddingOf (size (contentBody c))))))
 
 module _ (name w x : List ℕ) (i j : ℕ) where
-  pub named-first : fits (λ t. leb t 4) w i ≡ false → BadWord i ≡ verdictOf (λ c. size (contentLay c)) (afterName name w x i j)
-  unfolding afterName verdictOf
-  named-first e = rw (word-bad (λ t. leb t 4) w x i j e)
+  abbrev pub namedThen : List ℕ → J AnimContent
+  namedThen vs = _>>=_ (times (getD vs 1 0) info) (λ is. ret (record { name = name; type = getD vs 0 0; infos = is }))
 
-  pub named-second : fits (λ t. leb t 4) w i ≡ true → fits (wide 1) w (i + 1) ≡ false → BadWord (i + 1) ≡ verdictOf (λ c. size (contentLay c)) (afterName name w x i j)
-  unfolding afterName verdictOf
-  named-second e1 e = rw (word-fine (λ t. leb t 4) w x i j e1, word-bad (wide 1) w x (i + 1) j e)
+  pub named-bad : {k : ℕ} → Tested ((λ t. leb t 4) ∷ wide 1 ∷ []) namedThen w x i j (badWord k) → BadWord k ≡ verdictOf (λ c. size (contentLay c)) (afterName name w x i j)
+  unfolding afterName testsThen
+  named-bad h = bad-at (λ c. size (contentLay c)) (h .gives)
 
   named-made : (head n type : ℕ) → head ≡ tableFrom type + 4 * n → length name ≤ 28 → (r : Judged (List AnimInfo)) → ((ps : List AnimInfo) (u v : ℕ) → r ≡ fine ps u v → length ps ≡ n)
       → padded (grown head (verdictOf (λ ps. size (parts infoLay ps)) r)) ≡ verdictOf (λ c. size (contentLay c)) (andThen r (λ ps. ret (record { name = name; type = type; infos = ps })) w x)
@@ -433,27 +413,18 @@ module _ (frames looping nt nc : ℕ) (w x : List ℕ) (i j : ℕ) where
           (λ cs u u′ d. ap (λ (k : ℕ). f + 4 * k + size (parts contentLay cs)) (sym (times-length content w x nc (m .word) (m .byte) d)) ∙ section-size (made frames looping ts cs)))
 
 module _ (w x : List ℕ) (i j : ℕ) where
-  pub pane-first : fits (wide 2) w i ≡ false → BadWord i ≡ verdictOf (λ (a : PaneAnimInfo). size (sectionLay a)) (pane w x i j)
-  unfolding pane verdictOf
-  pane-first e = rw (word-bad (wide 2) w x i j e)
+  abbrev pub paneTests : List (ℕ → Bool)
+  paneTests = wide 2 ∷ (λ b. leb b 1) ∷ wide 2 ∷ wide 2 ∷ []
 
-  module _ (e1 : fits (wide 2) w i ≡ true) where
-    pub pane-second : fits (λ b. leb b 1) w (i + 1) ≡ false → BadWord (i + 1) ≡ verdictOf (λ (a : PaneAnimInfo). size (sectionLay a)) (pane w x i j)
-    unfolding pane verdictOf
-    pane-second e = rw (word-fine (wide 2) w x i j e1, word-bad (λ b. leb b 1) w x (i + 1) j e)
+  abbrev pub paneThen : List ℕ → J PaneAnimInfo
+  paneThen vs = afterHead (getD vs 0 0) (getD vs 1 0) (getD vs 2 0) (getD vs 3 0)
 
-    module _ (e2 : fits (λ b. leb b 1) w (i + 1) ≡ true) where
-      pub pane-third : fits (wide 2) w (i + 1 + 1) ≡ false → BadWord (i + 1 + 1) ≡ verdictOf (λ (a : PaneAnimInfo). size (sectionLay a)) (pane w x i j)
-      unfolding pane verdictOf
-      pane-third e = rw (word-fine (wide 2) w x i j e1, word-fine (λ b. leb b 1) w x (i + 1) j e2, word-bad (wide 2) w x (i + 1 + 1) j e)
+  pub pane-bad : {k : ℕ} → Tested paneTests paneThen w x i j (badWord k) → BadWord k ≡ verdictOf (λ (a : PaneAnimInfo). size (sectionLay a)) (pane w x i j)
+  unfolding pane afterHead testsThen
+  pane-bad h = bad-at (λ (a : PaneAnimInfo). size (sectionLay a)) (h .gives)
 
-      module _ (e3 : fits (wide 2) w (i + 1 + 1) ≡ true) where
-        pub pane-fourth : fits (wide 2) w (i + 1 + 1 + 1) ≡ false → BadWord (i + 1 + 1 + 1) ≡ verdictOf (λ (a : PaneAnimInfo). size (sectionLay a)) (pane w x i j)
-        unfolding pane verdictOf
-        pane-fourth e = rw (word-fine (wide 2) w x i j e1, word-fine (λ b. leb b 1) w x (i + 1) j e2, word-fine (wide 2) w x (i + 1 + 1) j e3, word-bad (wide 2) w x (i + 1 + 1 + 1) j e)
-
-        pub pane-on : fits (wide 2) w (i + 1 + 1 + 1) ≡ true → (nt nc : ℕ) → nt ≡ getD w (i + 1 + 1) 0 → nc ≡ getD w (i + 1 + 1 + 1) 0
-            → afterHead (getD w i 0) (getD w (i + 1) 0) nt nc w x (i + 1 + 1 + 1 + 1) j ≡ pane w x i j
-        unfolding pane afterHead
-        pane-on e4 nt nc et ec =
-            rw (word-fine (wide 2) w x i j e1, word-fine (λ b. leb b 1) w x (i + 1) j e2, word-fine (wide 2) w x (i + 1 + 1) j e3, word-fine (wide 2) w x (i + 1 + 1 + 1) j e4, ← et, ← ec)
+  pub pane-on : (nt nc : ℕ) → nt ≡ getD w (i + 1 + 1) 0 → nc ≡ getD w (i + 1 + 1 + 1) 0
+      → Tested paneTests paneThen w x i j (afterHead (getD w i 0) (getD w (i + 1) 0) (getD w (i + 1 + 1) 0) (getD w (i + 1 + 1 + 1) 0) w x (i + 1 + 1 + 1 + 1) j)
+      → afterHead (getD w i 0) (getD w (i + 1) 0) nt nc w x (i + 1 + 1 + 1 + 1) j ≡ pane w x i j
+  unfolding pane afterHead testsThen
+  pane-on nt nc et ec h = rw (et, ec) (sym (h .gives))

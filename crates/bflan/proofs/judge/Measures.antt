@@ -189,6 +189,34 @@ pub word-bad : (test : ℕ → Bool) (w x : List ℕ) (i j : ℕ) → fits test 
 unfolding nextWord fits
 word-bad test w x i j e = rw e
 
+-- ---- words with a test each, and what is judged behind them: a do-block that begins with such words is this, by computation
+
+unfoldable pub testsThen : {A : Type 0} → List (ℕ → Bool) → (List ℕ → J A) → J A
+testsThen [] c = c []
+testsThen (t ∷ ts) c = λ w x i j. andThen (nextWord t w x i j) (λ v. testsThen ts (λ vs. c (v ∷ vs))) w x
+
+-- what it comes to, word by word
+pub record Tested {A : Type 0} (ts : List (ℕ → Bool)) (c : List ℕ → J A) (w x : List ℕ) (i j : ℕ) (r : Judged A) : Type 0 where
+  pub gives : testsThen ts c w x i j ≡ r
+
+module _ {A : Type 0} {c : List ℕ → J A} {w x : List ℕ} {i j : ℕ} where
+  pub tested-bad : {t : ℕ → Bool} {ts : List (ℕ → Bool)} → fits t w i ≡ false → Tested (t ∷ ts) c w x i j (badWord i)
+  unfolding testsThen
+  tested-bad {t} e = record { gives = rw (word-bad t w x i j e) }
+
+  pub tested-next : {t : ℕ → Bool} {ts : List (ℕ → Bool)} {r : Judged A} → fits t w i ≡ true → Tested ts (λ vs. c (getD w i 0 ∷ vs)) w x (i + 1) j r → Tested (t ∷ ts) c w x i j r
+  unfolding testsThen
+  tested-next {t} e h = record { gives = rw (word-fine t w x i j e) (h .gives) }
+
+  pub tested-all : Tested [] c w x i j (c [] w x i j)
+  unfolding testsThen
+  tested-all = record { gives = refl }
+
+-- a word that is refused, as the code answers it
+pub bad-at : {A : Type 0} (s : A → ℕ) {r : Judged A} {k : ℕ} → r ≡ badWord k → BadWord k ≡ verdictOf s r
+unfolding verdictOf
+bad-at s e = rw e
+
 -- ---- parts one after another
 
 module _ {A : Type 0} (p : J A) (w x : List ℕ) where

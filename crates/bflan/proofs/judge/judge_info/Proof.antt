@@ -15,14 +15,14 @@ use Rattle.bflan.specs.Layout.{size}
 use Rattle.bflan.specs.inner.Measure.{verdictOf}
 use Rattle.bflan.specs.pai1.Layout.{sectionLay}
 use Rattle.bflan.specs.pai1.Record.{PaneAnimInfo}
-use Rattle.bflan.proofs.judge.Measures.{held, failed, fits-most, fits-there, fits-holds}
-use Rattle.bflan.proofs.judge.JudgeParts.{pane-first, pane-second, pane-third, pane-fourth, pane-on}
+use Rattle.bflan.proofs.judge.Measures.{held, failed, fits-most, fits-there, fits-holds, tested-bad, tested-next, tested-all}
+use Rattle.bflan.proofs.judge.JudgeParts.{pane-bad, pane-on}
 
 below-requires : tie.Need-below-requires
 below-requires c κs = search needs
 
 returns : tie.Need-returns
-returns c = pane-first (now (c .before .before .before .before .args .words)) (now (c .before .before .before .before .args .texts)) (c .before .before .before .before .args .i) (c .before .before .before .before .args .j) (failed _ _ (c .before .below .ensures) (c .if1 .taken))
+returns c = pane-bad (now (c .before .before .before .before .args .words)) (now (c .before .before .before .before .args .texts)) (c .before .before .before .before .args .i) (c .before .before .before .before .args .j) (tested-bad (failed _ _ (c .before .below .ensures) (c .if1 .taken)))
 
 add-looping : tie.Need-add-looping
 add-looping c = let h = fits-there (wide 2) (now (c .before .before .before .before .args .words)) (c .before .before .before .before .args .i) (held _ _ (c .before .below .ensures) (c .if1 .left)) in omega (arith, h, c .before .before .before .before .good)
@@ -31,7 +31,7 @@ below-requires-2 : tie.Need-below-requires-2
 below-requires-2 c κs = search needs
 
 returns-2 : tie.Need-returns-2
-returns-2 c = pane-second (now (c .before .before .before .before .before .before .args .words)) (now (c .before .before .before .before .before .before .args .texts)) (c .before .before .before .before .before .before .args .i) (c .before .before .before .before .before .before .args .j) (held _ _ (c .before .before .before .below .ensures) (c .before .before .if1 .left)) (sym (fits-most 1 _ _) ∙ failed _ _ (c .before .below2 .ensures) (c .if2 .taken))
+returns-2 c = pane-bad (now (c .before .before .before .before .before .before .args .words)) (now (c .before .before .before .before .before .before .args .texts)) (c .before .before .before .before .before .before .args .i) (c .before .before .before .before .before .before .args .j) (tested-next (held _ _ (c .before .before .before .below .ensures) (c .before .before .if1 .left)) (tested-bad (sym (fits-most 1 _ _) ∙ failed _ _ (c .before .below2 .ensures) (c .if2 .taken))))
 
 add-names : tie.Need-add-names
 add-names c = let h = fits-there (λ v. ltb v 2) (now (c .before .before .before .before .before .before .args .words)) ((c .before .before .before .before .before .before .args .i) + 1) (held _ _ (c .before .below2 .ensures) (c .if2 .left)) in omega (arith, h, c .before .before .before .before .before .before .good)
@@ -40,7 +40,7 @@ below-requires-3 : tie.Need-below-requires-3
 below-requires-3 c κs = search needs
 
 returns-3 : tie.Need-returns-3
-returns-3 c = pane-third (now (c .before .before .before .before .before .before .before .before .args .words)) (now (c .before .before .before .before .before .before .before .before .args .texts)) (c .before .before .before .before .before .before .before .before .args .i) (c .before .before .before .before .before .before .before .before .args .j) (held _ _ (c .before .before .before .before .before .below .ensures) (c .before .before .before .before .if1 .left)) (sym (fits-most 1 _ _) ∙ held _ _ (c .before .before .before .below2 .ensures) (c .before .before .if2 .left)) (failed _ _ (c .before .below3 .ensures) (c .if3 .taken))
+returns-3 c = pane-bad (now (c .before .before .before .before .before .before .before .before .args .words)) (now (c .before .before .before .before .before .before .before .before .args .texts)) (c .before .before .before .before .before .before .before .before .args .i) (c .before .before .before .before .before .before .before .before .args .j) (tested-next (held _ _ (c .before .before .before .before .before .below .ensures) (c .before .before .before .before .if1 .left)) (tested-next (sym (fits-most 1 _ _) ∙ held _ _ (c .before .before .before .below2 .ensures) (c .before .before .if2 .left)) (tested-bad (failed _ _ (c .before .below3 .ensures) (c .if3 .taken)))))
 
 add-count : tie.Need-add-count
 add-count c = let h = fits-there (wide 2) (now (c .before .before .before .before .before .before .before .before .args .words)) ((c .before .before .before .before .before .before .before .before .args .i) + 1 + 1) (held _ _ (c .before .below3 .ensures) (c .if3 .left)) in omega (arith, h, c .before .before .before .before .before .before .before .before .good)
@@ -49,7 +49,7 @@ below-requires-4 : tie.Need-below-requires-4
 below-requires-4 c κs = search needs
 
 returns-4 : tie.Need-returns-4
-returns-4 c = pane-fourth (now (c .before .before .before .before .before .before .before .before .before .before .args .words)) (now (c .before .before .before .before .before .before .before .before .before .before .args .texts)) (c .before .before .before .before .before .before .before .before .before .before .args .i) (c .before .before .before .before .before .before .before .before .before .before .args .j) (held _ _ (c .before .before .before .before .before .before .before .below .ensures) (c .before .before .before .before .before .before .if1 .left)) (sym (fits-most 1 _ _) ∙ held _ _ (c .before .before .before .before .before .below2 .ensures) (c .before .before .before .before .if2 .left)) (held _ _ (c .before .before .before .below3 .ensures) (c .before .before .if3 .left)) (failed _ _ (c .before .below4 .ensures) (c .if4 .taken))
+returns-4 c = pane-bad (now (c .before .before .before .before .before .before .before .before .before .before .args .words)) (now (c .before .before .before .before .before .before .before .before .before .before .args .texts)) (c .before .before .before .before .before .before .before .before .before .before .args .i) (c .before .before .before .before .before .before .before .before .before .before .args .j) (tested-next (held _ _ (c .before .before .before .before .before .before .before .below .ensures) (c .before .before .before .before .before .before .if1 .left)) (tested-next (sym (fits-most 1 _ _) ∙ held _ _ (c .before .before .before .before .before .below2 .ensures) (c .before .before .before .before .if2 .left)) (tested-next (held _ _ (c .before .before .before .below3 .ensures) (c .before .before .if3 .left)) (tested-bad (failed _ _ (c .before .below4 .ensures) (c .if4 .taken))))))
 
 word-of-requires : tie.Need-word-of-requires
 word-of-requires c κs = search needs
@@ -75,7 +75,7 @@ headed-requires c κs =
 returns-5 : tie.Need-returns-5
 returns-5 c =
     c .headed .ensures (getD (now (c .before .before .before .before .before .before .before .before .before .before .before .before .before .args .words)) (c .before .before .before .before .before .before .before .before .before .before .before .before .before .args .i) 0) (getD (now (c .before .before .before .before .before .before .before .before .before .before .before .before .before .args .words)) ((c .before .before .before .before .before .before .before .before .before .before .before .before .before .args .i) + 1) 0)
-    ∙ ap (λ (r : Judged PaneAnimInfo). verdictOf (λ (a : PaneAnimInfo). size (sectionLay a)) r) (pane-on (now (c .before .before .before .before .before .before .before .before .before .before .before .before .before .args .words)) (now (c .before .before .before .before .before .before .before .before .before .before .before .before .before .args .texts)) (c .before .before .before .before .before .before .before .before .before .before .before .before .before .args .i) (c .before .before .before .before .before .before .before .before .before .before .before .before .before .args .j) (held _ _ (c .before .before .before .before .before .before .before .before .before .before .below .ensures) (c .before .before .before .before .before .before .before .before .before .if1 .left)) (sym (fits-most 1 _ _) ∙ held _ _ (c .before .before .before .before .before .before .before .before .below2 .ensures) (c .before .before .before .before .before .before .before .if2 .left)) (held _ _ (c .before .before .before .before .before .before .below3 .ensures) (c .before .before .before .before .before .if3 .left)) (held _ _ (c .before .before .before .before .below4 .ensures) (c .before .before .before .if4 .left)) _ _ (c .before .before .word-of .ensures) (c .before .word-of2 .ensures))
+    ∙ ap (λ (r : Judged PaneAnimInfo). verdictOf (λ (a : PaneAnimInfo). size (sectionLay a)) r) (pane-on (now (c .before .before .before .before .before .before .before .before .before .before .before .before .before .args .words)) (now (c .before .before .before .before .before .before .before .before .before .before .before .before .before .args .texts)) (c .before .before .before .before .before .before .before .before .before .before .before .before .before .args .i) (c .before .before .before .before .before .before .before .before .before .before .before .before .before .args .j) _ _ (c .before .before .word-of .ensures) (c .before .word-of2 .ensures) (tested-next (held _ _ (c .before .before .before .before .before .before .before .before .before .before .below .ensures) (c .before .before .before .before .before .before .before .before .before .if1 .left)) (tested-next (sym (fits-most 1 _ _) ∙ held _ _ (c .before .before .before .before .before .before .before .before .below2 .ensures) (c .before .before .before .before .before .before .before .if2 .left)) (tested-next (held _ _ (c .before .before .before .before .before .before .below3 .ensures) (c .before .before .before .before .before .if3 .left)) (tested-next (held _ _ (c .before .before .before .before .below4 .ensures) (c .before .before .before .if4 .left)) tested-all)))))
 
 pub judge-info-spec : {M : Type 1} → statement M
 judge-info-spec =

@@ -10,17 +10,17 @@ use denote.Ref.{now}
 use lib.Dec.{ltb}
 use Rattle.bflan.specs.Judge.{wide}
 use Rattle.bflan.specs.inner.Measure.{padded}
-use Rattle.bflan.proofs.judge.Measures.{held, failed, fits-there, fits-most}
-use Rattle.bflan.proofs.judge.JudgeParts.{table-le, named-first, named-second, named-whole}
+use Rattle.bflan.proofs.judge.Measures.{held, failed, fits-there, fits-most, tested-bad, tested-next}
+use Rattle.bflan.proofs.judge.JudgeParts.{named-bad, table-le, named-whole}
 
 returns : tie.Need-returns
-returns c = λ name h. named-first name (now (c .before .before .before .before .args .words)) (now (c .before .before .before .before .args .texts)) (c .before .before .before .before .args .i) (c .before .before .before .before .args .j) (sym (fits-most 4 (now (c .before .before .before .before .args .words)) (c .before .before .before .before .args .i)) ∙ (failed _ _ (c .before .below .ensures) (c .if1 .taken)))
+returns c = λ name h. named-bad name (now (c .before .before .before .before .args .words)) (now (c .before .before .before .before .args .texts)) (c .before .before .before .before .args .i) (c .before .before .before .before .args .j) (tested-bad (sym (fits-most 4 (now (c .before .before .before .before .args .words)) (c .before .before .before .before .args .i)) ∙ (failed _ _ (c .before .below .ensures) (c .if1 .taken))))
 
 add-count : tie.Need-add-count
 add-count c = let h = fits-there (λ v. ltb v 5) (now (c .before .before .before .before .args .words)) (c .before .before .before .before .args .i) (held _ _ (c .before .below .ensures) (c .if1 .left)) in omega (arith, h, c .before .before .before .before .good)
 
 returns-2 : tie.Need-returns-2
-returns-2 c = λ name h. named-second name (now (c .before .before .before .before .before .before .args .words)) (now (c .before .before .before .before .before .before .args .texts)) (c .before .before .before .before .before .before .args .i) (c .before .before .before .before .before .before .args .j) (sym (fits-most 4 (now (c .before .before .before .before .before .before .args .words)) (c .before .before .before .before .before .before .args .i)) ∙ (held _ _ (c .before .before .before .below .ensures) (c .before .before .if1 .left))) (failed _ _ (c .before .below2 .ensures) (c .if2 .taken))
+returns-2 c = λ name h. named-bad name (now (c .before .before .before .before .before .before .args .words)) (now (c .before .before .before .before .before .before .args .texts)) (c .before .before .before .before .before .before .args .i) (c .before .before .before .before .before .before .args .j) (tested-next (sym (fits-most 4 (now (c .before .before .before .before .before .before .args .words)) (c .before .before .before .before .before .before .args .i)) ∙ (held _ _ (c .before .before .before .below .ensures) (c .before .before .if1 .left))) (tested-bad (failed _ _ (c .before .below2 .ensures) (c .if2 .taken))))
 
 add-head : tie.Need-add-head
 add-head c = let h = table-le (c .before .word-of2 .result) in omega (arith, h, c .table-from .ensures)

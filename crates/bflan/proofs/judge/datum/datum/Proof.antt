@@ -8,35 +8,35 @@ use mathlib.Core.Path.{_∙_}
 use native.Mathlib.Omega.{arith}
 use denote.Ref.{now}
 use Rattle.bflan.specs.Judge.{wide}
-use Rattle.bflan.proofs.judge.Measures.{held, failed, fits-there}
-use Rattle.bflan.proofs.judge.JudgeParts.{datum-first, datum-second, datum-third, datum-fourth, datum-fifth, datum-whole}
+use Rattle.bflan.proofs.judge.Measures.{held, failed, fits-there, tested-bad, tested-next}
+use Rattle.bflan.proofs.judge.JudgeParts.{datum-bad, datum-whole}
 
 returns : tie.Need-returns
-returns c = datum-first (now (c .before .before .before .before .args .words)) (now (c .before .before .before .before .args .texts)) (c .before .before .before .before .args .i) (c .before .before .before .before .args .j) (failed _ _ (c .before .below .ensures) (c .if1 .taken))
+returns c = datum-bad (now (c .before .before .before .before .args .words)) (now (c .before .before .before .before .args .texts)) (c .before .before .before .before .args .i) (c .before .before .before .before .args .j) (tested-bad (failed _ _ (c .before .below .ensures) (c .if1 .taken)))
 
 add-one : tie.Need-add-one
 add-one c = let h = fits-there (wide 4) (now (c .before .before .before .before .args .words)) (c .before .before .before .before .args .i) (held _ _ (c .before .below .ensures) (c .if1 .left)) in omega (arith, h, c .before .before .before .before .good)
 
 returns-2 : tie.Need-returns-2
-returns-2 c = datum-second (now (c .before .before .before .before .before .before .args .words)) (now (c .before .before .before .before .before .before .args .texts)) (c .before .before .before .before .before .before .args .i) (c .before .before .before .before .before .before .args .j) (held _ _ (c .before .before .before .below .ensures) (c .before .before .if1 .left)) (failed _ _ (c .before .below2 .ensures) (c .if2 .taken))
+returns-2 c = datum-bad (now (c .before .before .before .before .before .before .args .words)) (now (c .before .before .before .before .before .before .args .texts)) (c .before .before .before .before .before .before .args .i) (c .before .before .before .before .before .before .args .j) (tested-next (held _ _ (c .before .before .before .below .ensures) (c .before .before .if1 .left)) (tested-bad (failed _ _ (c .before .below2 .ensures) (c .if2 .taken))))
 
 add-two : tie.Need-add-two
 add-two c = let h = fits-there (wide 2) (now (c .before .before .before .before .before .before .args .words)) ((c .before .before .before .before .before .before .args .i) + 1) (held _ _ (c .before .below2 .ensures) (c .if2 .left)) in omega (arith, h, c .before .before .before .before .before .before .good)
 
 returns-3 : tie.Need-returns-3
-returns-3 c = datum-third (now (c .before .before .before .before .before .before .before .before .args .words)) (now (c .before .before .before .before .before .before .before .before .args .texts)) (c .before .before .before .before .before .before .before .before .args .i) (c .before .before .before .before .before .before .before .before .args .j) (held _ _ (c .before .before .before .before .before .below .ensures) (c .before .before .before .before .if1 .left)) (held _ _ (c .before .before .before .below2 .ensures) (c .before .before .if2 .left)) (failed _ _ (c .before .below3 .ensures) (c .if3 .taken))
+returns-3 c = datum-bad (now (c .before .before .before .before .before .before .before .before .args .words)) (now (c .before .before .before .before .before .before .before .before .args .texts)) (c .before .before .before .before .before .before .before .before .args .i) (c .before .before .before .before .before .before .before .before .args .j) (tested-next (held _ _ (c .before .before .before .before .before .below .ensures) (c .before .before .before .before .if1 .left)) (tested-next (held _ _ (c .before .before .before .below2 .ensures) (c .before .before .if2 .left)) (tested-bad (failed _ _ (c .before .below3 .ensures) (c .if3 .taken)))))
 
 add-base : tie.Need-add-base
 add-base c = let h = fits-there (wide 2) (now (c .before .before .before .before .before .before .before .before .args .words)) ((c .before .before .before .before .before .before .before .before .args .i) + 1 + 1) (held _ _ (c .before .below3 .ensures) (c .if3 .left)) in omega (arith, h, c .before .before .before .before .before .before .before .before .good)
 
 returns-4 : tie.Need-returns-4
-returns-4 c = datum-fourth (now (c .before .before .before .before .before .before .before .before .before .before .args .words)) (now (c .before .before .before .before .before .before .before .before .before .before .args .texts)) (c .before .before .before .before .before .before .before .before .before .before .args .i) (c .before .before .before .before .before .before .before .before .before .before .args .j) (held _ _ (c .before .before .before .before .before .before .before .below .ensures) (c .before .before .before .before .before .before .if1 .left)) (held _ _ (c .before .before .before .before .before .below2 .ensures) (c .before .before .before .before .if2 .left)) (held _ _ (c .before .before .before .below3 .ensures) (c .before .before .if3 .left)) (failed _ _ (c .before .below4 .ensures) (c .if4 .taken))
+returns-4 c = datum-bad (now (c .before .before .before .before .before .before .before .before .before .before .args .words)) (now (c .before .before .before .before .before .before .before .before .before .before .args .texts)) (c .before .before .before .before .before .before .before .before .before .before .args .i) (c .before .before .before .before .before .before .before .before .before .before .args .j) (tested-next (held _ _ (c .before .before .before .before .before .before .before .below .ensures) (c .before .before .before .before .before .before .if1 .left)) (tested-next (held _ _ (c .before .before .before .before .before .below2 .ensures) (c .before .before .before .before .if2 .left)) (tested-next (held _ _ (c .before .before .before .below3 .ensures) (c .before .before .if3 .left)) (tested-bad (failed _ _ (c .before .below4 .ensures) (c .if4 .taken))))))
 
 add-three : tie.Need-add-three
 add-three c = let h = fits-there (wide 4) (now (c .before .before .before .before .before .before .before .before .before .before .args .words)) ((c .before .before .before .before .before .before .before .before .before .before .args .i) + 1 + 1 + 1) (held _ _ (c .before .below4 .ensures) (c .if4 .left)) in omega (arith, h, c .before .before .before .before .before .before .before .before .before .before .good)
 
 returns-5 : tie.Need-returns-5
-returns-5 c = datum-fifth (now (c .before .before .before .before .before .before .before .before .before .before .before .before .args .words)) (now (c .before .before .before .before .before .before .before .before .before .before .before .before .args .texts)) (c .before .before .before .before .before .before .before .before .before .before .before .before .args .i) (c .before .before .before .before .before .before .before .before .before .before .before .before .args .j) (held _ _ (c .before .before .before .before .before .before .before .before .before .below .ensures) (c .before .before .before .before .before .before .before .before .if1 .left)) (held _ _ (c .before .before .before .before .before .before .before .below2 .ensures) (c .before .before .before .before .before .before .if2 .left)) (held _ _ (c .before .before .before .before .before .below3 .ensures) (c .before .before .before .before .if3 .left)) (held _ _ (c .before .before .before .below4 .ensures) (c .before .before .if4 .left)) (failed _ _ (c .before .below5 .ensures) (c .if5 .taken))
+returns-5 c = datum-bad (now (c .before .before .before .before .before .before .before .before .before .before .before .before .args .words)) (now (c .before .before .before .before .before .before .before .before .before .before .before .before .args .texts)) (c .before .before .before .before .before .before .before .before .before .before .before .before .args .i) (c .before .before .before .before .before .before .before .before .before .before .before .before .args .j) (tested-next (held _ _ (c .before .before .before .before .before .before .before .before .before .below .ensures) (c .before .before .before .before .before .before .before .before .if1 .left)) (tested-next (held _ _ (c .before .before .before .before .before .before .before .below2 .ensures) (c .before .before .before .before .before .before .if2 .left)) (tested-next (held _ _ (c .before .before .before .before .before .below3 .ensures) (c .before .before .before .before .if3 .left)) (tested-next (held _ _ (c .before .before .before .below4 .ensures) (c .before .before .if4 .left)) (tested-bad (failed _ _ (c .before .below5 .ensures) (c .if5 .taken)))))))
 
 add-behind : tie.Need-add-behind
 add-behind c = let h = fits-there (wide 4) (now (c .before .before .before .before .before .before .before .before .before .before .before .before .before .args .words)) ((c .before .before .before .before .before .before .before .before .before .before .before .before .before .args .i) + 1 + 1 + 1 + 1) (held _ _ (c .before .before .below5 .ensures) (c .before .if5 .left)) in omega (arith, h, c .before .before .before .before .before .before .before .before .before .before .before .before .before .good)

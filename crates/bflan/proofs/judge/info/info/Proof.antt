@@ -10,14 +10,14 @@ use denote.Ref.{now}
 use Rattle.core.specs.Number.{val}
 use Rattle.bflan.specs.Judge.{wide}
 use Rattle.bflan.specs.pai1.Letters.{fleu, lettersFit}
-use Rattle.bflan.proofs.judge.Measures.{held, failed, fits-there}
-use Rattle.bflan.proofs.judge.JudgeParts.{info-first, info-second, info-data, info-targets}
+use Rattle.bflan.proofs.judge.Measures.{held, failed, fits-there, tested-bad, tested-next}
+use Rattle.bflan.proofs.judge.JudgeParts.{info-bad, info-data, info-targets}
 
 letters-fit-requires : tie.Need-letters-fit-requires
 letters-fit-requires c κs = search needs
 
 returns : tie.Need-returns
-returns c = info-first (now (c .before .before .before .before .args .words)) (now (c .before .before .before .before .args .texts)) (c .before .before .before .before .args .i) (c .before .before .before .before .args .j) (failed _ _ (c .before .letters-fit .ensures) (c .if1 .taken))
+returns c = info-bad (now (c .before .before .before .before .args .words)) (now (c .before .before .before .before .args .texts)) (c .before .before .before .before .args .i) (c .before .before .before .before .args .j) (tested-bad (failed _ _ (c .before .letters-fit .ensures) (c .if1 .taken)))
 
 add-count : tie.Need-add-count
 add-count c = let h = fits-there lettersFit (now (c .before .before .before .before .args .words)) (c .before .before .before .before .args .i) (held _ _ (c .before .letters-fit .ensures) (c .if1 .left)) in omega (arith, h, c .before .before .before .before .good)
@@ -26,7 +26,7 @@ below-requires : tie.Need-below-requires
 below-requires c κs = search needs
 
 returns-2 : tie.Need-returns-2
-returns-2 c = info-second (now (c .before .before .before .before .before .before .args .words)) (now (c .before .before .before .before .before .before .args .texts)) (c .before .before .before .before .before .before .args .i) (c .before .before .before .before .before .before .args .j) (held _ _ (c .before .before .before .letters-fit .ensures) (c .before .before .if1 .left)) (failed _ _ (c .before .below .ensures) (c .if2 .taken))
+returns-2 c = info-bad (now (c .before .before .before .before .before .before .args .words)) (now (c .before .before .before .before .before .before .args .texts)) (c .before .before .before .before .before .before .args .i) (c .before .before .before .before .before .before .args .j) (tested-next (held _ _ (c .before .before .before .letters-fit .ensures) (c .before .before .if1 .left)) (tested-bad (failed _ _ (c .before .below .ensures) (c .if2 .taken))))
 
 word-of-requires : tie.Need-word-of-requires
 word-of-requires c κs = search needs
