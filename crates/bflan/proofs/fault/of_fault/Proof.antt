@@ -8,18 +8,6 @@ use Rattle.core.specs.Outcome.{flat}
 use Rattle.bflan.specs.declared.fault.Fault.{Fault}
 use Rattle.bflan.specs.Answer.{ofFault}
 
-enum-known-f : tie.Need-enum-known-f
-enum-known-f c = search needs
-
-enum-known-f-2 : tie.Need-enum-known-f-2
-enum-known-f-2 c = search needs
-
-enum-known-f-3 : tie.Need-enum-known-f-3
-enum-known-f-3 c = search needs
-
-cast-t7 : tie.Need-cast-t7
-cast-t7 c = search needs
-
 returns : tie.Need-returns
 unfolding flat ofFault
 returns c = ap (λ (z : Fault). flat 5 (ofFault z)) (sym (c .before .f .given .1))
@@ -33,6 +21,4 @@ unfolding flat ofFault
 returns-3 c = ap (λ (z : Fault). flat 5 (ofFault z)) (sym (c .before .f3 .given .1))
 
 pub of-fault-spec : {M : Type 1} → statement M
-of-fault-spec =
-    tie.close
-    (tie.spec enum-known-f enum-known-f-2 enum-known-f-3 cast-t7 returns returns-2 returns-3)
+of-fault-spec = tie.close (tie.spec (search needs) (search needs) (search needs) (search needs) returns returns-2 returns-3)

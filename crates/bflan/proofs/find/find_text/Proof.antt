@@ -12,15 +12,6 @@ use Rattle.bflan.proofs.read.Answers.{finding-long, finding-stop, findi
 returns : tie.Need-returns
 returns c = finding-long section _ _ _ (c .if1 .taken)
 
-measure-requires : tie.Need-measure-requires
-measure-requires c κs = search needs
-
-enum-known-f : tie.Need-enum-known-f
-enum-known-f c = search needs
-
-enum-known-t : tie.Need-enum-known-t
-enum-known-t c = search needs
-
 returns-2 : tie.Need-returns-2
 returns-2 c = finding-none section _ _ _ (omega (arith, c .before .before .before .before .before .if1 .left)) (section-countable _ (λ i. c .before .before .before .before .before .before .before .shared-slice-known .given i .fits) (omega (arith, c .before .before .before .before .before .if1 .left))) _ _ (sym (c .before .before .before .before .measure .ensures) ∙ c .before .before .t .given .1) (c .if2 .taken)
 
@@ -30,22 +21,10 @@ show-requires c κs = (finding-inside section _ _ (omega (arith, c .before .befo
 returns-3 : tie.Need-returns-3
 returns-3 c = finding-stop section _ _ _ (omega (arith, c .before .before .before .before .if1 .left)) _ (sym (c .before .before .before .measure .ensures) ∙ c .before .f .given .1)
 
-same-length : tie.Need-same-length
-same-length c = search needs
-
 returns-4 : tie.Need-returns-4
 returns-4 c = c .before .before .show .ensures ∙ sym (finding-there section _ _ _ (omega (arith, c .before .before .before .before .before .before .before .before .before .if1 .left)) (section-countable _ (λ i. c .before .before .before .before .before .before .before .before .before .before .before .shared-slice-known .given i .fits) (omega (arith, c .before .before .before .before .before .before .before .before .before .if1 .left))) _ _ (sym (c .before .before .before .before .before .before .before .before .measure .ensures) ∙ c .before .before .before .before .before .before .t .given .1) (omega (arith, c .before .before .before .before .if2 .left)))
 
 pub find-text-spec : {M : Type 1} → statement M
 find-text-spec =
     tie.close
-    (tie.spec
-    returns
-    measure-requires
-    enum-known-f
-    enum-known-t
-    returns-2
-    show-requires
-    returns-3
-    same-length
-    returns-4)
+    (tie.spec returns (search needs) (search needs) (search needs) returns-2 show-requires returns-3 (search needs) returns-4)

@@ -7,33 +7,6 @@ use mathlib.Core.Path.{sym, _∙_}
 use denote.Ref.{now}
 use Rattle.bflan.proofs.judge.JudgeParts.{headed-word, headed-text, headed-fine}
 
-textures-requires : tie.Need-textures-requires
-textures-requires c κs = search needs
-
-enum-known-k : tie.Need-enum-known-k
-enum-known-k c = search needs
-
-enum-known-k-2 : tie.Need-enum-known-k-2
-enum-known-k-2 c = search needs
-
-enum-known-m : tie.Need-enum-known-m
-enum-known-m c = search needs
-
-contents-requires : tie.Need-contents-requires
-contents-requires c κs = search needs
-
-table-behind-requires : tie.Need-table-behind-requires
-table-behind-requires c κs = search needs
-
-mul-add : tie.Need-mul-add
-mul-add c = search needs
-
-add-requires : tie.Need-add-requires
-add-requires c κs = search needs
-
-grown-requires : tie.Need-grown-requires
-grown-requires c κs = search needs
-
 returns : tie.Need-returns
 returns c = λ frames looping. headed-word frames looping (c .before .before .before .before .before .before .args .nt) (c .before .before .before .before .before .before .args .nc) (now (c .before .before .before .before .before .before .args .words)) (now (c .before .before .before .before .before .before .args .texts)) (c .before .before .before .before .before .before .args .i) (c .before .before .before .before .before .before .args .j) _ (sym (c .before .before .before .textures .ensures) ∙ c .before .k .given .1)
 
@@ -46,16 +19,5 @@ returns-3 c = λ frames looping. c .grown .ensures ∙ headed-fine frames loopin
 pub headed-spec : {M : Type 1} → statement M
 headed-spec =
     tie.close
-    (tie.spec
-    textures-requires
-    enum-known-k
-    enum-known-k-2
-    enum-known-m
-    contents-requires
-    table-behind-requires
-    mul-add
-    add-requires
-    grown-requires
-    returns
-    returns-2
-    returns-3)
+    (tie.spec (search needs) (search needs) (search needs) (search needs) (search needs) (search needs) (search needs)
+    (search needs) (search needs) returns returns-2 returns-3)

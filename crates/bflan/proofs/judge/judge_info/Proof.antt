@@ -18,17 +18,11 @@ use Rattle.bflan.specs.pai1.Record.{PaneAnimInfo}
 use Rattle.bflan.proofs.judge.Measures.{held, failed, fits-most, fits-there, fits-holds, tested-bad, tested-next, tested-all}
 use Rattle.bflan.proofs.judge.JudgeParts.{pane-bad, pane-on}
 
-below-requires : tie.Need-below-requires
-below-requires c κs = search needs
-
 returns : tie.Need-returns
 returns c = pane-bad (now (c .before .before .before .before .args .words)) (now (c .before .before .before .before .args .texts)) (c .before .before .before .before .args .i) (c .before .before .before .before .args .j) (tested-bad (failed _ _ (c .before .below .ensures) (c .if1 .taken)))
 
 add-looping : tie.Need-add-looping
 add-looping c = let h = fits-there (wide 2) (now (c .before .before .before .before .args .words)) (c .before .before .before .before .args .i) (held _ _ (c .before .below .ensures) (c .if1 .left)) in omega (arith, h, c .before .before .before .before .good)
-
-below-requires-2 : tie.Need-below-requires-2
-below-requires-2 c κs = search needs
 
 returns-2 : tie.Need-returns-2
 returns-2 c = pane-bad (now (c .before .before .before .before .before .before .args .words)) (now (c .before .before .before .before .before .before .args .texts)) (c .before .before .before .before .before .before .args .i) (c .before .before .before .before .before .before .args .j) (tested-next (held _ _ (c .before .before .before .below .ensures) (c .before .before .if1 .left)) (tested-bad (sym (fits-most 1 _ _) ∙ failed _ _ (c .before .below2 .ensures) (c .if2 .taken))))
@@ -36,32 +30,14 @@ returns-2 c = pane-bad (now (c .before .before .before .before .before .before .
 add-names : tie.Need-add-names
 add-names c = let h = fits-there (λ v. ltb v 2) (now (c .before .before .before .before .before .before .args .words)) ((c .before .before .before .before .before .before .args .i) + 1) (held _ _ (c .before .below2 .ensures) (c .if2 .left)) in omega (arith, h, c .before .before .before .before .before .before .good)
 
-below-requires-3 : tie.Need-below-requires-3
-below-requires-3 c κs = search needs
-
 returns-3 : tie.Need-returns-3
 returns-3 c = pane-bad (now (c .before .before .before .before .before .before .before .before .args .words)) (now (c .before .before .before .before .before .before .before .before .args .texts)) (c .before .before .before .before .before .before .before .before .args .i) (c .before .before .before .before .before .before .before .before .args .j) (tested-next (held _ _ (c .before .before .before .before .before .below .ensures) (c .before .before .before .before .if1 .left)) (tested-next (sym (fits-most 1 _ _) ∙ held _ _ (c .before .before .before .below2 .ensures) (c .before .before .if2 .left)) (tested-bad (failed _ _ (c .before .below3 .ensures) (c .if3 .taken)))))
 
 add-count : tie.Need-add-count
 add-count c = let h = fits-there (wide 2) (now (c .before .before .before .before .before .before .before .before .args .words)) ((c .before .before .before .before .before .before .before .before .args .i) + 1 + 1) (held _ _ (c .before .below3 .ensures) (c .if3 .left)) in omega (arith, h, c .before .before .before .before .before .before .before .before .good)
 
-below-requires-4 : tie.Need-below-requires-4
-below-requires-4 c κs = search needs
-
 returns-4 : tie.Need-returns-4
 returns-4 c = pane-bad (now (c .before .before .before .before .before .before .before .before .before .before .args .words)) (now (c .before .before .before .before .before .before .before .before .before .before .args .texts)) (c .before .before .before .before .before .before .before .before .before .before .args .i) (c .before .before .before .before .before .before .before .before .before .before .args .j) (tested-next (held _ _ (c .before .before .before .before .before .before .before .below .ensures) (c .before .before .before .before .before .before .if1 .left)) (tested-next (sym (fits-most 1 _ _) ∙ held _ _ (c .before .before .before .before .before .below2 .ensures) (c .before .before .before .before .if2 .left)) (tested-next (held _ _ (c .before .before .before .below3 .ensures) (c .before .before .if3 .left)) (tested-bad (failed _ _ (c .before .below4 .ensures) (c .if4 .taken))))))
-
-word-of-requires : tie.Need-word-of-requires
-word-of-requires c κs = search needs
-
-cast-nt : tie.Need-cast-nt
-cast-nt c = search needs
-
-word-of-requires-2 : tie.Need-word-of-requires-2
-word-of-requires-2 c κs = search needs
-
-cast-nc : tie.Need-cast-nc
-cast-nc c = search needs
 
 add-headed : tie.Need-add-headed
 add-headed c = let h = fits-there (wide 2) (now (c .before .before .before .before .before .before .before .before .before .before .before .before .args .words)) ((c .before .before .before .before .before .before .before .before .before .before .before .before .args .i) + 1 + 1 + 1) (held _ _ (c .before .before .before .below4 .ensures) (c .before .before .if4 .left)) in omega (arith, h, c .before .before .before .before .before .before .before .before .before .before .before .before .good)
@@ -80,22 +56,5 @@ returns-5 c =
 pub judge-info-spec : {M : Type 1} → statement M
 judge-info-spec =
     tie.close
-    (tie.spec
-    below-requires
-    returns
-    add-looping
-    below-requires-2
-    returns-2
-    add-names
-    below-requires-3
-    returns-3
-    add-count
-    below-requires-4
-    returns-4
-    word-of-requires
-    cast-nt
-    word-of-requires-2
-    cast-nc
-    add-headed
-    headed-requires
-    returns-5)
+    (tie.spec (search needs) returns add-looping (search needs) returns-2 add-names (search needs) returns-3 add-count
+    (search needs) returns-4 (search needs) (search needs) (search needs) (search needs) add-headed headed-requires returns-5)

@@ -11,24 +11,6 @@ use Rattle.bflan.specs.pai1.Layout.{sectionLay}
 use Rattle.bflan.specs.pai1.Record.{PaneAnimInfo}
 use Rattle.bflan.proofs.judge.JudgeParts.{whole-word, whole-text, whole-fine}
 
-judge-info-requires : tie.Need-judge-info-requires
-judge-info-requires c κs = search needs
-
-enum-known-k : tie.Need-enum-known-k
-enum-known-k c = search needs
-
-enum-known-k-2 : tie.Need-enum-known-k-2
-enum-known-k-2 c = search needs
-
-enum-known-m : tie.Need-enum-known-m
-enum-known-m c = search needs
-
-ends-requires : tie.Need-ends-requires
-ends-requires c κs = search needs
-
-grown-requires : tie.Need-grown-requires
-grown-requires c κs = search needs
-
 returns : tie.Need-returns
 unfolding section
 returns c = whole-word (λ (a : PaneAnimInfo). size (sectionLay a)) pane (now (c .before .before .before .before .before .before .args .words)) (now (c .before .before .before .before .before .before .args .texts)) 0 0 _ (sym (c .before .before .before .judge-info .ensures) ∙ c .before .k .given .1)
@@ -44,13 +26,5 @@ returns-3 c = c .grown .ensures ∙ whole-fine (λ (a : PaneAnimInfo). size (sec
 pub judge-section-spec : {M : Type 1} → statement M
 judge-section-spec =
     tie.close
-    (tie.spec
-    judge-info-requires
-    enum-known-k
-    enum-known-k-2
-    enum-known-m
-    ends-requires
-    grown-requires
-    returns
-    returns-2
+    (tie.spec (search needs) (search needs) (search needs) (search needs) (search needs) (search needs) returns returns-2
     returns-3)

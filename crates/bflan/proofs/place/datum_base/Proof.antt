@@ -7,27 +7,9 @@ use Rattle.core.specs.Number.{val}
 use Rattle.bflan.specs.pai1.Letters.{fleu}
 use Rattle.bflan.proofs.place.Locating.{datum-other, datum-yes, datum-no}
 
-word-at-requires : tie.Need-word-at-requires
-word-at-requires c κs = search needs
-
 returns : tie.Need-returns
 unfolding fleu val
 returns c = datum-other _ _ (c .before .word-at .ensures) _ (c .if1 .taken)
-
-add-byte-at : tie.Need-add-byte-at
-add-byte-at c = search needs
-
-byte-at-requires : tie.Need-byte-at-requires
-byte-at-requires c κs = search needs
-
-cast-n : tie.Need-cast-n
-cast-n c = search needs
-
-add-after-data : tie.Need-add-after-data
-add-after-data c = search needs
-
-after-data-requires : tie.Need-after-data-requires
-after-data-requires c κs = search needs
 
 returns-2 : tie.Need-returns-2
 unfolding fleu val
@@ -40,13 +22,5 @@ returns-3 c = datum-no _ _ (c .before .before .before .word-at .ensures) (c .bef
 pub datum-base-spec : {M : Type 1} → statement M
 datum-base-spec =
     tie.close
-    (tie.spec
-    word-at-requires
-    returns
-    add-byte-at
-    byte-at-requires
-    cast-n
-    add-after-data
-    after-data-requires
-    returns-2
+    (tie.spec (search needs) returns (search needs) (search needs) (search needs) (search needs) (search needs) returns-2
     returns-3)

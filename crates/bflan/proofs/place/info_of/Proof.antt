@@ -6,17 +6,8 @@ use Rattle.bflan.proofs.place.info_of.Tie as tie
 use mathlib.Core.Path.{sym, _∙_}
 use Rattle.bflan.proofs.place.Locating.{content-from, info-on, info-off}
 
-content-base-requires : tie.Need-content-base-requires
-content-base-requires c κs = search needs
-
-enum-known-b : tie.Need-enum-known-b
-enum-known-b c = search needs
-
 info-base-requires : tie.Need-info-base-requires
 info-base-requires c κs = (c .before .before .before .before .before .pre .0, content-from _ _ _ (c .before .before .before .before .before .pre .1) (sym (c .before .before .before .content-base .ensures) ∙ c .before .b .given .1))
-
-enum-told : tie.Need-enum-told
-enum-told c = search needs
 
 returns : tie.Need-returns
 returns c = info-on _ _ _ _ _ (sym (c .before .before .before .before .content-base .ensures) ∙ c .before .before .b .given .1) (c .info-base .ensures)
@@ -25,6 +16,4 @@ returns-2 : tie.Need-returns-2
 returns-2 c = info-off _ _ _ (sym (c .before .before .content-base .ensures) ∙ c .enum-told .given .1)
 
 pub info-of-spec : {M : Type 1} → statement M
-info-of-spec =
-    tie.close
-    (tie.spec content-base-requires enum-known-b info-base-requires enum-told returns returns-2)
+info-of-spec = tie.close (tie.spec (λ c κs. search needs) (search needs) info-base-requires (search needs) returns returns-2)

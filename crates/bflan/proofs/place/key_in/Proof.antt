@@ -6,9 +6,6 @@ use Rattle.bflan.proofs.place.Locating.{key-none, key-there, key-fits}
 use Rattle.bflan.proofs.place.key_in.Statement.{statement}
 use Rattle.bflan.proofs.place.key_in.Tie as tie
 
-track-at-requires : tie.Need-track-at-requires
-track-at-requires c κs = search needs
-
 returns : tie.Need-returns
 returns c = key-none _ _ _ (c .before .track-at .ensures) (c .if1 .taken)
 
@@ -22,4 +19,4 @@ returns-2 : tie.Need-returns-2
 returns-2 c = key-there _ _ _ (c .before .before .before .track-at .ensures) (c .before .before .if1 .left) (c .before .stride .ensures)
 
 pub key-in-spec : {M : Type 1} → statement M
-key-in-spec = tie.close (tie.spec track-at-requires returns (search needs) mul-t8 add-t9 returns-2)
+key-in-spec = tie.close (tie.spec (λ c κs. search needs) returns (search needs) mul-t8 add-t9 returns-2)

@@ -6,15 +6,6 @@ use Rattle.bflan.proofs.place.layer_under.Tie as tie
 use mathlib.Core.Path.{sym, _∙_}
 use Rattle.bflan.proofs.place.Locating.{layer-to, layer-none}
 
-target-base-requires : tie.Need-target-base-requires
-target-base-requires c κs = search needs
-
-enum-known-q : tie.Need-enum-known-q
-enum-known-q c = search needs
-
-enum-told : tie.Need-enum-told
-enum-told c = search needs
-
 returns : tie.Need-returns
 returns c = layer-to _ _ _ _ (sym (c .before .before .before .target-base .ensures) ∙ c .before .q .given .1)
 
@@ -22,5 +13,4 @@ returns-2 : tie.Need-returns-2
 returns-2 c = layer-none _ _ _ (sym (c .before .before .target-base .ensures) ∙ c .enum-told .given .1)
 
 pub layer-under-spec : {M : Type 1} → statement M
-layer-under-spec =
-    tie.close (tie.spec target-base-requires enum-known-q enum-told returns returns-2)
+layer-under-spec = tie.close (tie.spec (λ c κs. search needs) (search needs) (search needs) returns returns-2)

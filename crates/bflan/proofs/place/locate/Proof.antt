@@ -9,15 +9,6 @@ use Rattle.bflan.proofs.place.Locating.{locating-long, locating-stop, l
 returns : tie.Need-returns
 returns c = locating-long _ _ (c .if1 .taken)
 
-measure-requires : tie.Need-measure-requires
-measure-requires c κs = search needs
-
-enum-known-f : tie.Need-enum-known-f
-enum-known-f c = search needs
-
-enum-known--t : tie.Need-enum-known--t
-enum-known--t c = search needs
-
 path-requires : tie.Need-path-requires
 path-requires c κs = (omega (arith, c .before .before .before .before .if1 .left), locating-section _ (c .before .before .before .before .before .before .args .place) (omega (arith, c .before .before .before .before .if1 .left)) _ (c .before .before .before .measure .ensures) _ _ (c .before .-t .given .1))
 
@@ -28,13 +19,4 @@ returns-3 : tie.Need-returns-3
 returns-3 c = locating-on _ _ (omega (arith, c .before .before .before .before .before .if1 .left)) _ (c .before .before .before .before .measure .ensures) _ _ _ (c .before .before .-t .given .1) (c .path .ensures)
 
 pub locate-spec : {M : Type 1} → statement M
-locate-spec =
-    tie.close
-    (tie.spec
-    returns
-    measure-requires
-    enum-known-f
-    enum-known--t
-    path-requires
-    returns-2
-    returns-3)
+locate-spec = tie.close (tie.spec returns (search needs) (search needs) (search needs) path-requires returns-2 returns-3)

@@ -7,23 +7,8 @@ use mathlib.Core.Path.{sym, _∙_}
 use native.Mathlib.Omega.{arith}
 use Rattle.bflan.proofs.place.Locating.{target-from, number-to, number-none}
 
-target-base-requires : tie.Need-target-base-requires
-target-base-requires c κs = search needs
-
-enum-known-q : tie.Need-enum-known-q
-enum-known-q c = search needs
-
-word-at-requires : tie.Need-word-at-requires
-word-at-requires c κs = search needs
-
-letters-of-requires : tie.Need-letters-of-requires
-letters-of-requires c κs = search needs
-
 add-t9 : tie.Need-add-t9
 add-t9 c = let x = target-from _ _ _ _ (c .before .before .before .before .before .before .before .pre .1) (sym (c .before .before .before .before .before .target-base .ensures) ∙ c .before .before .before .q .given .1) in let h = x .head in omega (arith, h, c .before .before .before .before .before .before .before .pre .0)
-
-enum-told : tie.Need-enum-told
-enum-told c = search needs
 
 returns : tie.Need-returns
 returns c = number-to _ _ _ _ (sym (c .before .before .before .before .before .target-base .ensures) ∙ c .before .before .before .q .given .1) (c .before .word-at .ensures) (c .letters-of .ensures)
@@ -34,12 +19,4 @@ returns-2 c = number-none _ _ _ (sym (c .before .before .target-base .ensures) �
 pub number-under-spec : {M : Type 1} → statement M
 number-under-spec =
     tie.close
-    (tie.spec
-    target-base-requires
-    enum-known-q
-    word-at-requires
-    letters-of-requires
-    add-t9
-    enum-told
-    returns
-    returns-2)
+    (tie.spec (λ c κs. search needs) (search needs) (search needs) (search needs) add-t9 (search needs) returns returns-2)

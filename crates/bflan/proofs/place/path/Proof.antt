@@ -10,71 +10,17 @@ use Rattle.bflan.specs.pai1.Locating.{ofSpot}
 use Rattle.bflan.specs.pai1.Places.{locate}
 use Rattle.bflan.proofs.place.Locating.{path-from, at-layer, no-layer, at-number, no-number, at-key, no-key, at-value, no-value}
 
-enum-told : tie.Need-enum-told
-enum-told c = search needs
-
-enum-told-2 : tie.Need-enum-told-2
-enum-told-2 c = search needs
-
-enum-known-place : tie.Need-enum-known-place
-enum-known-place c = search needs
-
-info-of-requires : tie.Need-info-of-requires
-info-of-requires c κs = search needs
-
-enum-known-b : tie.Need-enum-known-b
-enum-known-b c = search needs
-
 layer-under-requires : tie.Need-layer-under-requires
 layer-under-requires c κs = (c .before .before .before .before .before .before .before .before .pre .0, path-from _ _ _ _ (c .before .before .before .before .before .before .before .before .pre .1) (sym (c .before .before .before .info-of .ensures) ∙ c .before .b .given .1))
-
-enum-told-3 : tie.Need-enum-told-3
-enum-told-3 c = search needs
-
-enum-known-place-2 : tie.Need-enum-known-place-2
-enum-known-place-2 c = search needs
-
-info-of-requires-2 : tie.Need-info-of-requires-2
-info-of-requires-2 c κs = search needs
-
-enum-known-b-2 : tie.Need-enum-known-b-2
-enum-known-b-2 c = search needs
 
 number-under-requires : tie.Need-number-under-requires
 number-under-requires c κs = (c .before .before .before .before .before .before .before .before .pre .0, path-from _ _ _ _ (c .before .before .before .before .before .before .before .before .pre .1) (sym (c .before .before .before .info-of2 .ensures) ∙ c .before .b2 .given .1))
 
-enum-told-4 : tie.Need-enum-told-4
-enum-told-4 c = search needs
-
-enum-known-place-3 : tie.Need-enum-known-place-3
-enum-known-place-3 c = search needs
-
-info-of-requires-3 : tie.Need-info-of-requires-3
-info-of-requires-3 c κs = search needs
-
-enum-known-b-3 : tie.Need-enum-known-b-3
-enum-known-b-3 c = search needs
-
 key-under-requires : tie.Need-key-under-requires
 key-under-requires c κs = (c .before .before .before .before .before .before .before .before .pre .0, path-from _ _ _ _ (c .before .before .before .before .before .before .before .before .pre .1) (sym (c .before .before .before .info-of3 .ensures) ∙ c .before .b3 .given .1))
 
-enum-told-5 : tie.Need-enum-told-5
-enum-told-5 c = search needs
-
-enum-known-place-4 : tie.Need-enum-known-place-4
-enum-known-place-4 c = search needs
-
-info-of-requires-4 : tie.Need-info-of-requires-4
-info-of-requires-4 c κs = search needs
-
-enum-known-b-4 : tie.Need-enum-known-b-4
-enum-known-b-4 c = search needs
-
 value-under-requires : tie.Need-value-under-requires
 value-under-requires c κs = (c .before .before .before .before .before .before .before .before .pre .0, path-from _ _ _ _ (c .before .before .before .before .before .before .before .before .pre .1) (sym (c .before .before .before .info-of4 .ensures) ∙ c .before .b4 .given .1))
-
-enum-told-6 : tie.Need-enum-told-6
-enum-told-6 c = search needs
 
 returns : tie.Need-returns
 unfolding ofSpot locate
@@ -111,36 +57,7 @@ returns-10 c = no-value _ _ _ _ _ _ (sym (c .before .before .info-of4 .ensures) 
 pub path-spec : {M : Type 1} → statement M
 path-spec =
     tie.close
-    (tie.spec
-    enum-told
-    enum-told-2
-    enum-known-place
-    info-of-requires
-    enum-known-b
-    layer-under-requires
-    enum-told-3
-    enum-known-place-2
-    info-of-requires-2
-    enum-known-b-2
-    number-under-requires
-    enum-told-4
-    enum-known-place-3
-    info-of-requires-3
-    enum-known-b-3
-    key-under-requires
-    enum-told-5
-    enum-known-place-4
-    info-of-requires-4
-    enum-known-b-4
-    value-under-requires
-    enum-told-6
-    returns
-    returns-2
-    returns-3
-    returns-4
-    returns-5
-    returns-6
-    returns-7
-    returns-8
-    returns-9
-    returns-10)
+    (tie.spec (search needs) (search needs) (search needs) (λ c κs. search needs) (search needs) layer-under-requires (search needs)
+    (search needs) (λ c κs. search needs) (search needs) number-under-requires (search needs) (search needs) (λ c κs. search needs) (search needs)
+    key-under-requires (search needs) (search needs) (λ c κs. search needs) (search needs) value-under-requires (search needs) returns
+    returns-2 returns-3 returns-4 returns-5 returns-6 returns-7 returns-8 returns-9 returns-10)

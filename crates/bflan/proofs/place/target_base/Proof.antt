@@ -9,37 +9,13 @@ use Rattle.core.specs.Number.{val}
 use Rattle.bflan.specs.pai1.Letters.{fleu}
 use Rattle.bflan.proofs.place.Locating.{target-fleu, target-yes, target-no}
 
-word-at-requires : tie.Need-word-at-requires
-word-at-requires c κs = search needs
-
 returns : tie.Need-returns
 unfolding fleu val
 returns c = target-fleu _ _ (c .before .word-at .ensures) _ (c .if1 .taken)
 
-add-byte-at : tie.Need-add-byte-at
-add-byte-at c = search needs
-
-byte-at-requires : tie.Need-byte-at-requires
-byte-at-requires c κs = search needs
-
-cast-n : tie.Need-cast-n
-cast-n c = search needs
-
-add-offset-at : tie.Need-add-offset-at
-add-offset-at c = search needs
-
-mul-offset-at : tie.Need-mul-offset-at
-mul-offset-at c = search needs
-
-add-offset-at-2 : tie.Need-add-offset-at-2
-add-offset-at-2 c = search needs
-
 offset-at-requires : tie.Need-offset-at-requires
 unfolding fleu val
 offset-at-requires c κs = let u = c .before .before .before .before .before .pre .1 .table (λ z. c .before .before .if1 .left (c .before .before .before .word-at .ensures ∙ z)) in omega (arith, u, c .before .byte-at .ensures .0, c .if2 .taken)
-
-add-t12 : tie.Need-add-t12
-add-t12 c = search needs
 
 returns-2 : tie.Need-returns-2
 unfolding fleu val
@@ -52,16 +28,5 @@ returns-3 c = target-no _ _ (c .before .before .before .word-at .ensures) (c .be
 pub target-base-spec : {M : Type 1} → statement M
 target-base-spec =
     tie.close
-    (tie.spec
-    word-at-requires
-    returns
-    add-byte-at
-    byte-at-requires
-    cast-n
-    add-offset-at
-    mul-offset-at
-    add-offset-at-2
-    offset-at-requires
-    add-t12
-    returns-2
-    returns-3)
+    (tie.spec (search needs) returns (search needs) (search needs) (search needs) (search needs) (search needs) (search needs)
+    offset-at-requires (search needs) returns-2 returns-3)

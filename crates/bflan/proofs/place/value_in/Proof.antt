@@ -6,20 +6,11 @@ use Rattle.bflan.proofs.place.value_in.Tie as tie
 use native.Mathlib.Omega.{arith}
 use Rattle.bflan.proofs.place.Locating.{value-list, value-none, value-there, value-most}
 
-add-offset-at : tie.Need-add-offset-at
-add-offset-at c = search needs
-
-offset-at-requires : tie.Need-offset-at-requires
-offset-at-requires c κs = search needs
-
 returns : tie.Need-returns
 returns c = value-list _ _ _ _ (c .before .offset-at .ensures .0) (c .if1 .taken)
 
 returns-2 : tie.Need-returns-2
 returns-2 c = value-none _ _ _ _ (c .before .before .offset-at .ensures .0) (c .before .if1 .left) (c .if2 .taken)
-
-add-t6 : tie.Need-add-t6
-add-t6 c = search needs
 
 mul-t8 : tie.Need-mul-t8
 mul-t8 c = let m = value-most _ _ _ (c .before .before .before .before .args .v) (c .before .before .offset-at .ensures .0) (c .before .if1 .left) (c .before .before .before .before .pre .1) in omega (arith, m, c .before .before .offset-at .ensures .1)
@@ -39,14 +30,4 @@ returns-3 c = value-there _ _ _ _ (c .before .before .offset-at .ensures .0) (c 
 pub value-in-spec : {M : Type 1} → statement M
 value-in-spec =
     tie.close
-    (tie.spec
-    add-offset-at
-    offset-at-requires
-    returns
-    returns-2
-    add-t6
-    mul-t8
-    add-t9
-    mul-t10
-    add-t11
-    returns-3)
+    (tie.spec (search needs) (search needs) returns returns-2 (search needs) mul-t8 add-t9 mul-t10 add-t11 returns-3)

@@ -6,17 +6,8 @@ use Rattle.bflan.proofs.place.value_under.Tie as tie
 use mathlib.Core.Path.{sym, _∙_}
 use Rattle.bflan.proofs.place.Locating.{datum-from, value-to, value-missing}
 
-datum-base-requires : tie.Need-datum-base-requires
-datum-base-requires c κs = search needs
-
-enum-known-q : tie.Need-enum-known-q
-enum-known-q c = search needs
-
 value-in-requires : tie.Need-value-in-requires
 value-in-requires c κs = (c .before .before .before .before .before .pre .0, datum-from _ _ _ _ (c .before .before .before .before .before .pre .1) (sym (c .before .before .before .datum-base .ensures) ∙ c .before .q .given .1))
-
-enum-told : tie.Need-enum-told
-enum-told c = search needs
 
 returns : tie.Need-returns
 returns c = value-to _ _ _ _ _ _ _ (sym (c .before .before .before .before .datum-base .ensures) ∙ c .before .before .q .given .1) (c .value-in .ensures)
@@ -25,6 +16,4 @@ returns-2 : tie.Need-returns-2
 returns-2 c = value-missing _ _ _ _ _ (sym (c .before .before .datum-base .ensures) ∙ c .enum-told .given .1)
 
 pub value-under-spec : {M : Type 1} → statement M
-value-under-spec =
-    tie.close
-    (tie.spec datum-base-requires enum-known-q value-in-requires enum-told returns returns-2)
+value-under-spec = tie.close (tie.spec (λ c κs. search needs) (search needs) value-in-requires (search needs) returns returns-2)

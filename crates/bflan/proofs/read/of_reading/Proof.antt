@@ -8,21 +8,6 @@ use Rattle.core.specs.Outcome.{flat}
 use Rattle.bflan.specs.declared.read.ReadAnswer.{ReadAnswer}
 use Rattle.bflan.specs.Answer.{ofReading}
 
-enum-known-a : tie.Need-enum-known-a
-enum-known-a c = search needs
-
-enum-known-a-2 : tie.Need-enum-known-a-2
-enum-known-a-2 c = search needs
-
-of-fault-requires : tie.Need-of-fault-requires
-of-fault-requires c κs = search needs
-
-enum-known-a-3 : tie.Need-enum-known-a-3
-enum-known-a-3 c = search needs
-
-enum-known-a-4 : tie.Need-enum-known-a-4
-enum-known-a-4 c = search needs
-
 returns : tie.Need-returns
 unfolding flat ofReading
 returns c = ap (λ (z : ReadAnswer). flat 5 (ofReading z)) (sym (c .before .a .given .1))
@@ -42,13 +27,4 @@ returns-4 c = ap (λ (z : ReadAnswer). flat 5 (ofReading z)) (sym (c .before .a4
 pub of-reading-spec : {M : Type 1} → statement M
 of-reading-spec =
     tie.close
-    (tie.spec
-    enum-known-a
-    enum-known-a-2
-    of-fault-requires
-    enum-known-a-3
-    enum-known-a-4
-    returns
-    returns-2
-    returns-3
-    returns-4)
+    (tie.spec (search needs) (search needs) (search needs) (search needs) (search needs) returns returns-2 returns-3 returns-4)

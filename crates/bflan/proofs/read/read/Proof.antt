@@ -12,35 +12,14 @@ use Rattle.bflan.proofs.read.Answers.{reading-long, reading-stop, readi
 returns : tie.Need-returns
 returns c = reading-long section _ _ _ (c .if1 .taken)
 
-measure-requires : tie.Need-measure-requires
-measure-requires c κs = search needs
-
-enum-known-f : tie.Need-enum-known-f
-enum-known-f c = search needs
-
-enum-known-t : tie.Need-enum-known-t
-enum-known-t c = search needs
-
 returns-2 : tie.Need-returns-2
 returns-2 c = reading-words section _ _ _ (omega (arith, c .before .before .before .before .before .if1 .left)) (section-countable _ (λ i. c .before .before .before .before .before .before .before .before .shared-slice-known .given i .fits) (omega (arith, c .before .before .before .before .before .if1 .left))) _ _ _ (sym (c .before .before .before .before .measure .ensures) ∙ c .before .before .t .given .1) (c .if2 .taken)
 
 returns-3 : tie.Need-returns-3
 returns-3 c = reading-texts section _ _ _ (omega (arith, c .before .before .before .before .before .before .if1 .left)) (section-countable _ (λ i. c .before .before .before .before .before .before .before .before .before .shared-slice-known .given i .fits) (omega (arith, c .before .before .before .before .before .before .if1 .left))) _ _ _ (sym (c .before .before .before .before .before .measure .ensures) ∙ c .before .before .before .t .given .1) (omega (arith, c .before .if2 .left)) (c .if3 .taken)
 
-fresh-requires : tie.Need-fresh-requires
-fresh-requires c κs = search needs
-
-section-at-requires : tie.Need-section-at-requires
-section-at-requires c κs = search needs
-
 returns-4 : tie.Need-returns-4
 returns-4 c = reading-stop section _ _ _ (omega (arith, c .before .before .before .before .if1 .left)) _ _ (sym (c .before .before .before .measure .ensures) ∙ c .before .f .given .1)
-
-same-length : tie.Need-same-length
-same-length c = search needs
-
-same-length-2 : tie.Need-same-length-2
-same-length-2 c = search needs
 
 returns-5 : tie.Need-returns-5
 returns-5 c = reading-on section _ _ _ (omega (arith, c .before .before .before .before .before .before .before .before .before .before .before .before .before .before .if1 .left)) (section-countable _ (λ i. c .before .before .before .before .before .before .before .before .before .before .before .before .before .before .before .before .before .shared-slice-known .given i .fits) (omega (arith, c .before .before .before .before .before .before .before .before .before .before .before .before .before .before .if1 .left))) _ _ _ (sym (c .before .before .before .before .before .before .before .before .before .before .before .before .before .measure .ensures) ∙ c .before .before .before .before .before .before .before .before .before .before .before .t .given .1) _ _ _ _ (omega (arith, c .before .before .before .before .before .before .before .before .before .if2 .left)) (omega (arith, c .before .before .before .before .before .before .before .before .if3 .left)) (c .before .before .before .before .before .fresh .ensures) (c .before .before .before .before .section-at .ensures)
@@ -48,16 +27,5 @@ returns-5 c = reading-on section _ _ _ (omega (arith, c .before .before .before 
 pub read-spec : {M : Type 1} → statement M
 read-spec =
     tie.close
-    (tie.spec
-    returns
-    measure-requires
-    enum-known-f
-    enum-known-t
-    returns-2
-    returns-3
-    fresh-requires
-    section-at-requires
-    returns-4
-    same-length
-    same-length-2
-    returns-5)
+    (tie.spec returns (search needs) (search needs) (search needs) returns-2 returns-3 (search needs) (search needs) returns-4
+    (search needs) (search needs) returns-5)

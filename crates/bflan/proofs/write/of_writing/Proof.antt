@@ -8,21 +8,6 @@ use Rattle.core.specs.Outcome.{flat}
 use Rattle.bflan.specs.declared.write.WriteAnswer.{WriteAnswer}
 use Rattle.bflan.specs.Writing.{ofWriting}
 
-enum-known-a : tie.Need-enum-known-a
-enum-known-a c = search needs
-
-enum-known-a-2 : tie.Need-enum-known-a-2
-enum-known-a-2 c = search needs
-
-enum-known-a-3 : tie.Need-enum-known-a-3
-enum-known-a-3 c = search needs
-
-enum-told : tie.Need-enum-told
-enum-told c = search needs
-
-enum-known-a-4 : tie.Need-enum-known-a-4
-enum-known-a-4 c = search needs
-
 returns : tie.Need-returns
 unfolding flat ofWriting
 returns c = ap (λ (z : WriteAnswer). flat 5 (ofWriting z)) (sym (c .before .a .given .1))
@@ -46,14 +31,5 @@ returns-5 c = ap (λ (z : WriteAnswer). flat 5 (ofWriting z)) (sym (c .before .a
 pub of-writing-spec : {M : Type 1} → statement M
 of-writing-spec =
     tie.close
-    (tie.spec
-    enum-known-a
-    enum-known-a-2
-    enum-known-a-3
-    enum-told
-    enum-known-a-4
-    returns
-    returns-2
-    returns-3
-    returns-4
+    (tie.spec (search needs) (search needs) (search needs) (search needs) (search needs) returns returns-2 returns-3 returns-4
     returns-5)

@@ -9,18 +9,6 @@ use borrow.Author.Needs.{needs}
 use Rattle.bflan.proofs.write.write.Statement.{statement}
 use Rattle.bflan.proofs.write.write.Tie as tie
 
-judge-section-requires : tie.Need-judge-section-requires
-judge-section-requires c κs = search needs
-
-enum-known-index : tie.Need-enum-known-index
-enum-known-index c = search needs
-
-enum-known-index-2 : tie.Need-enum-known-index-2
-enum-known-index-2 c = search needs
-
-enum-known-m : tie.Need-enum-known-m
-enum-known-m c = search needs
-
 returns : tie.Need-returns
 returns c = answer-over sectionLay section (now (c .before .before .before .before .before .before .before .before .args .words)) (now (c .before .before .before .before .before .before .before .before .args .texts)) (now (c .before .before .before .before .before .before .before .before .args .out)) _ (sym (c .before .before .before .before .judge-section .ensures) ∙ c .before .before .m .given .1) (c .if1 .taken)
 
@@ -36,24 +24,11 @@ returns-3 c = answer-word sectionLay section (now (c .before .before .before .be
 returns-4 : tie.Need-returns-4
 returns-4 c = answer-text sectionLay section (now (c .before .before .before .before .before .before .before .args .words)) (now (c .before .before .before .before .before .before .before .args .texts)) (now (c .before .before .before .before .before .before .before .args .out)) _ (sym (c .before .before .before .judge-section .ensures) ∙ c .before .index2 .given .1)
 
-same-length : tie.Need-same-length
-same-length c = search needs
-
 returns-5 : tie.Need-returns-5
 returns-5 c = answer-written sectionLay section (now (c .before .before .before .before .before .before .before .before .before .before .before .before .before .args .words)) (now (c .before .before .before .before .before .before .before .before .before .before .before .before .before .args .texts)) (now (c .before .before .before .before .before .before .before .before .before .before .before .before .before .args .out)) _ (sym (c .before .before .before .before .before .before .before .before .before .judge-section .ensures) ∙ c .before .before .before .before .before .before .before .m .given .1) (c .before .before .before .before .before .if1 .left) (c .before .before .before .before .if2 .left) (c .before .before .put-section .ensures)
 
 pub write-spec : {M : Type 1} → statement M
 write-spec =
     tie.close
-    (tie.spec
-    judge-section-requires
-    enum-known-index
-    enum-known-index-2
-    enum-known-m
-    returns
-    returns-2
-    put-section-requires
-    returns-3
-    returns-4
-    same-length
-    returns-5)
+    (tie.spec (search needs) (search needs) (search needs) (search needs) returns returns-2 put-section-requires returns-3
+    returns-4 (search needs) returns-5)

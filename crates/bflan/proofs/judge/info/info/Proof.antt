@@ -13,38 +13,17 @@ use Rattle.bflan.specs.pai1.Letters.{fleu, lettersFit}
 use Rattle.bflan.proofs.judge.Measures.{held, failed, fits-there, tested-bad, tested-next}
 use Rattle.bflan.proofs.judge.JudgeParts.{info-bad, info-data, info-targets}
 
-letters-fit-requires : tie.Need-letters-fit-requires
-letters-fit-requires c κs = search needs
-
 returns : tie.Need-returns
 returns c = info-bad (now (c .before .before .before .before .args .words)) (now (c .before .before .before .before .args .texts)) (c .before .before .before .before .args .i) (c .before .before .before .before .args .j) (tested-bad (failed _ _ (c .before .letters-fit .ensures) (c .if1 .taken)))
 
 add-count : tie.Need-add-count
 add-count c = let h = fits-there lettersFit (now (c .before .before .before .before .args .words)) (c .before .before .before .before .args .i) (held _ _ (c .before .letters-fit .ensures) (c .if1 .left)) in omega (arith, h, c .before .before .before .before .good)
 
-below-requires : tie.Need-below-requires
-below-requires c κs = search needs
-
 returns-2 : tie.Need-returns-2
 returns-2 c = info-bad (now (c .before .before .before .before .before .before .args .words)) (now (c .before .before .before .before .before .before .args .texts)) (c .before .before .before .before .before .before .args .i) (c .before .before .before .before .before .before .args .j) (tested-next (held _ _ (c .before .before .before .letters-fit .ensures) (c .before .before .if1 .left)) (tested-bad (failed _ _ (c .before .below .ensures) (c .if2 .taken))))
 
-word-of-requires : tie.Need-word-of-requires
-word-of-requires c κs = search needs
-
-word-of-requires-2 : tie.Need-word-of-requires-2
-word-of-requires-2 c κs = search needs
-
-cast-n : tie.Need-cast-n
-cast-n c = search needs
-
 add-data : tie.Need-add-data
 add-data c = let h = fits-there (wide 1) (now (c .before .before .before .before .before .before .before .before .before .args .words)) ((c .before .before .before .before .before .before .before .before .before .args .i) + 1) (held _ _ (c .before .before .before .before .below .ensures) (c .before .before .before .if2 .left)) in omega (arith, h, c .before .before .before .before .before .before .before .before .before .good)
-
-data-requires : tie.Need-data-requires
-data-requires c κs = search needs
-
-grown-requires : tie.Need-grown-requires
-grown-requires c κs = search needs
 
 returns-3 : tie.Need-returns-3
 unfolding fleu val
@@ -53,18 +32,6 @@ returns-3 c = c .grown .ensures ∙ info-data (now (c .before .before .before .b
 add-targets : tie.Need-add-targets
 add-targets c = let h = fits-there (wide 1) (now (c .before .before .before .before .before .before .before .before .before .args .words)) ((c .before .before .before .before .before .before .before .before .before .args .i) + 1) (held _ _ (c .before .before .before .before .below .ensures) (c .before .before .before .if2 .left)) in omega (arith, h, c .before .before .before .before .before .before .before .before .before .good)
 
-targets-requires : tie.Need-targets-requires
-targets-requires c κs = search needs
-
-mul-grown : tie.Need-mul-grown
-mul-grown c = search needs
-
-add-grown : tie.Need-add-grown
-add-grown c = search needs
-
-grown-requires-2 : tie.Need-grown-requires-2
-grown-requires-2 c κs = search needs
-
 returns-4 : tie.Need-returns-4
 unfolding fleu val
 returns-4 c = c .grown2 .ensures ∙ info-targets (now (c .before .before .before .before .before .before .before .before .before .before .before .args .words)) (now (c .before .before .before .before .before .before .before .before .before .before .before .args .texts)) (c .before .before .before .before .before .before .before .before .before .before .before .args .i) (c .before .before .before .before .before .before .before .before .before .before .before .args .j) (held _ _ (c .before .before .before .before .before .before .before .before .letters-fit .ensures) (c .before .before .before .before .before .before .before .if1 .left)) (held _ _ (c .before .before .before .before .before .before .below .ensures) (c .before .before .before .before .before .if2 .left)) _ _ (c .before .before .before .before .word-of .ensures) (c .before .before .before .word-of2 .ensures) _ (c .before .before .if3 .left) (c .before .targets .ensures (now (c .before .before .before .before .before .before .before .before .before .before .before .args .texts)))
@@ -72,22 +39,5 @@ returns-4 c = c .grown2 .ensures ∙ info-targets (now (c .before .before .befor
 pub info-spec : {M : Type 1} → statement M
 info-spec =
     tie.close
-    (tie.spec
-    letters-fit-requires
-    returns
-    add-count
-    below-requires
-    returns-2
-    word-of-requires
-    word-of-requires-2
-    cast-n
-    add-data
-    data-requires
-    grown-requires
-    returns-3
-    add-targets
-    targets-requires
-    mul-grown
-    add-grown
-    grown-requires-2
-    returns-4)
+    (tie.spec (search needs) returns add-count (search needs) returns-2 (search needs) (search needs) (search needs) add-data
+    (search needs) (search needs) returns-3 add-targets (search needs) (search needs) (search needs) (search needs) returns-4)

@@ -10,33 +10,6 @@ use borrow.Author.Needs.{needs}
 use Rattle.bflan.proofs.reader.content.short.Statement.{statement}
 use Rattle.bflan.proofs.reader.content.short.Tie as tie
 
-seek-to-requires : tie.Need-seek-to-requires
-seek-to-requires c κs = search needs
-
-enum-known-o : tie.Need-enum-known-o
-enum-known-o c = search needs
-
-enum-known-p : tie.Need-enum-known-p
-enum-known-p c = search needs
-
-fixed-string-at-requires : tie.Need-fixed-string-at-requires
-fixed-string-at-requires c κs = search needs
-
-enum-known-o-2 : tie.Need-enum-known-o-2
-enum-known-o-2 c = search needs
-
-enum-known-from : tie.Need-enum-known-from
-enum-known-from c = search needs
-
-enum-known--len : tie.Need-enum-known--len
-enum-known--len c = search needs
-
-slice-aggregate-cut : tie.Need-slice-aggregate-cut
-slice-aggregate-cut c = search needs
-
-cut-requires : tie.Need-cut-requires
-cut-requires c κs = search needs
-
 returns : tie.Need-returns
 returns c = λ i. content-past _ _ i _ _ (sym (c .before .before .before .seek-to .ensures) ∙ c .before .o .given .1)
 
@@ -56,17 +29,5 @@ returns-4 c =
 pub short-spec : {M : Type 1} → statement M
 short-spec =
     tie.close
-    (tie.spec
-    seek-to-requires
-    enum-known-o
-    enum-known-p
-    fixed-string-at-requires
-    enum-known-o-2
-    enum-known-from
-    enum-known--len
-    slice-aggregate-cut
-    cut-requires
-    returns
-    returns-2
-    returns-3
-    returns-4)
+    (tie.spec (search needs) (search needs) (search needs) (search needs) (search needs) (search needs) (search needs)
+    (search needs) (search needs) returns returns-2 returns-3 returns-4)

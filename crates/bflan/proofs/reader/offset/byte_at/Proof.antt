@@ -9,12 +9,6 @@ use borrow.Author.Needs.{needs}
 use Rattle.bflan.proofs.reader.offset.byte_at.Statement.{statement}
 use Rattle.bflan.proofs.reader.offset.byte_at.Tie as tie
 
-shared-slice-read-wide : tie.Need-shared-slice-read-wide
-shared-slice-read-wide c = search needs
-
-wide-requires : tie.Need-wide-requires
-wide-requires c κs = search needs
-
 returns : tie.Need-returns
 returns c =
     let s : List ℕ = now (c .before .before .before .args .s) in
@@ -22,4 +16,4 @@ returns c =
     (omega (arith, get-suc 0 s a, get-zero s (a + 1)), omega arith)
 
 pub byte-at-spec : {M : Type 1} → statement M
-byte-at-spec = tie.close (tie.spec shared-slice-read-wide wide-requires returns)
+byte-at-spec = tie.close (tie.spec (search needs) (search needs) returns)

@@ -9,21 +9,6 @@ use borrow.Author.Needs.{needs}
 use Rattle.bflan.proofs.reader.offset.half_at.Statement.{statement}
 use Rattle.bflan.proofs.reader.offset.half_at.Tie as tie
 
-byte-at-requires : tie.Need-byte-at-requires
-byte-at-requires c κs = search needs
-
-add-byte-at : tie.Need-add-byte-at
-add-byte-at c = search needs
-
-byte-at-requires-2 : tie.Need-byte-at-requires-2
-byte-at-requires-2 c κs = search needs
-
-mul-result : tie.Need-mul-result
-mul-result c = search needs
-
-add-result : tie.Need-add-result
-add-result c = search needs
-
 returns : tie.Need-returns
 returns c =
     let s : List ℕ = now (c .before .before .before .args .s) in
@@ -31,6 +16,4 @@ returns c =
     (omega (arith, get-suc 1 s a, get-suc 0 s a, get-suc 0 s (a + 1), get-zero s (a + 1), get-zero s (a + 1 + 1)), omega arith)
 
 pub half-at-spec : {M : Type 1} → statement M
-half-at-spec =
-    tie.close
-    (tie.spec byte-at-requires add-byte-at byte-at-requires-2 mul-result add-result returns)
+half-at-spec = tie.close (tie.spec (search needs) (search needs) (search needs) (search needs) (search needs) returns)

@@ -11,21 +11,6 @@ use borrow.Author.Needs.{needs}
 use Rattle.bflan.proofs.reader.offset.word_at.Statement.{statement}
 use Rattle.bflan.proofs.reader.offset.word_at.Tie as tie
 
-half-at-requires : tie.Need-half-at-requires
-half-at-requires c κs = search needs
-
-add-half-at : tie.Need-add-half-at
-add-half-at c = search needs
-
-half-at-requires-2 : tie.Need-half-at-requires-2
-half-at-requires-2 c κs = search needs
-
-mul-result : tie.Need-mul-result
-mul-result c = search needs
-
-add-result : tie.Need-add-result
-add-result c = search needs
-
 returns : tie.Need-returns
 returns c =
     let s : List ℕ = now (c .before .before .before .args .s) in
@@ -34,6 +19,4 @@ returns c =
     omega (arith, q, get-suc 3 s a, get-suc 2 s (a + 1), get-suc 1 s a, get-suc 0 s (a + 1), get-zero s (a + 1 + 1))
 
 pub word-at-spec : {M : Type 1} → statement M
-word-at-spec =
-    tie.close
-    (tie.spec half-at-requires add-half-at half-at-requires-2 mul-result add-result returns)
+word-at-spec = tie.close (tie.spec (search needs) (search needs) (search needs) (search needs) (search needs) returns)

@@ -8,18 +8,6 @@ use borrow.Author.Needs.{needs}
 use Rattle.bflan.proofs.reader.row.sought_cut.Statement.{statement}
 use Rattle.bflan.proofs.reader.row.sought_cut.Tie as tie
 
-seek-to-requires : tie.Need-seek-to-requires
-seek-to-requires c κs = search needs
-
-enum-known-o : tie.Need-enum-known-o
-enum-known-o c = search needs
-
-enum-known-p : tie.Need-enum-known-p
-enum-known-p c = search needs
-
-cut-requires : tie.Need-cut-requires
-cut-requires c κs = search needs
-
 returns : tie.Need-returns
 unfolding soughtCut
 returns c = ap (cutAt (map widthOf (now (c .before .before .before .before .before .before .args .widths))) (now (c .before .before .before .before .before .before .args .s))) (sym (c .before .o .given .1) ∙ c .before .before .before .seek-to .ensures)
@@ -29,4 +17,4 @@ unfolding soughtCut
 returns-2 c = c .cut .ensures ∙ ap (cutAt (map widthOf (now (c .before .before .before .before .before .before .before .args .widths))) (now (c .before .before .before .before .before .before .before .args .s))) (sym (c .before .before .p .given .1) ∙ c .before .before .before .before .seek-to .ensures)
 
 pub sought-cut-spec : {M : Type 1} → statement M
-sought-cut-spec = tie.close (tie.spec seek-to-requires enum-known-o enum-known-p cut-requires returns returns-2)
+sought-cut-spec = tie.close (tie.spec (search needs) (search needs) (search needs) (search needs) returns returns-2)

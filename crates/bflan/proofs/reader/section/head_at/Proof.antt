@@ -6,30 +6,9 @@ use borrow.Author.Needs.{needs}
 use Rattle.bflan.proofs.reader.section.head_at.Statement.{statement}
 use Rattle.bflan.proofs.reader.section.head_at.Tie as tie
 
-slice-aggregate-cut : tie.Need-slice-aggregate-cut
-slice-aggregate-cut c = search needs
-
-cut-requires : tie.Need-cut-requires
-cut-requires c κs = search needs
-
 returns : tie.Need-returns
 unfolding widthOf
 returns c = head-short _ (c .before .before .if1 .taken) (c .cut .ensures)
-
-half-at-requires : tie.Need-half-at-requires
-half-at-requires c κs = search needs
-
-byte-at-requires : tie.Need-byte-at-requires
-byte-at-requires c κs = search needs
-
-half-at-requires-2 : tie.Need-half-at-requires-2
-half-at-requires-2 c κs = search needs
-
-half-at-requires-3 : tie.Need-half-at-requires-3
-half-at-requires-3 c κs = search needs
-
-word-at-requires : tie.Need-word-at-requires
-word-at-requires c κs = search needs
 
 returns-2 : tie.Need-returns-2
 returns-2 c = head-there _ (c .before .before .before .before .before .if1 .left) (c .before .before .before .before .half-at .ensures .0) (c .before .before .before .byte-at .ensures .0) (c .before .before .half-at2 .ensures .0) (c .before .half-at3 .ensures .0) (c .word-at .ensures)
@@ -37,13 +16,5 @@ returns-2 c = head-there _ (c .before .before .before .before .before .if1 .left
 pub head-at-spec : {M : Type 1} → statement M
 head-at-spec =
     tie.close
-    (tie.spec
-    slice-aggregate-cut
-    cut-requires
-    returns
-    half-at-requires
-    byte-at-requires
-    half-at-requires-2
-    half-at-requires-3
-    word-at-requires
+    (tie.spec (search needs) (search needs) returns (search needs) (search needs) (search needs) (search needs) (search needs)
     returns-2)

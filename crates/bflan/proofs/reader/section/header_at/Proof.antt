@@ -6,24 +6,6 @@ use borrow.Author.Needs.{needs}
 use Rattle.bflan.proofs.reader.section.header_at.Statement.{statement}
 use Rattle.bflan.proofs.reader.section.header_at.Tie as tie
 
-u32-at-requires : tie.Need-u32-at-requires
-u32-at-requires c κs = search needs
-
-enum-known-o : tie.Need-enum-known-o
-enum-known-o c = search needs
-
-enum-known-magic : tie.Need-enum-known-magic
-enum-known-magic c = search needs
-
-u32-at-requires-2 : tie.Need-u32-at-requires-2
-u32-at-requires-2 c κs = search needs
-
-enum-known-o-2 : tie.Need-enum-known-o-2
-enum-known-o-2 c = search needs
-
-enum-known-size : tie.Need-enum-known-size
-enum-known-size c = search needs
-
 returns : tie.Need-returns
 returns c = header-first _ (sym (c .before .before .before .u32-at .ensures) ∙ c .before .o .given .1)
 
@@ -36,13 +18,5 @@ returns-3 c = header-whole _ (sym (c .before .before .before .before .before .be
 pub header-at-spec : {M : Type 1} → statement M
 header-at-spec =
     tie.close
-    (tie.spec
-    u32-at-requires
-    enum-known-o
-    enum-known-magic
-    u32-at-requires-2
-    enum-known-o-2
-    enum-known-size
-    returns
-    returns-2
+    (tie.spec (search needs) (search needs) (search needs) (search needs) (search needs) (search needs) returns returns-2
     returns-3)
