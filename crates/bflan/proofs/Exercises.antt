@@ -2,8 +2,7 @@
 -- as one theorem, in the crate above.
 use Prim.Native.Nat.{ℕ}
 use mathlib.Core.List.{List, [], _∷_}
-use Rattle.core.specs.Outcome.{Outcome}
-use Rattle.bflan.specs.Answer.{refused as refusal}
+use Rattle.core.specs.Outcome.{Outcome, refused as refusal}
 
 -- words 60, 1, 0, 0
 abbrev pub bare : List ℕ

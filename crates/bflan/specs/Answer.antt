@@ -8,7 +8,7 @@ use lib.Dec.{eqb, leb, ltb}
 use lib.ListN.{length, getD}
 use lib.Seq.{slice, sets}
 use Rattle.core.specs.Choice.{pick}
-use Rattle.core.specs.Outcome.{Outcome, accepted, refusedPast, refusedNoZero}
+use Rattle.core.specs.Outcome.{Outcome, accepted, refused, refusedPast, refusedNoZero}
 use Rattle.core.specs.Part.{inside, partOf, partPtr}
 use Rattle.core.specs.Utf8.{decode, wellFormed}
 use Rattle.bflan.specs.declared.fault.Fault.{Fault}
@@ -22,9 +22,6 @@ use Rattle.bflan.specs.Reader.{Res, ok, stop, P, Item}
 use Rattle.bflan.specs.Items.{wordsOf, textsOf, textsIn}
 
 -- ---- numbers and values
-
-abbrev pub refused : ℕ → List ℕ → Outcome
-refused n vs = record { number = n; values = vs }
 
 abbrev pub otherLetters : ℕ → Outcome
 otherLetters letters = refused 1 (letters ∷ [])

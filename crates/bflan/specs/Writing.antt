@@ -6,10 +6,9 @@ use lib.Dec.{leb}
 use lib.ListN.{length}
 use lib.Seq.{sets}
 use Rattle.core.specs.Choice.{pick}
-use Rattle.core.specs.Outcome.{Outcome, accepted}
+use Rattle.core.specs.Outcome.{Outcome, accepted, refused}
 use Rattle.bflan.specs.declared.write.WriteAnswer.{WriteAnswer}
 use Rattle.bflan.specs.declared.write.WriteAnswer.the-variants.{Written, BadWord, BadText, OverLimit, OutputTooShort}
-use Rattle.bflan.specs.Answer.{refused}
 use Rattle.bflan.specs.Judge.{Judged, fine, badWord, badText, J}
 use Rattle.bflan.specs.Layout.{Layout, size, written}
 use Rattle.bflan.specs.Limits.{limit}

@@ -6,4 +6,5 @@ pub mod Path
 pub mod Pen
 pub mod Row
 pub mod SectionParts
+pub mod Sought
 pub mod Walk

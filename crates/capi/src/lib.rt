@@ -13,7 +13,7 @@ ghost use lib.ListN.{length};
 ghost use lib.Seq.{sets};
 ghost use Rattle.core.specs.Outcome.{flat};
 ghost use Rattle.core.specs.Text.{beforeZero, firstFault};
-ghost use Rattle.core.specs.Utf8.{decode, decodedSize, sound, wellFormed};
+ghost use Rattle.core.specs.Utf8.{decode, decodedSize, validUpTo, wellFormed};
 ghost use Rattle.bflan.specs.Answer.{textPart};
 ghost use Rattle.bflan.specs.declared.place.Place.the-variants.{FrameCount, Looping, Layer, Target, Key, Value};
 ghost use Rattle.bflan.specs.pai1.Calls.{reading, finding, writing};
@@ -60,7 +60,7 @@ pub extern "C" fn nnbfl_well_formed(text: &[u8]) -> bool
 
 #[no_mangle]
 pub extern "C" fn nnbfl_first_ill(text: &[u8]) -> usize
-    ensures { λ r. ⌜ r ≡ sound (now (text .entry)) ⌝ }
+    ensures { λ r. ⌜ r ≡ validUpTo (now (text .entry)) ⌝ }
 {
     core::utf8::first_ill(text)
 }

@@ -36,16 +36,13 @@ inOrder n = n .0 ∷ n .1 ∷ n .2 ∷ n .3 ∷ n .4 ∷ []
 
 -- ---- the answers
 
--- the numbers of the refusals that a read, a seek or a text can meet
-abbrev pub pastEnd : ℕ
-pastEnd = 3
-
-abbrev pub noZero : ℕ
-noZero = 4
-
 -- an accepted answer with its values
 abbrev pub accepted : List ℕ → Outcome
 accepted vs = record { number = 0; values = vs }
+
+-- a refusal by its number, with its values
+abbrev pub refused : ℕ → List ℕ → Outcome
+refused n vs = record { number = n; values = vs }
 
 -- of an accepted answer, how many values there are before the values
 unfoldable pub counted : Outcome → Outcome
@@ -53,11 +50,11 @@ counted o = pick (eqb (o .number) 0) (accepted (length (o .values) ∷ o .values
 
 -- a read or a seek past the end: the offset and what was requested
 abbrev pub refusedPast : ℕ → ℕ → Outcome
-refusedPast offset requested = record { number = pastEnd; values = offset ∷ requested ∷ [] }
+refusedPast offset requested = refused 3 (offset ∷ requested ∷ [])
 
 -- a text without a zero: its start
 abbrev pub refusedNoZero : ℕ → Outcome
-refusedNoZero start = record { number = noZero; values = start ∷ [] }
+refusedNoZero start = refused 4 (start ∷ [])
 
 -- a read: the number and the position after it
 unfoldable pub ofRead : Read → Outcome

@@ -6,7 +6,7 @@ use lib.Dec.{ltb, leb, eqb}
 use lib.ListN.{length, getD, take, drop}
 use lib.Seq.{slice}
 use Rattle.core.specs.Choice.{pick}
-use Rattle.core.specs.Utf8.{sound}
+use Rattle.core.specs.Utf8.{validUpTo}
 use Rattle.core.specs.declared.text.TextAt.{TextAt}
 use Rattle.core.specs.declared.text.TextAt.the-variants.{Text, Past, Unended}
 
@@ -17,7 +17,7 @@ beforeZero (b ∷ bs) = pick (eqb b 0) 0 (suc (beforeZero bs))
 
 -- where the first fault of a text stands, a zero or an ill-formed subpart; the length, where it has none
 unfoldable pub firstFault : List ℕ → ℕ
-firstFault t = min (beforeZero t) (sound t)
+firstFault t = min (beforeZero t) (validUpTo t)
 
 -- whether every byte passes a test; and the tests: not zero, ASCII (Table 3-7's first row), and both
 unfoldable pub every : (ℕ → Bool) → List ℕ → Bool

@@ -148,8 +148,8 @@ unfoldable pub decode : List ℕ → List ℕ
 decode t = decoded (pieces t)
 
 -- where the first ill-formed subpart starts, or the length
-unfoldable pub sound : List ℕ → ℕ
-sound t = leading (pieces t)
+unfoldable pub validUpTo : List ℕ → ℕ
+validUpTo t = leading (pieces t)
 
 unfoldable pub illSize : List ℕ → ℕ
 illSize t = illFirst (pieces t)

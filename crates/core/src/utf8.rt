@@ -6,7 +6,7 @@ ghost use lib.Dec.{ltb, eqb};
 ghost use lib.ListN.{length, getD};
 ghost use lib.Seq.{sets};
 ghost use Rattle.core.specs.Choice.{pick};
-ghost use Rattle.core.specs.Utf8.{Classes, classOf, replacement, decode, decodedSize, sound, wellFormed};
+ghost use Rattle.core.specs.Utf8.{Classes, classOf, replacement, decode, decodedSize, validUpTo, wellFormed};
 ghost use Rattle.core.specs.inner.Flow.{Rows};
 use crate::fill::ahead;
 use crate::fill::copy;
@@ -48,9 +48,9 @@ fn put_replacement(out: &mut [u8], at: usize) -> usize
 
 // Whether a short text is well-formed, by one way through the automaton. A no is left open: the caller then goes through the text as if nothing
 // had been asked.
-fn short_sound(text: &[u8], classes: &[u8; 256], rows: &[u64; 16]) -> bool
+fn short_valid(text: &[u8], classes: &[u8; 256], rows: &[u64; 16]) -> bool
     requires { ⌜ Classes (now classes) × Rows (now rows) ⌝ }
-    ensures { λ r. ⌜ (r ≡ true → sound (now (text .entry)) ≡ length (now (text .entry))) ⌝ }
+    ensures { λ r. ⌜ (r ≡ true → validUpTo (now (text .entry)) ≡ length (now (text .entry))) ⌝ }
 {
     let n = text.len();
     if 64 < n {
@@ -62,9 +62,9 @@ fn short_sound(text: &[u8], classes: &[u8; 256], rows: &[u64; 16]) -> bool
 // Where the first ill-formed subpart starts, or the length. A short text is looked at as a whole first: names are well-formed.
 fn ill_by(text: &[u8], classes: &[u8; 256], rows: &[u64; 16]) -> usize
     requires { ⌜ Classes (now classes) × Rows (now rows) ⌝ }
-    ensures { λ r. ⌜ r ≡ sound (now (text .entry)) ⌝ }
+    ensures { λ r. ⌜ r ≡ validUpTo (now (text .entry)) ⌝ }
 {
-    if short_sound(text, classes, rows) {
+    if short_valid(text, classes, rows) {
         return text.len();
     }
     let run = next_run(text, 0, classes, rows);
@@ -73,7 +73,7 @@ fn ill_by(text: &[u8], classes: &[u8; 256], rows: &[u64; 16]) -> usize
 
 // The same with the tables in place. It is asked of a text of which `is_ascii` says no.
 fn ill_mixed(text: &[u8]) -> usize
-    ensures { λ r. ⌜ r ≡ sound (now (text .entry)) ⌝ }
+    ensures { λ r. ⌜ r ≡ validUpTo (now (text .entry)) ⌝ }
 {
     let classes = CLASSES;
     let rows = ROWS;
@@ -82,7 +82,7 @@ fn ill_mixed(text: &[u8]) -> usize
 
 // Where the first ill-formed subpart starts, or the length. A text that is seen to be ASCII has none.
 pub fn first_ill(text: &[u8]) -> usize
-    ensures { λ r. ⌜ r ≡ sound (now (text .entry)) ⌝ }
+    ensures { λ r. ⌜ r ≡ validUpTo (now (text .entry)) ⌝ }
 {
     if is_ascii(text) {
         return text.len();
@@ -153,7 +153,7 @@ fn decode_by(text: &[u8], out: &mut [u8], at: usize, classes: &[u8; 256], rows: 
     requires { ⌜ Classes (now classes) × Rows (now rows) ⌝ }
     ensures { λ r. ⌜ (r ≡ decodedSize (now (text .entry))) × (now (out .exit) ≡ sets (now (out .entry)) at (decode (now (text .entry)))) ⌝ }
 {
-    if short_sound(text, classes, rows) {
+    if short_valid(text, classes, rows) {
         copy(text, out, at);
         return text.len();
     }

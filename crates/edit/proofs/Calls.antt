@@ -18,7 +18,7 @@ use Rattle.edit.specs.declared.journal.Entry.{Entry}
 use Rattle.edit.specs.declared.journal.Packed.{Packed}
 use Rattle.edit.specs.declared.undo.UndoAnswer.the-variants.{Undone, TooLong, NothingToUndo, BadJournal}
 use Rattle.edit.specs.Editing.{ofUndoing, restored, undoing}
-use Rattle.edit.specs.Journal.{entryWords, capacity, entryAt, bytesIn, fieldSize, allZero, sound}
+use Rattle.edit.specs.Journal.{entryWords, capacity, entryAt, bytesIn, fieldSize, allZero, restorable}
 use Rattle.edit.specs.inner.Packing.{unpacked, entryList}
 
 -- ---- zeros behind the bytes of a number
@@ -214,30 +214,30 @@ entry-read j n h =
     rw (getD-drop (entryWords * n) j 0 0, getD-drop (entryWords * n) j 1 0, getD-drop (entryWords * n) j 2 0, getD-drop (entryWords * n) j 3 0, getD-drop (entryWords * n) j 4 0, add-zero) at f
 
 module _ (e : Entry) (size : ℕ) where
-  pub sound-filled : (t : Bool) → t ≡ fieldSize (e .count) && allZero (drop (e .count) (unpacked (e .old))) → t ≡ true → leb (e .at + e .count) size ≡ sound size (entryList e)
-  unfolding sound entryList bytesIn unpacked
-  sound-filled t d h =
+  pub restorable-filled : (t : Bool) → t ≡ fieldSize (e .count) && allZero (drop (e .count) (unpacked (e .old))) → t ≡ true → leb (e .at + e .count) size ≡ restorable size (entryList e)
+  unfolding restorable entryList bytesIn unpacked
+  restorable-filled t d h =
       let f : (fieldSize (e .count) && allZero (drop (e .count) (unpacked (e .old)))) && leb (e .at + e .count) size ≡ leb (e .at + e .count) size = rw (sym d ∙ h) in
       sym f ∙ and-assoc (fieldSize (e .count)) (allZero (drop (e .count) (unpacked (e .old)))) (leb (e .at + e .count) size)
 
-  pub sound-not : (t : Bool) → t ≡ fieldSize (e .count) && allZero (drop (e .count) (unpacked (e .old))) → t ≡ false → false ≡ sound size (entryList e)
-  unfolding sound entryList bytesIn unpacked
-  sound-not t d h =
+  pub restorable-not : (t : Bool) → t ≡ fieldSize (e .count) && allZero (drop (e .count) (unpacked (e .old))) → t ≡ false → false ≡ restorable size (entryList e)
+  unfolding restorable entryList bytesIn unpacked
+  restorable-not t d h =
       let f : (fieldSize (e .count) && allZero (drop (e .count) (unpacked (e .old)))) && leb (e .at + e .count) size ≡ false = rw (sym d ∙ h) in
       sym f ∙ and-assoc (fieldSize (e .count)) (allZero (drop (e .count) (unpacked (e .old)))) (leb (e .at + e .count) size)
 
-  pub sound-size : sound size (entryList e) ≡ true → fieldSize (e .count) ≡ true
-  unfolding sound entryList
-  sound-size h = and-left (fieldSize (e .count)) (allZero (drop (e .count) (bytesIn (entryList e))) && leb (e .at + e .count) size) h
+  pub restorable-size : restorable size (entryList e) ≡ true → fieldSize (e .count) ≡ true
+  unfolding restorable entryList
+  restorable-size h = and-left (fieldSize (e .count)) (allZero (drop (e .count) (bytesIn (entryList e))) && leb (e .at + e .count) size) h
 
-  pub sound-fits : sound size (entryList e) ≡ true → e .at + e .count ≤ size
-  unfolding sound entryList
-  sound-fits h =
+  pub restorable-fits : restorable size (entryList e) ≡ true → e .at + e .count ≤ size
+  unfolding restorable entryList
+  restorable-fits h =
       let z = allZero (drop (e .count) (bytesIn (entryList e))) in
       leb-true (e .at + e .count) size (and-right z (leb (e .at + e .count) size) (and-right (fieldSize (e .count)) (z && leb (e .at + e .count) size) h))
 
-  pub sound-inside : sound size (entryList e) ≡ true → e .at < size
-  sound-inside h = omega (arith, sound-fits h, size-some (e .count) (sound-size h))
+  pub restorable-inside : restorable size (entryList e) ≡ true → e .at < size
+  restorable-inside h = omega (arith, restorable-fits h, size-some (e .count) (restorable-size h))
 
 pub restored-packed : (s : List ℕ) (e : Entry) → sets s (e .at) (take (e .count) (unpacked (e .old))) ≡ restored s (entryList e)
 unfolding restored entryList bytesIn unpacked
@@ -263,16 +263,16 @@ module _ (s j : List ℕ) (count : ℕ) (h : length s ≤ 16777216) where
       pub undo-room : entryWords * (count - 1) + entryWords ≤ length j
       undo-room = omega arith
 
-      pub undo-bad : (e : Entry) (t : Bool) → entryList e ≡ entryAt j (count - 1) → t ≡ sound (length s) (entryList e) → t ≡ false
+      pub undo-bad : (e : Entry) (t : Bool) → entryList e ≡ entryAt j (count - 1) → t ≡ restorable (length s) (entryList e) → t ≡ false
           → (ofUndoing (BadJournal count), s) ≡ undoing s j count
       unfolding ofUndoing undoing capacity
       undo-bad e t d f g =
-          let z : sound (length s) (entryAt j (count - 1)) ≡ false = rw (← d) (sym f ∙ g) in
+          let z : restorable (length s) (entryAt j (count - 1)) ≡ false = rw (← d) (sym f ∙ g) in
           rw (le-leb (length s) limit h, ne-eqb count 0 k, le-leb count (length j / entryWords) l, z)
 
-      pub undo-good : (e : Entry) (t : Bool) (s′ : List ℕ) → entryList e ≡ entryAt j (count - 1) → t ≡ sound (length s) (entryList e) → t ≡ true → s′ ≡ restored s (entryList e)
+      pub undo-good : (e : Entry) (t : Bool) (s′ : List ℕ) → entryList e ≡ entryAt j (count - 1) → t ≡ restorable (length s) (entryList e) → t ≡ true → s′ ≡ restored s (entryList e)
           → (ofUndoing (Undone (count - 1)), s′) ≡ undoing s j count
       unfolding ofUndoing undoing capacity
       undo-good e t s′ d f g r =
-          let z : sound (length s) (entryAt j (count - 1)) ≡ true = rw (← d) (sym f ∙ g) in
+          let z : restorable (length s) (entryAt j (count - 1)) ≡ true = rw (← d) (sym f ∙ g) in
           rw (le-leb (length s) limit h, ne-eqb count 0 k, le-leb count (length j / entryWords) l, z, ← d, r)

@@ -20,9 +20,9 @@ use Rattle.bflan.specs.declared.place.Field.{Field}
 use Rattle.bflan.proofs.place.Replacing.{length-row}
 use Rattle.edit.specs.Editing.{unfit, journalFull, nothingToUndo, oldAt, atSpot, onReading, editing, restored, undoing}
 use Rattle.edit.specs.Format.{Format}
-use Rattle.edit.specs.Journal.{entryWords, capacity, entryAt, entryOf, sound}
+use Rattle.edit.specs.Journal.{entryWords, capacity, entryAt, entryOf, restorable}
 use Rattle.edit.specs.Machine.{Call, edit, undo, Machine, started, editField, pop, turn, State, handedOn, called, Part, none, partOf, ownPart, changes, partsAfter, SameBut, AgreesOnce, Agrees}
-use Rattle.edit.proofs.Entries.{part-sets, drop-sets, room, capacity-sets, entry-new, entry-below, entry-sound, entry-restores}
+use Rattle.edit.proofs.Entries.{part-sets, drop-sets, room, capacity-sets, entry-new, entry-below, entry-restorable, entry-restores}
 
 -- ---- what a format must meet; `Good r` says that the record is within the format's limits, `Reads s r` that reading s gives r, `Writes s r`
 -- that writing r gives s
@@ -90,7 +90,7 @@ module _ (s j : List ℕ) (short : length s ≤ limit) where
   unfolding undoing
   nothing-left = rw (le-leb (length s) limit short)
 
-  undone : (n : ℕ) (t : List ℕ) → n < capacity j → sound (length s) (entryAt j n) ≡ true → restored s (entryAt j n) ≡ t → undoing s j (suc n) ≡ (accepted (n ∷ []), t)
+  undone : (n : ℕ) (t : List ℕ) → n < capacity j → restorable (length s) (entryAt j n) ≡ true → restored s (entryAt j n) ≡ t → undoing s j (suc n) ≡ (accepted (n ∷ []), t)
   unfolding undoing
   undone n t l g e =
       let one : suc n - 1 ≡ n = omega arith in
@@ -102,7 +102,7 @@ module _ (F : Format) (Good : F .Rec → Type 0) where
   -- entry n takes the bytes of r back to those of q, which differ in the part x
   record Takes (j : List ℕ) (n : ℕ) (x : Part F) (r q : F .Rec) : Type 0 where
     good : Good q
-    sound : sound (length (F .bytes r)) (entryAt j n) ≡ true
+    restorable : restorable (length (F .bytes r)) (entryAt j n) ≡ true
     back : restored (F .bytes r) (entryAt j n) ≡ F .bytes q
     kept : SameBut F x (F .bytes r) (F .bytes q)
 
@@ -138,7 +138,7 @@ module _ (F : Format) (Good : F .Rec → Type 0) where
   chain-below j e n r (q ∷ qs) (x ∷ xs) l h =
       let t : Takes j (length qs) x r q = h .0 in
       let b : entryAt (sets j (entryWords * n) e) (length qs) ≡ entryAt j (length qs) = entry-below j e n (length qs) (omega arith) in
-      (record { good = t .good; sound = rw b (t .sound); back = rw b (t .back); kept = t .kept }, chain-below j e n q qs xs (omega arith) (h .1))
+      (record { good = t .good; restorable = rw b (t .restorable); back = rw b (t .back); kept = t .kept }, chain-below j e n q qs xs (omega arith) (h .1))
 
   module _ (most : ℕ) (j : List ℕ) (m : Machine F) (parts : List (Part F)) (k : Linked most j m parts) where
     -- ---- a refused call
@@ -205,7 +205,7 @@ module _ (F : Format) (Good : F .Rec → Type 0) where
               let b : Bytes s = laws .bytes (m .rec) (k .good) in
               record {
                 good = k .good;
-                sound = rw (a, z) (entry-sound s at f b i);
+                restorable = rw (a, z) (entry-restorable s at f b i);
                 back = rw (a, ← x .same) (entry-restores s at f b i new (length-row (widths f) vs));
                 kept = same-sym F kept-edit;
               }
@@ -269,7 +269,7 @@ module _ (F : Format) (Good : F .Rec → Type 0) where
         machine = record { rec = q; stack = st };
         calls =
             called-undo F (beside F j (record { rec = r; stack = q ∷ st })) (accepted (length st ∷ [])) (F .bytes q)
-            (undone (F .bytes r) j l (length st) (F .bytes q) n (t .sound) (t .back));
+            (undone (F .bytes r) j l (length st) (F .bytes q) n (t .restorable) (t .back));
         turns = refl;
         kept = t .kept;
         linked = record { good = t .good; holds = k .holds; room = omega (arith, k .room); chain = k .chain .1 };

@@ -15,7 +15,7 @@ use Rattle.bflan.specs.pai1.Record.{keyWidths}
 use Rattle.bflan.specs.declared.place.Field.{Field}
 use Rattle.bflan.specs.declared.place.Field.the-variants.{FrameCount, Looping, Layer, Target, Key, Value}
 use Rattle.edit.specs.Editing.{oldAt, restored}
-use Rattle.edit.specs.Journal.{entryWords, capacity, entryAt, padded, entryOf, offsetIn, countIn, bytesIn, fieldSize, allZero, sound}
+use Rattle.edit.specs.Journal.{entryWords, capacity, entryAt, padded, entryOf, offsetIn, countIn, bytesIn, fieldSize, allZero, restorable}
 
 -- ---- what a run of stores leaves of the parts beside it
 
@@ -141,9 +141,9 @@ module _ (s : List ℕ) (at : ℕ) (f : Field) (b : Bytes s) (h : at + total (wi
   old-short = omega (arith, old-length, field-short f)
 
   -- it can be undone
-  pub entry-sound : sound (length s) (entryOf at (oldAt s at (total (widths f)))) ≡ true
-  unfolding sound
-  entry-sound =
+  pub entry-restorable : restorable (length s) (entryOf at (oldAt s at (total (widths f)))) ≡ true
+  unfolding restorable
+  entry-restorable =
       let old : List ℕ = oldAt s at (total (widths f)) in
       let e : length old ≡ total (widths f) = old-length in
       let i : at + length old ≤ length s = omega (arith, e, h) in

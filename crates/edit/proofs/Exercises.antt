@@ -12,7 +12,7 @@ use Rattle.core.specs.Number.{le, val, get, readOf}
 use Rattle.core.specs.Outcome.{accepted}
 use Rattle.core.specs.Seek.{seekOf}
 use Rattle.core.specs.Text.{beforeZero, firstFault, fixedOf, endedOf}
-use Rattle.core.specs.Utf8.{rows as utf8Rows, within, classOf, laterOf, matched, more, good, pieceOf, piecesAfter, pieces, shown, decoded, decode, leading, sound as soundOf}
+use Rattle.core.specs.Utf8.{rows as utf8Rows, within, classOf, laterOf, matched, more, good, pieceOf, piecesAfter, pieces, shown, decoded, decode, leading, validUpTo}
 use Rattle.core.proofs.Exercises.{TextExercise, textExercises}
 use Rattle.core.proofs.Floats.{pattern-back}
 use Rattle.bflan.specs.Answer.{ofFault, filled, readingBy}
@@ -83,5 +83,5 @@ AllSolved [] = Unit {0}
 AllSolved (e ∷ es) = Solved e × AllSolved es
 
 pub all-solved : AllSolved exercises
-unfolding le val get readOf seekOf beforeZero firstFault fixedOf endedOf paddingOf utf8Rows within classOf laterOf matched more good pieceOf piecesAfter pieces shown decoded decode leading soundOf nextWord nextChars nextText times row target datum info content pane ends whole judgeSection ofFault filled readingBy wordsOf textsOf size written parts table keySkip keyLay targetLay ended datumLay infoHead infoLay dataOut infosOut tableFrom infosFrom userLay contentBody contentLay namesEnd contentTable sectionSize sectionLay rowLay listings fleu kindOf lettersOf targetOf lettersFit targetFits widths total fitWidths allowed fit stride keyIn targetIn infoTableIn infoIn contentIn locate num seekTo skip fixedText endedText oneEnded numbers many visit curveOf countOf keys readTarget readDatum readInfo typeOf infoTable readContent texture contents flagOf ownLetters body readSection keyWidths intoOutput judged writingBy placeOf atSpot onReading editing capacity padded entryOf
+unfolding le val get readOf seekOf beforeZero firstFault fixedOf endedOf paddingOf utf8Rows within classOf laterOf matched more good pieceOf piecesAfter pieces shown decoded decode leading validUpTo nextWord nextChars nextText times row target datum info content pane ends whole judgeSection ofFault filled readingBy wordsOf textsOf size written parts table keySkip keyLay targetLay ended datumLay infoHead infoLay dataOut infosOut tableFrom infosFrom userLay contentBody contentLay namesEnd contentTable sectionSize sectionLay rowLay listings fleu kindOf lettersOf targetOf lettersFit targetFits widths total fitWidths allowed fit stride keyIn targetIn infoTableIn infoIn contentIn locate num seekTo skip fixedText endedText oneEnded numbers many visit curveOf countOf keys readTarget readDatum readInfo typeOf infoTable readContent texture contents flagOf ownLetters body readSection keyWidths intoOutput judged writingBy placeOf atSpot onReading editing capacity padded entryOf
 all-solved = (refl, (refl, (refl, ((refl, refl), ((refl, refl), ((refl, refl), ((refl, refl), (refl, (refl, (refl, (refl, (refl, (ap (λ (vs : List ℕ). editing pai1 stepped (0 ∷ 0 ∷ 0 ∷ 0 ∷ 0 ∷ []) 0 (Key 0 0 0 0) vs) value-zero, tt)))))))))))))

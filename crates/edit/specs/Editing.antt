@@ -8,8 +8,8 @@ use lib.ListN.{length, take, drop}
 use lib.Seq.{sets}
 use Rattle.core.specs.Choice.{pick}
 use Rattle.core.specs.Float.{patternOf, patternsOf}
-use Rattle.core.specs.Outcome.{Outcome, accepted}
-use Rattle.bflan.specs.Answer.{refused, tooLong, noPlace, ofFault}
+use Rattle.core.specs.Outcome.{Outcome, accepted, refused}
+use Rattle.bflan.specs.Answer.{tooLong, noPlace, ofFault}
 use Rattle.bflan.specs.Layout.{written, row}
 use Rattle.bflan.specs.Limits.{limit}
 use Rattle.bflan.specs.pai1.Places.{Spot, nowhere, spot, fit, widths, total}
@@ -25,7 +25,7 @@ use Rattle.edit.specs.declared.edit.EditAnswer.the-variants.{Edited, Too
 use Rattle.edit.specs.declared.undo.UndoAnswer.{UndoAnswer}
 use Rattle.edit.specs.declared.undo.UndoAnswer.the-variants.{Undone, TooLong as UndoTooLong, NothingToUndo, BadJournal}
 use Rattle.edit.specs.Format.{Format}
-use Rattle.edit.specs.Journal.{entryWords, capacity, entryAt, entryOf, offsetIn, countIn, bytesIn, sound}
+use Rattle.edit.specs.Journal.{entryWords, capacity, entryAt, entryOf, offsetIn, countIn, bytesIn, restorable}
 
 -- ---- numbers and values
 
@@ -110,6 +110,6 @@ unfoldable pub undoing : List ℕ → List ℕ → ℕ → Outcome × List ℕ
 undoing s j count =
     pick (leb (length s) limit)
     (pick (eqb count 0) (nothingToUndo, s)
-    (pick (leb count (capacity j) && sound (length s) (entryAt j (count - 1))) (accepted ((count - 1) ∷ []), restored s (entryAt j (count - 1)))
+    (pick (leb count (capacity j) && restorable (length s) (entryAt j (count - 1))) (accepted ((count - 1) ∷ []), restored s (entryAt j (count - 1)))
     (badJournal count, s)))
     (tooLong (length s), s)

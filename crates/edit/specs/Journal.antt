@@ -45,5 +45,5 @@ unfoldable pub allZero : List ℕ → Bool
 allZero [] = true
 allZero (b ∷ bs) = eqb b 0 && allZero bs
 
-unfoldable pub sound : ℕ → List ℕ → Bool
-sound size e = fieldSize (countIn e) && (allZero (drop (countIn e) (bytesIn e)) && leb (offsetIn e + countIn e) size)
+unfoldable pub restorable : ℕ → List ℕ → Bool
+restorable size e = fieldSize (countIn e) && (allZero (drop (countIn e) (bytesIn e)) && leb (offsetIn e + countIn e) size)

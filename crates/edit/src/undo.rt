@@ -4,7 +4,7 @@ ghost use mathlib.Core.Bool.{true};
 ghost use lib.ListN.{length};
 ghost use Rattle.core.specs.Outcome.{flat, inOrder};
 ghost use Rattle.edit.specs.Editing.{ofUndoing, restored, undoing};
-ghost use Rattle.edit.specs.Journal.{sound};
+ghost use Rattle.edit.specs.Journal.{restorable};
 ghost use Rattle.edit.specs.inner.Packing.{entryList};
 use crate::journal::ENTRY_WORDS;
 use crate::journal::Entry;
@@ -25,8 +25,8 @@ pub enum UndoAnswer {
 }
 
 // Whether an entry can be undone in a section of `size` bytes.
-fn sound(e: Entry, size: usize) -> bool
-    ensures { λ r. ⌜ r ≡ sound size (entryList e) ⌝ }
+fn restorable(e: Entry, size: usize) -> bool
+    ensures { λ r. ⌜ r ≡ restorable size (entryList e) ⌝ }
 {
     let n = e.count;
     let old = e.old;
@@ -37,7 +37,7 @@ fn sound(e: Entry, size: usize) -> bool
 }
 
 fn restore(section: &mut [u8], e: Entry)
-    requires { ⌜ sound (length (now section)) (entryList e) ≡ true ⌝ }
+    requires { ⌜ restorable (length (now section)) (entryList e) ≡ true ⌝ }
     ensures { λ _. ⌜ now (section .exit) ≡ restored (now (section .entry)) (entryList e) ⌝ }
 {
     let at = e.at as usize;
@@ -61,7 +61,7 @@ pub fn undo(section: &mut [u8], journal: &[u32], count: usize) -> UndoAnswer
     }
     let last = count - 1;
     let e = entry_at(journal, last);
-    if sound(e, size) {
+    if restorable(e, size) {
         restore(section, e);
         return UndoAnswer::Undone(last);
     }

@@ -12,12 +12,12 @@ use lib.Dec.{eqb, leb}
 use lib.ListN.{length, take, getD}
 use lib.Seq.{sets, length-sets}
 use Rattle.core.specs.Choice.{pick}
-use Rattle.core.specs.Outcome.{Outcome, accepted}
+use Rattle.core.specs.Outcome.{Outcome, accepted, refused}
 use Rattle.core.specs.Part.{partOf}
 use Rattle.core.proofs.Numbers.{sets-read}
 use Rattle.bflan.specs.declared.fault.Fault.{Fault}
 use Rattle.bflan.specs.declared.fault.Fault.the-variants.{PastEnd, NoZero, OtherLetters}
-use Rattle.bflan.specs.Answer.{refused, tooLong, tooShort, ofFault, filled, readingBy}
+use Rattle.bflan.specs.Answer.{tooLong, tooShort, ofFault, filled, readingBy}
 use Rattle.bflan.specs.Judge.{Judged, fine, badWord, badText}
 use Rattle.bflan.specs.pai1.Calls.{reading, writing}
 use Rattle.bflan.specs.pai1.Judge.{section as judge}

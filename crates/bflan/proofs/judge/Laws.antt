@@ -13,9 +13,9 @@ use lib.ListN.{length, getD, take, drop, length-append, length-take, length-drop
 use lib.Seq.{drop-cons, drop-drop, take-add, take-all, take-length}
 use Rattle.core.specs.Choice.{pick}
 use Rattle.core.specs.Text.{beforeZero, zeroFree, firstFault}
-use Rattle.core.specs.Utf8.{wellFormed, sound}
+use Rattle.core.specs.Utf8.{wellFormed, validUpTo}
 use Rattle.core.proofs.Zeros.{before-le, none-free, block-zero}
-use Rattle.core.proofs.utf8.Laws.{sound-le, well-sound}
+use Rattle.core.proofs.utf8.Laws.{valid-le, well-valid}
 use Rattle.bflan.specs.Judge.{Judged, fine, badWord, badText, J, andThen, _>>=_, ret, nextWord, nextChars, nextText, times, wide, row, ends, whole}
 use Rattle.bflan.specs.Layout.{bytes, _⨾_, size, written}
 use Rattle.bflan.specs.Limits.{All, Fits, FineText}
@@ -29,7 +29,7 @@ pub fault-none : (t : List ℕ) → FineText t → firstFault t ≡ length t
 unfolding firstFault
 fault-none t f =
     let z = none-free t (f .zeroFree) in
-    let s = eqb-true (sound t) (length t) (sym (well-sound t) ∙ f .wellFormed) in
+    let s = eqb-true (validUpTo t) (length t) (sym (well-valid t) ∙ f .wellFormed) in
     rw (z, s) (omega arith)
 
 pub free-none : (t : List ℕ) → beforeZero t ≡ length t → zeroFree t ≡ true
@@ -46,10 +46,10 @@ pub none-fault : (t : List ℕ) → length t < 256 ^ 4 → length t ≤ firstFau
 unfolding firstFault
 none-fault t l h =
     let a = before-le t in
-    let b = sound-le t in
+    let b = valid-le t in
     record {
       short = l;
-      wellFormed = well-sound t ∙ eq-eqb (sound t) (length t) (omega arith);
+      wellFormed = well-valid t ∙ eq-eqb (validUpTo t) (length t) (omega arith);
       zeroFree = free-none t (omega arith);
     }
 

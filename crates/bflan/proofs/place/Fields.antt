@@ -226,7 +226,7 @@ module _ (s : List ℕ) (short : length s ≤ 16777216) where
   module _ (t : ℕ) (look : ℕ → Spot) (say : ℕ → AnimTarget → Found) (up : List ℕ → AnimTarget → AnimTarget) where
     target-inside : (b : ℕ) (x : AnimInfo) → FineInfo x → Stands s b (infoLay x)
         → ((letters a : ℕ) (y : AnimTarget) → lettersOf (get 4 s b) ≡ letters → FineTarget letters y → Stands s a (targetLay y) → Inside targetLay (FineTarget letters) a y up (look a) (say letters y))
-        → Inside infoLay FineInfo b x (λ vs. onTarget t (up vs)) (targetIn s b t look) (atTarget x t say)
+        → Inside infoLay FineInfo b x (λ vs. onTarget t (up vs)) (targetIn s b t look) (atTarget missing x t say)
     unfolding infoLay infoHead size le targetIn atTarget onTarget
     target-inside b (ExtendedUserData ds) f h law =
         let e : get 4 s b ≡ fleu = stands-get (stands-code {k = 4} {n = fleu} (stands-left (stands-left h))) fleu-lt in
@@ -262,7 +262,7 @@ module _ (s : List ℕ) (short : length s ≤ 16777216) where
 
   module _ (d : ℕ) (look : ℕ → Spot) (say : ExtendedUserDataAnim → Found) (up : List ℕ → ExtendedUserDataAnim → ExtendedUserDataAnim)
       (law : (a : ℕ) (y : ExtendedUserDataAnim) → FineDatum y → Stands s a (datumLay y) → Inside datumLay FineDatum a y up (look a) (say y)) where
-    datum-inside : (b : ℕ) (x : AnimInfo) → FineInfo x → Stands s b (infoLay x) → Inside infoLay FineInfo b x (λ vs. onDatum d (up vs)) (datumIn s b d look) (atDatum x d say)
+    datum-inside : (b : ℕ) (x : AnimInfo) → FineInfo x → Stands s b (infoLay x) → Inside infoLay FineInfo b x (λ vs. onDatum d (up vs)) (datumIn s b d look) (atDatum missing x d say)
     unfolding infoLay infoHead size le datumIn atDatum onDatum
     datum-inside b (Standard letters ts) f h =
         let e : get 4 s b ≡ letters = stands-get (stands-code {k = 4} {n = letters} (stands-left (stands-left h))) (fit-lt letters (f .letters)) in
@@ -482,21 +482,21 @@ module _ (r : PaneAnimInfo) (f : Fine r) where
 module _ (s : List ℕ) (short : length s ≤ 16777216) (r : PaneAnimInfo) (f : Fine r) (h : Stands s 0 (sectionLay r)) where
   under-target : (c i t : ℕ) (look : ℕ → ℕ → Spot) (say : ℕ → AnimTarget → Found) (up : List ℕ → AnimTarget → AnimTarget)
       → ((letters a b : ℕ) (y : AnimTarget) → lettersOf (get 4 s a) ≡ letters → FineTarget letters y → Stands s b (targetLay y) → Inside targetLay (FineTarget letters) b y up (look a b) (say letters y))
-      → Inside sectionLay Fine 0 r (λ vs z. onInfo z c i (onTarget t (up vs))) (contentIn s c (λ b. infoIn s b i (λ a. targetIn s a t (look a)))) (atInfo r c i (λ x. atTarget x t say))
+      → Inside sectionLay Fine 0 r (λ vs z. onInfo z c i (onTarget t (up vs))) (contentIn s c (λ b. infoIn s b i (λ a. targetIn s a t (look a)))) (atInfo missing r c i (λ x. atTarget missing x t say))
   unfolding onInfo atInfo
   under-target c i t look say up law =
-      content-inside s short r f c (λ b. infoIn s b i (λ a. targetIn s a t (look a))) (λ x. ofElement (x .infos) i missing (λ z. atTarget z t say)) (λ vs. onContent i (onTarget t (up vs)))
-      (info-inside s short i (λ a. targetIn s a t (look a)) (λ z. atTarget z t say) (λ vs. onTarget t (up vs)) (λ vs. quiet-target t i (up vs))
+      content-inside s short r f c (λ b. infoIn s b i (λ a. targetIn s a t (look a))) (λ x. ofElement (x .infos) i missing (λ z. atTarget missing z t say)) (λ vs. onContent i (onTarget t (up vs)))
+      (info-inside s short i (λ a. targetIn s a t (look a)) (λ z. atTarget missing z t say) (λ vs. onTarget t (up vs)) (λ vs. quiet-target t i (up vs))
       (λ a x fx hx. target-inside s short t (look a) say up a x fx hx (λ letters b y e fy hy. law letters a b y e fy hy)))
       h
 
   under-datum : (c i d : ℕ) (look : ℕ → Spot) (say : ExtendedUserDataAnim → Found) (up : List ℕ → ExtendedUserDataAnim → ExtendedUserDataAnim) → ((vs : List ℕ) (y : ExtendedUserDataAnim) → length (up vs y .key) ≡ length (y .key))
       → ((b : ℕ) (y : ExtendedUserDataAnim) → FineDatum y → Stands s b (datumLay y) → Inside datumLay FineDatum b y up (look b) (say y))
-      → Inside sectionLay Fine 0 r (λ vs z. onInfo z c i (onDatum d (up vs))) (contentIn s c (λ b. infoIn s b i (λ a. datumIn s a d look))) (atInfo r c i (λ x. atDatum x d say))
+      → Inside sectionLay Fine 0 r (λ vs z. onInfo z c i (onDatum d (up vs))) (contentIn s c (λ b. infoIn s b i (λ a. datumIn s a d look))) (atInfo missing r c i (λ x. atDatum missing x d say))
   unfolding onInfo atInfo
   under-datum c i d look say up same law =
-      content-inside s short r f c (λ b. infoIn s b i (λ a. datumIn s a d look)) (λ x. ofElement (x .infos) i missing (λ z. atDatum z d say)) (λ vs. onContent i (onDatum d (up vs)))
-      (info-inside s short i (λ a. datumIn s a d look) (λ z. atDatum z d say) (λ vs. onDatum d (up vs)) (λ vs. quiet-datum (up vs) (same vs) d i) (datum-inside s short d look say up law))
+      content-inside s short r f c (λ b. infoIn s b i (λ a. datumIn s a d look)) (λ x. ofElement (x .infos) i missing (λ z. atDatum missing z d say)) (λ vs. onContent i (onDatum d (up vs)))
+      (info-inside s short i (λ a. datumIn s a d look) (λ z. atDatum missing z d say) (λ vs. onDatum d (up vs)) (λ vs. quiet-datum (up vs) (same vs) d i) (datum-inside s short d look say up law))
       h
 
   field-inside : (p : Place) → Inside sectionLay Fine 0 r (λ vs z. replaced z p vs) (locate s p) (fieldOf r p)

@@ -20,7 +20,7 @@ use Rattle.bflan.specs.declared.place.Field.{Field}
 use Rattle.bflan.specs.declared.place.Field.the-variants.{FrameCount as framesField, Looping as loopingField, Layer as layerField, Target as numberField, Key as keyField, Value as valueField}
 use Rattle.bflan.specs.declared.place.Place.{Place}
 use Rattle.bflan.specs.declared.place.Place.the-variants.{FrameCount, Looping, Layer, Target, Key, Value}
-use Rattle.bflan.specs.pai1.FieldValues.{foundOf, numbersIn, asRead, targetValues, datumValues, infoValues, valuesAt}
+use Rattle.bflan.specs.pai1.FieldValues.{foundOf, numbersIn, asRead, valuesAt}
 use Rattle.bflan.specs.pai1.Layout.{keySkip}
 use Rattle.bflan.specs.pai1.Letters.{listings, fleu, kindOf, lettersOf, targetOf as numberOf}
 use Rattle.bflan.specs.Limits.{All}
@@ -182,31 +182,31 @@ module _ (s : List ℕ) where
 
   path-step : (c i : ℕ) (g : ℕ → Spot) (f : AnimInfo → Found) (h : AnimInfo → List ℕ)
       → ((a : ℕ) → Matches (g a) (f (infoAt s a)) (h (infoAt s a)))
-      → Matches (contentIn s c (λ b. infoIn s b i g)) (atInfo (recordAt s) c i f) (infoValues (recordAt s) c i h)
-  unfolding atInfo infoValues
+      → Matches (contentIn s c (λ b. infoIn s b i g)) (atInfo missing (recordAt s) c i f) (atInfo [] (recordAt s) c i h)
+  unfolding atInfo
   path-step c i g f h law = content-step c (λ b. infoIn s b i g) (λ x. ofElement (x .infos) i missing f) (λ x. ofElement (x .infos) i [] h) (λ b. info-step b i g f h law)
 
-  target-step : (b t : ℕ) (g : ℕ → Spot) (f : ℕ → AnimTarget → Found) (h : AnimTarget → List ℕ)
-      → ((q : ℕ) → Matches (g q) (f (lettersOf (get 4 s b)) (targetAt s (get 4 s b) q)) (h (targetAt s (get 4 s b) q)))
-      → Matches (targetIn s b t g) (atTarget (infoAt s b) t f) (targetValues (infoAt s b) t h)
-  unfolding targetIn infoAt atTarget targetValues
+  target-step : (b t : ℕ) (g : ℕ → Spot) (f : ℕ → AnimTarget → Found) (h : ℕ → AnimTarget → List ℕ)
+      → ((q : ℕ) → Matches (g q) (f (lettersOf (get 4 s b)) (targetAt s (get 4 s b) q)) (h (lettersOf (get 4 s b)) (targetAt s (get 4 s b) q)))
+      → Matches (targetIn s b t g) (atTarget missing (infoAt s b) t f) (atTarget [] (infoAt s b) t h)
+  unfolding targetIn infoAt atTarget
   target-step b t g f h law = go (eqb (get 4 s b) fleu)
     where
       go : (x : Bool) → Matches (pick x nowhere (pick (ltb t (get 1 s (b + 4))) (g (b + get 4 s (b + 8 + 4 * t))) nowhere))
-          (atTarget (pick x (ExtendedUserData (dataAt s (get 1 s (b + 4)) (b + 8))) (Standard (lettersOf (get 4 s b)) (partsAt s (targetAt s (get 4 s b)) b (get 1 s (b + 4)) (b + 8)))) t f)
-          (targetValues (pick x (ExtendedUserData (dataAt s (get 1 s (b + 4)) (b + 8))) (Standard (lettersOf (get 4 s b)) (partsAt s (targetAt s (get 4 s b)) b (get 1 s (b + 4)) (b + 8)))) t h)
+          (atTarget missing (pick x (ExtendedUserData (dataAt s (get 1 s (b + 4)) (b + 8))) (Standard (lettersOf (get 4 s b)) (partsAt s (targetAt s (get 4 s b)) b (get 1 s (b + 4)) (b + 8)))) t f)
+          (atTarget [] (pick x (ExtendedUserData (dataAt s (get 1 s (b + 4)) (b + 8))) (Standard (lettersOf (get 4 s b)) (partsAt s (targetAt s (get 4 s b)) b (get 1 s (b + 4)) (b + 8)))) t h)
       go true = matches-none []
-      go false = matches-part (targetAt s (get 4 s b)) b (get 1 s (b + 4)) (b + 8) t g (f (lettersOf (get 4 s b))) h law
+      go false = matches-part (targetAt s (get 4 s b)) b (get 1 s (b + 4)) (b + 8) t g (f (lettersOf (get 4 s b))) (h (lettersOf (get 4 s b))) law
 
   datum-step : (b d : ℕ) (g : ℕ → Spot) (f : ExtendedUserDataAnim → Found) (h : ExtendedUserDataAnim → List ℕ)
       → ((q : ℕ) → Matches (g q) (f (datumAt s q)) (h (datumAt s q)))
-      → Matches (datumIn s b d g) (atDatum (infoAt s b) d f) (datumValues (infoAt s b) d h)
-  unfolding datumIn infoAt atDatum datumValues
+      → Matches (datumIn s b d g) (atDatum missing (infoAt s b) d f) (atDatum [] (infoAt s b) d h)
+  unfolding datumIn infoAt atDatum
   datum-step b d g f h law = go (eqb (get 4 s b) fleu)
     where
       go : (x : Bool) → Matches (pick x (pick (ltb d (get 1 s (b + 4))) (after (many d datum s (b + 8)) g) nowhere) nowhere)
-          (atDatum (pick x (ExtendedUserData (dataAt s (get 1 s (b + 4)) (b + 8))) (Standard (lettersOf (get 4 s b)) (partsAt s (targetAt s (get 4 s b)) b (get 1 s (b + 4)) (b + 8)))) d f)
-          (datumValues (pick x (ExtendedUserData (dataAt s (get 1 s (b + 4)) (b + 8))) (Standard (lettersOf (get 4 s b)) (partsAt s (targetAt s (get 4 s b)) b (get 1 s (b + 4)) (b + 8)))) d h)
+          (atDatum missing (pick x (ExtendedUserData (dataAt s (get 1 s (b + 4)) (b + 8))) (Standard (lettersOf (get 4 s b)) (partsAt s (targetAt s (get 4 s b)) b (get 1 s (b + 4)) (b + 8)))) d f)
+          (atDatum [] (pick x (ExtendedUserData (dataAt s (get 1 s (b + 4)) (b + 8))) (Standard (lettersOf (get 4 s b)) (partsAt s (targetAt s (get 4 s b)) b (get 1 s (b + 4)) (b + 8)))) d h)
       go true = matches-datum (get 1 s (b + 4)) d (b + 8) g f h law
       go false = matches-none []
 

@@ -31,7 +31,8 @@ use Rattle.bflan.specs.pai1.Reading.{texture}
 use Rattle.bflan.proofs.reader.KeyRuns.{moved-more}
 use Rattle.bflan.proofs.reader.Walks.{before, run-before, sets-sat, told-stop}
 use Rattle.bflan.specs.Items.{shownAt, wordsOf, textsOf}
-use Rattle.bflan.specs.inner.Walk.{sat, withWords, withText, tallied, walkOf, walked, asName, nameEnd, asIs}
+use Rattle.bflan.specs.inner.Sought.{asName, nameEnd, asIs}
+use Rattle.bflan.specs.inner.Walk.{sat, withWords, withText, tallied, walkOf, walked}
 
 -- the decoded length of a part of a section
 pub shown-size : (s : List ℕ) (start len size : ℕ) (part : List ℕ) → start + len ≤ length s → length s ≤ 16777216 → part ≡ slice start (start + len) s → size ≡ decodedSize part

@@ -9,12 +9,12 @@ use native.Mathlib.Omega.{arith}
 use lib.ListN.{length, take, replicate}
 use lib.Seq.{sets}
 use Rattle.core.specs.Number.{val, get, readOf}
-use Rattle.core.specs.Outcome.{accepted}
+use Rattle.core.specs.Outcome.{accepted, refused}
 use Rattle.core.specs.Seek.{seekOf}
 use Rattle.core.specs.Text.{beforeZero, fixedOf}
 use Rattle.core.specs.Utf8.{rows, within, classOf, laterOf, matched, more, good, pieceOf, piecesAfter, pieces, shown, decoded, decode}
 use Rattle.core.proofs.Numbers.{Bytes, sets-read}
-use Rattle.bflan.specs.Answer.{refused, filled, readingBy}
+use Rattle.bflan.specs.Answer.{filled, readingBy}
 use Rattle.bflan.specs.pai1.Calls.{reading, writing}
 use Rattle.bflan.specs.pai1.Judge.{pane, section as judge, content as judgeContent}
 use Rattle.bflan.specs.Judge.{nextWord as judgeWord, nextText as judgeText, times, whole}

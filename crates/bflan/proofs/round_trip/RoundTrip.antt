@@ -29,7 +29,7 @@ use Rattle.bflan.specs.pai1.Layout.{keyLay, targetLay, datumLay, infoHea
 use Rattle.bflan.specs.Limits.{All, Fits, FineText}
 use Rattle.bflan.specs.pai1.Limits.{FineTarget, FineDatum, FineInfo, FineContent, Fine, Within}
 use Rattle.bflan.specs.Reader.{ok, _>>=_, given, here, Item, word, text, many, visit, num, numbers, seekTo, oneEnded}
-use Rattle.bflan.specs.pai1.Reading.{keyOf, keys, target, datum, info, typeOf, infoTable, content, texture, contents, pai1, flagOf, section, ownLetters}
+use Rattle.bflan.specs.pai1.Reading.{keyOf, keys, target, datum, info, typeOf, infoTable, content, texture, contents, ownBytes, flagOf, section, ownLetters}
 use Rattle.bflan.specs.pai1.Record.{Standard, ExtendedUserData, AnimContent, PaneAnimInfo, keyWidths, targetCells, datumCells, infoCells, contentCells, cells, words, texts}
 use Rattle.bflan.specs.Cells.{Cell, word as wordCell, chars, each, wordsIn, bytesIn, textCells}
 use Rattle.bflan.specs.Items.{shownAt, wordsOf, textsOf}
@@ -276,7 +276,7 @@ flag-own (suc (suc b)) h = absurd (omega arith)
 
 -- a section that stands: each of its fields, at its place
 pub record StandsSection (s : List ℕ) (r : PaneAnimInfo) : Type 0 where
-  pub letters : Stands s 0 (bytes pai1)
+  pub letters : Stands s 0 (bytes ownBytes)
   pub whole : Stands s 4 (number 4 (sectionSize r))
   pub frames : Stands s 8 (number 2 (r .frames))
   pub looping : Stands s 10 (number 1 (r .looping))
@@ -318,7 +318,7 @@ section-stands s r h =
       contents = stands-to h12 (omega (arith, z .offsets, z .fill, z .contentOffsets));
     }
 
-letters-get : (s : List ℕ) → Stands s 0 (bytes pai1) → get 4 s 0 ≡ ownLetters
+letters-get : (s : List ℕ) → Stands s 0 (bytes ownBytes) → get 4 s 0 ≡ ownLetters
 unfolding le ownLetters val
 letters-get s h = stands-get (stands-code {k = 4} {n = ownLetters} h) (omega arith)
 

@@ -23,7 +23,7 @@ use Rattle.bflan.specs.Layout.{Layout, nothing, number, bytes, _⨾_, si
 use Rattle.bflan.specs.pai1.Layout.{keySkip, keyLay, targetLay, datumLay, infoHead, infoLay, dataOut, infosOut, tableFrom, infosFrom, userLay, contentBody, contentLay, namesEnd, contentTable, sectionSize, sectionLay}
 use Rattle.bflan.specs.pai1.Letters.{fleu, targetFits}
 use Rattle.bflan.specs.Limits.{limit}
-use Rattle.bflan.specs.pai1.Reading.{pai1, ownLetters}
+use Rattle.bflan.specs.pai1.Reading.{ownBytes, ownLetters}
 use Rattle.bflan.specs.pai1.Record.{ExtendedUserDataAnim, AnimInfo, Standard, ExtendedUserData, AnimContent, keyWidths}
 use Rattle.bflan.specs.inner.Pen.{Ready, laid, penBehind, listed}
 use Rattle.bflan.specs.inner.LayoutParts.{targetHead, datumHead, datumFront, nameLay, bodyLay, frameLay, namesLay, outOf, outBy}
@@ -835,7 +835,7 @@ module _ (w x : List ℕ) {most : ℕ} (h : Ready sectionLay (section w x 0 0) 0
   abbrev cs : List AnimContent
   cs = h .value .contents
 
-  pieces : written (bytes pai1 ⨾ number 4 (sectionSize (h .value)) ⨾ frameLay (h .value .frames) (h .value .looping) (length ts) (length cs)
+  pieces : written (bytes ownBytes ⨾ number 4 (sectionSize (h .value)) ⨾ frameLay (h .value .frames) (h .value .looping) (length ts) (length cs)
       ⨾ number 4 (contentTable (h .value)) ⨾ namesLay ts ⨾ listed contentLay (contentTable (h .value) + 4 * length cs) cs) ≡ written (sectionLay (h .value))
   unfolding sectionLay frameLay rowLay namesLay listed namesEnd written
   pieces = simp append-assoc
@@ -888,7 +888,7 @@ module _ (w x : List ℕ) {most : ℕ} (h : Ready sectionLay (section w x 0 0) 0
           }
 
       pub section-done : (l0 : List ℕ) {l1 l2 l3 l4 l5 l6 : List ℕ} {e : Pen} {p s : ℕ}
-          → l1 ≡ sets l0 0 (written (bytes pai1 ⨾ number 4 0 ⨾ frameLay (getD w 0 0) (getD w 1 0) (getD w 2 0) (getD w 3 0))) → l2 ≡ put 4 l1 16 0
+          → l1 ≡ sets l0 0 (written (bytes ownBytes ⨾ number 4 0 ⨾ frameLay (getD w 0 0) (getD w 1 0) (getD w 2 0) (getD w 3 0))) → l2 ≡ put 4 l1 16 0
           → l3 ≡ laid namesLay (times n (nextText (wide 4)) w x 4 0) 20 l2 → p ≡ 16 → l4 ≡ put 4 l3 p (q .at)
           → e ≡ penBehind (listed contentLay (q .at + 4 * k - 0)) (times k content w x (q .word) (q .byte)) (q .at)
           → l5 ≡ laid (listed contentLay (q .at + 4 * k - 0)) (times k content w x (q .word) (q .byte)) (q .at) l4 → s ≡ 4 → l6 ≡ put 4 l5 s (e .at)
@@ -899,13 +899,13 @@ module _ (w x : List ℕ) {most : ℕ} (h : Ready sectionLay (section w x 0 0) 0
           let nc : k ≡ length cs = sym (times-length content w x k (q .word) (q .byte) contents-judged) in
           let end : e .at ≡ sectionSize (h .value) =
           ap (λ (z : Pen). z .at) (ee ∙ behind-fine (listed contentLay (q .at + 4 * k - 0)) contents-judged (q .at)) ∙ rw (from, table-at) contents-end in
-          let w1 : Wrote l0 0 (bytes pai1 ⨾ number 4 0 ⨾ frameLay (getD w 0 0) (getD w 1 0) (getD w 2 0) (getD w 3 0)) l1 = record { same = e1 } in
+          let w1 : Wrote l0 0 (bytes ownBytes ⨾ number 4 0 ⨾ frameLay (getD w 0 0) (getD w 1 0) (getD w 2 0) (getD w 3 0)) l1 = record { same = e1 } in
           let w2 : Wrote l1 16 (nothing ⨾ number 4 0 ⨾ namesLay ts) l3 =
           wrote-like (wrote-then {b = namesLay ts} (wrote-number e2) (record { same = e3 ∙ laid-fine namesLay names-judged 20 l2 }) refl) refl in
           let w3 : Wrote l1 16 (nothing ⨾ number 4 (q .at) ⨾ namesLay ts) l4 = wrote-patched w2 p (q .at) ep e4 in
           let w4 : Wrote l4 (q .at) (listed contentLay (q .at + 4 * k - 0) cs) l5 = record { same = e5 ∙ laid-fine (listed contentLay (q .at + 4 * k - 0)) contents-judged (q .at) l4 } in
-          let w5 : Wrote l0 0 ((bytes pai1 ⨾ number 4 0 ⨾ frameLay (getD w 0 0) (getD w 1 0) (getD w 2 0) (getD w 3 0)) ⨾ (nothing ⨾ number 4 (q .at) ⨾ namesLay ts) ⨾ listed contentLay (q .at + 4 * k - 0) cs) l5 =
+          let w5 : Wrote l0 0 ((bytes ownBytes ⨾ number 4 0 ⨾ frameLay (getD w 0 0) (getD w 1 0) (getD w 2 0) (getD w 3 0)) ⨾ (nothing ⨾ number 4 (q .at) ⨾ namesLay ts) ⨾ listed contentLay (q .at + 4 * k - 0) cs) l5 =
           wrote-then w1 (wrote-then w3 w4 (omega (arith, table-at, names-end))) refl in
-          let w6 : Wrote l0 0 (bytes pai1 ⨾ number 4 0 ⨾ frameLay (getD w 0 0) (getD w 1 0) (getD w 2 0) (getD w 3 0) ⨾ number 4 (q .at) ⨾ namesLay ts ⨾ listed contentLay (q .at + 4 * k - 0) cs) l5 =
+          let w6 : Wrote l0 0 (bytes ownBytes ⨾ number 4 0 ⨾ frameLay (getD w 0 0) (getD w 1 0) (getD w 2 0) (getD w 3 0) ⨾ number 4 (q .at) ⨾ namesLay ts ⨾ listed contentLay (q .at + 4 * k - 0) cs) l5 =
           wrote-like w5 (simp append-assoc) in
           whole-laid sectionLay h (wrote-patched w6 s (e .at) es e6) (rw (end, from, table-at, sym (at .frames), sym (at .looping), sym en ∙ nt, sym ek ∙ nc) pieces)

@@ -1,20 +1,13 @@
 -- What a walk over a section leaves behind: its tally, and the two tables, by the items that it met.
-use Prim.Native.Nat.{ℕ, min, _+_, _-_}
-use mathlib.Core.Path.{_≡_}
-use mathlib.Core.Bool.{true}
+use Prim.Native.Nat.{ℕ, min, _+_}
 use mathlib.Core.List.{List, [], _∷_, map}
-use lib.Dec.{eqb, ltb}
+use lib.Dec.{eqb}
 use lib.ListN.{length}
-use lib.Seq.{slice, sets}
+use lib.Seq.{sets}
 use Rattle.core.specs.Choice.{pick}
-use Rattle.core.specs.Number.{get}
 use Rattle.core.specs.declared.run.Run.{Run}
 use Rattle.core.specs.declared.run.Run.the-variants.{Next, Cut}
 use Rattle.bflan.specs.declared.fault.Fault.the-variants.{PastEnd}
-use Rattle.bflan.specs.declared.reader.texture.Name.{Name}
-use Rattle.bflan.specs.declared.reader.texture.Name.the-variants.{Found, Missing}
-use Rattle.bflan.specs.declared.reader.content.TableAt.{TableAt}
-use Rattle.bflan.specs.declared.reader.content.TableAt.the-variants.{There, Stop}
 use Rattle.bflan.specs.declared.reader.tally.Tally.{Tally}
 use Rattle.bflan.specs.declared.reader.tally.Walk.{Walk}
 use Rattle.bflan.specs.declared.reader.tally.Walk.the-variants.{Went, Stopped}
@@ -71,27 +64,3 @@ walkOf s t w x (stop f) = (Stopped f, [], [])
 unfoldable pub walked : Walk → List ℕ → List ℕ → Walk × List ℕ × List ℕ
 walked (Went t p) w x = (Went t p, w, x)
 walked (Stopped f) w x = (Stopped f, [], [])
-
--- an info table that was looked for
-abbrev pub asTable : TableAt → Res ℕ
-asTable (There p) = ok p p
-asTable (Stop f) = stop f
-
--- a name that was looked for, and where it ends
-abbrev pub asName : Name → Res (List Item)
-asName (Found a n q plain) = ok (text a n ∷ []) q
-asName (Missing f) = stop f
-
-abbrev pub nameEnd : Name → ℕ
-nameEnd (Found a n q plain) = a + n
-nameEnd (Missing f) = 0
-
--- the length that the next entry of an offset table suggests for a name whose own entry, the first of `left` ones, stands at `at`: names stand
--- one behind another, each with its zero. The last one has no suggestion. No answer depends on it
-unfoldable pub guessOf : List ℕ → ℕ → ℕ → ℕ → ℕ
-guessOf s at left off = pick (ltb left 2) 0 (get 4 s (at + 4) - off - 1)
-
--- a name that is said to be plain is shown as it is
-abbrev pub asIs : List ℕ → Name → Type 0
-asIs s (Found a n q plain) = plain ≡ true → shownAt s a n ≡ slice a (a + n) s
-asIs s (Missing f) = Unit {0}

@@ -8,9 +8,9 @@ use Rattle.bflan.specs.declared.place.Place.the-variants.{FrameCount, Lo
 use Rattle.bflan.specs.declared.place.Field.{Field}
 use Rattle.bflan.specs.declared.place.Field.the-variants.{FrameCount as frames, Looping as looping, Layer as layer, Target as number, Key as key, Value as value}
 use Rattle.bflan.specs.pai1.Letters.{targetOf}
-use Rattle.bflan.specs.pai1.Places.{Spot, nowhere, spot, ofElement, Found, missing, found}
+use Rattle.bflan.specs.pai1.Places.{Spot, nowhere, spot, ofElement, Found, missing, found, atTarget, atDatum, atInfo}
 use Rattle.bflan.specs.pai1.Reading.{flagOf}
-use Rattle.bflan.specs.pai1.Record.{AnimTarget, ExtendedUserDataAnim, AnimInfo, Standard, ExtendedUserData, PaneAnimInfo}
+use Rattle.bflan.specs.pai1.Record.{PaneAnimInfo}
 
 -- ---- in a section
 
@@ -35,21 +35,10 @@ asRead value vs = vs
 
 -- ---- in a record: the values of a place that is there, as many as its field has widths
 
-unfoldable pub targetValues : AnimInfo → ℕ → (AnimTarget → List ℕ) → List ℕ
-targetValues (Standard letters ts) t f = ofElement ts t [] f
-targetValues (ExtendedUserData ds) t f = []
-
-unfoldable pub datumValues : AnimInfo → ℕ → (ExtendedUserDataAnim → List ℕ) → List ℕ
-datumValues (Standard letters ts) d f = []
-datumValues (ExtendedUserData ds) d f = ofElement ds d [] f
-
-unfoldable pub infoValues : PaneAnimInfo → ℕ → ℕ → (AnimInfo → List ℕ) → List ℕ
-infoValues r c i f = ofElement (r .contents) c [] (λ x. ofElement (x .infos) i [] f)
-
 unfoldable pub valuesAt : PaneAnimInfo → Place → List ℕ
 valuesAt r FrameCount = r .frames ∷ []
 valuesAt r Looping = r .looping ∷ []
-valuesAt r (Layer c i t) = infoValues r c i (λ x. targetValues x t (λ y. y .layer ∷ []))
-valuesAt r (Target c i t) = infoValues r c i (λ x. targetValues x t (λ y. y .target ∷ []))
-valuesAt r (Key c i t k) = infoValues r c i (λ x. targetValues x t (λ y. ofElement (y .keys) k [] (λ vs. vs)))
-valuesAt r (Value c i d l v) = infoValues r c i (λ x. datumValues x d (λ y. ofElement (y .values) (l * y .baseCount + v) [] (λ n. n ∷ [])))
+valuesAt r (Layer c i t) = atInfo [] r c i (λ x. atTarget [] x t (λ letters y. y .layer ∷ []))
+valuesAt r (Target c i t) = atInfo [] r c i (λ x. atTarget [] x t (λ letters y. y .target ∷ []))
+valuesAt r (Key c i t k) = atInfo [] r c i (λ x. atTarget [] x t (λ letters y. ofElement (y .keys) k [] (λ vs. vs)))
+valuesAt r (Value c i d l v) = atInfo [] r c i (λ x. atDatum [] x d (λ y. ofElement (y .values) (l * y .baseCount + v) [] (λ n. n ∷ [])))

@@ -7,7 +7,7 @@ use Rattle.core.specs.Choice.{pick}
 use Rattle.core.specs.Fill.{paddingOf}
 use Rattle.core.specs.Number.{le}
 use Rattle.bflan.specs.pai1.Letters.{fleu}
-use Rattle.bflan.specs.pai1.Reading.{pai1}
+use Rattle.bflan.specs.pai1.Reading.{ownBytes}
 use Rattle.bflan.specs.pai1.Record.{AnimTarget, ExtendedUserDataAnim, AnimInfo, Standard, ExtendedUserData, AnimContent, PaneAnimInfo, keyWidths}
 use Rattle.bflan.specs.Layout.{Layout, nothing, number, bytes, _⨾_, size, zeros, row, parts, table, ended}
 
@@ -87,7 +87,7 @@ sectionSize r = contentTable r + (4 * length (r .contents) + size (parts content
 
 unfoldable pub sectionLay : PaneAnimInfo → Layout
 sectionLay r =
-    bytes pai1 ⨾ number 4 (sectionSize r) ⨾ number 2 (r .frames) ⨾ number 1 (r .looping) ⨾ number 1 0 ⨾ number 2 (length (r .textures))
+    bytes ownBytes ⨾ number 4 (sectionSize r) ⨾ number 2 (r .frames) ⨾ number 1 (r .looping) ⨾ number 1 0 ⨾ number 2 (length (r .textures))
     ⨾ number 2 (length (r .contents)) ⨾ number 4 (contentTable r) ⨾ table ended (4 * length (r .textures)) (r .textures)
     ⨾ parts ended (r .textures) ⨾ zeros (paddingOf (namesEnd r)) ⨾ table contentLay (contentTable r + 4 * length (r .contents)) (r .contents)
     ⨾ parts contentLay (r .contents)

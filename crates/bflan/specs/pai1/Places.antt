@@ -129,25 +129,26 @@ pub data Found : Type 0 where
   missing : Found
   found : Field → Found
 
--- targets are in standard infos only, extended data in FLEU only
-unfoldable pub atTarget : AnimInfo → ℕ → (ℕ → AnimTarget → Found) → Found
-atTarget (Standard letters ts) t f = ofElement ts t missing (f letters)
-atTarget (ExtendedUserData ds) t f = missing
+-- what f says of a part, or `none`: targets are in standard infos only, extended data in FLEU only
+module _ {A : Type 0} (none : A) where
+  unfoldable pub atTarget : AnimInfo → ℕ → (ℕ → AnimTarget → A) → A
+  atTarget (Standard letters ts) t f = ofElement ts t none (f letters)
+  atTarget (ExtendedUserData ds) t f = none
 
-unfoldable pub atDatum : AnimInfo → ℕ → (ExtendedUserDataAnim → Found) → Found
-atDatum (Standard letters ts) d f = missing
-atDatum (ExtendedUserData ds) d f = ofElement ds d missing f
+  unfoldable pub atDatum : AnimInfo → ℕ → (ExtendedUserDataAnim → A) → A
+  atDatum (Standard letters ts) d f = none
+  atDatum (ExtendedUserData ds) d f = ofElement ds d none f
 
-unfoldable pub atInfo : PaneAnimInfo → ℕ → ℕ → (AnimInfo → Found) → Found
-atInfo r c i f = ofElement (r .contents) c missing (λ x. ofElement (x .infos) i missing f)
+  unfoldable pub atInfo : PaneAnimInfo → ℕ → ℕ → (AnimInfo → A) → A
+  atInfo r c i f = ofElement (r .contents) c none (λ x. ofElement (x .infos) i none f)
 
 unfoldable pub fieldOf : PaneAnimInfo → Place → Found
 fieldOf r FrameCount = found frames
 fieldOf r Looping = found looping
-fieldOf r (Layer c i t) = atInfo r c i (λ x. atTarget x t (λ letters y. found layer))
-fieldOf r (Target c i t) = atInfo r c i (λ x. atTarget x t (λ letters y. found (number letters)))
-fieldOf r (Key c i t k) = atInfo r c i (λ x. atTarget x t (λ letters y. pick (ltb k (length (y .keys))) (found (key (y .curve))) missing))
-fieldOf r (Value c i d l v) = atInfo r c i (λ x. atDatum x d (λ y. pick (ltb l 3 && ltb v (y .baseCount)) (found value) missing))
+fieldOf r (Layer c i t) = atInfo missing r c i (λ x. atTarget missing x t (λ letters y. found layer))
+fieldOf r (Target c i t) = atInfo missing r c i (λ x. atTarget missing x t (λ letters y. found (number letters)))
+fieldOf r (Key c i t k) = atInfo missing r c i (λ x. atTarget missing x t (λ letters y. pick (ltb k (length (y .keys))) (found (key (y .curve))) missing))
+fieldOf r (Value c i d l v) = atInfo missing r c i (λ x. atDatum missing x d (λ y. pick (ltb l 3 && ltb v (y .baseCount)) (found value) missing))
 
 unfoldable pub onTarget : ℕ → (AnimTarget → AnimTarget) → AnimInfo → AnimInfo
 onTarget t f (Standard letters ts) = Standard letters (changed ts t f)

@@ -115,11 +115,11 @@ texture base = do
   oneEnded
 
 -- the section's letters, by their ASCII codes, and the number that they are
-abbrev pub pai1 : List ℕ
-pai1 = 0x70 ∷ 0x61 ∷ 0x69 ∷ 0x31 ∷ []
+abbrev pub ownBytes : List ℕ
+ownBytes = 0x70 ∷ 0x61 ∷ 0x69 ∷ 0x31 ∷ []
 
 unfoldable pub ownLetters : ℕ
-ownLetters = val pai1
+ownLetters = val ownBytes
 
 -- looping: nonzero is yes
 unfoldable pub flagOf : ℕ → ℕ

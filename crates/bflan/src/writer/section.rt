@@ -7,7 +7,7 @@ ghost use Rattle.bflan.specs.Judge.{nextText, times, wide};
 ghost use Rattle.bflan.specs.pai1.Judge.{section};
 ghost use Rattle.bflan.specs.Layout.{number, bytes, _⨾_, written, ended};
 ghost use Rattle.bflan.specs.pai1.Layout.{sectionLay};
-ghost use Rattle.bflan.specs.pai1.Reading.{pai1};
+ghost use Rattle.bflan.specs.pai1.Reading.{ownBytes};
 ghost use Rattle.bflan.specs.inner.Pen.{Ready, laid, penBehind, listed};
 ghost use Rattle.bflan.specs.inner.LayoutParts.{frameLay, namesLay};
 use crate::judge::word::word_of;
@@ -69,7 +69,7 @@ fn put_names(words: &[u32], texts: &[u8], n: usize, out: &mut [u8]) -> Pen
 
 // The letters, the place of the size, and what is behind them by the first four words; that place.
 fn put_start(words: &[u32], out: &mut [u8]) -> Placeholder32
-    ensures { λ r. ⌜ (r .0 ≡ 4) × (now (out .exit) ≡ sets (now (out .entry)) 0 (written (bytes pai1 ⨾ number 4 0 ⨾ frameLay (getD (now (words .entry)) 0 0) (getD (now (words .entry)) 1 0) (getD (now (words .entry)) 2 0) (getD (now (words .entry)) 3 0)))) ⌝ }
+    ensures { λ r. ⌜ (r .0 ≡ 4) × (now (out .exit) ≡ sets (now (out .entry)) 0 (written (bytes ownBytes ⨾ number 4 0 ⨾ frameLay (getD (now (words .entry)) 0 0) (getD (now (words .entry)) 1 0) (getD (now (words .entry)) 2 0) (getD (now (words .entry)) 3 0)))) ⌝ }
 {
     write_u32(out, 0, PAI1);
     let size = write_placeholder_u32(out, 4);

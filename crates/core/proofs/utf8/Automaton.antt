@@ -11,7 +11,7 @@ use lib.Dec.{eqb}
 use lib.ListN.{length, getD, take, drop, take-append-drop}
 use lib.Seq.{slice, slice-cons, slice-empty, length-slice, length-take-le, drop-append-le}
 use Rattle.core.specs.Choice.{pick}
-use Rattle.core.specs.Utf8.{Range, rows, within, classOf, byteClass, laterOf, matched, more, sound, wellFormed}
+use Rattle.core.specs.Utf8.{Range, rows, within, classOf, byteClass, laterOf, matched, more, validUpTo, wellFormed}
 use Rattle.core.specs.inner.Flow.{awaits, entered, passed, firstFits, stateAfter, flows, stateOf, State, Rows, Flow}
 use Rattle.core.proofs.utf8.Steps.{class-below, matched-none}
 use Rattle.core.proofs.utf8.Pieces.{well-nil, well-good}
@@ -150,13 +150,13 @@ flows-end q s e = rw slice-empty
 short : (s : List ℕ) (j i : ℕ) → i ≤ j → j ≤ length s → i ≤ length (take j s)
 short s j i h k = rw (length-take-le j s k) h
 
-pub flows-on : (s : List ℕ) (i j : ℕ) → i ≤ j → j ≤ length s → flows 0 (slice i j s) ≡ true → j + sound (drop j s) ≡ i + sound (drop i s)
+pub flows-on : (s : List ℕ) (i j : ℕ) → i ≤ j → j ≤ length s → flows 0 (slice i j s) ≡ true → j + validUpTo (drop j s) ≡ i + validUpTo (drop i s)
 flows-on s i j h k f =
     let b = before (slice i j s) (drop j s) (flows-well _ f) in
     let l = length-slice i j s k in
     let e : slice i j s ++ drop j s ≡ drop i s = cut in
     let r = b .reach in
-    let w = ap sound e in
+    let w = ap validUpTo e in
     omega arith
   where
     cut : slice i j s ++ drop j s ≡ drop i s
@@ -220,7 +220,7 @@ module _ (s : List ℕ) where
       let z : stateOf q ≡ stateOf 0 = e ∙ sym (state-zero 0 refl) in
       record { held = h; start = omega arith; fits = k; same = λ n l m. rw z }
 
-  pub flow-end : (i j q : ℕ) → Flow s i 0 j q → stateOf q ≡ 0 → j + sound (drop j s) ≡ i + sound (drop i s)
+  pub flow-end : (i j q : ℕ) → Flow s i 0 j q → stateOf q ≡ 0 → j + validUpTo (drop j s) ≡ i + validUpTo (drop i s)
   flow-end i j q f e =
       let w : flows (stateOf 0) (slice i j s) ≡ true = sym (f .same j (omega arith) (f .fits)) ∙ rw e (flows-end 0 s j) in
       flows-on s i j (f .start) (f .fits) (rw (state-zero 0 refl) at w)

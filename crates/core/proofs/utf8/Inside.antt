@@ -13,7 +13,7 @@ use lib.ListN.{length, getD, drop, drop-of-length-le}
 use lib.Seq.{drop-cons}
 use Rattle.core.specs.Choice.{pick}
 use Rattle.core.specs.declared.utf8.step.Step.the-variants.{Good, Bad}
-use Rattle.core.specs.Utf8.{Range, within, classOf, laterOf, matched, more, good, stepOf, sound}
+use Rattle.core.specs.Utf8.{Range, within, classOf, laterOf, matched, more, good, stepOf, validUpTo}
 use Rattle.core.specs.inner.Flow.{awaits, entered, passed, stateAfter}
 use Rattle.core.proofs.utf8.Steps.{class-below, matched-none, step-none}
 use Rattle.core.proofs.utf8.Laws.{good-from}
@@ -151,7 +151,7 @@ module _ (s : List ℕ) where
   pub inside-new : (j p : ℕ) → j ≤ length s → p ≡ 0 → Inside s j j p
   inside-new j p h z = rw z (inside-start s j h)
 
-  pub inside-done : (i j p : ℕ) → Turned s i j p → i ≤ j → p ≡ 0 → j + 1 + sound (drop (j + 1) s) ≡ i + sound (drop i s)
+  pub inside-done : (i j p : ℕ) → Turned s i j p → i ≤ j → p ≡ 0 → j + 1 + validUpTo (drop (j + 1) s) ≡ i + validUpTo (drop i s)
   inside-done i j p t l z =
       let g = t .done z .on in
       let e : i + (j + 1 - i) ≡ j + 1 = omega arith in

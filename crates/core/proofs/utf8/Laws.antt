@@ -11,9 +11,9 @@ use lib.Dec.{leb, eqb}
 use lib.ListN.{length, getD, take, drop, length-append, take-append-drop, length-drop}
 use lib.Seq.{length-take-le, take-add, take-append-le, drop-append-le, drop-drop, drop-length}
 use Rattle.core.specs.Choice.{pick}
-use Rattle.core.specs.Utf8.{Range, rows, within, classOf, laterOf, matched, more, good, replacement, decode, sound, illSize, wellFormed, clean, pieces, piecesAfter, pieceOf}
+use Rattle.core.specs.Utf8.{Range, rows, within, classOf, laterOf, matched, more, good, replacement, decode, validUpTo, illSize, wellFormed, clean, pieces, piecesAfter, pieceOf}
 use Rattle.core.proofs.utf8.Steps.{matched-le, class-below}
-use Rattle.core.proofs.utf8.Pieces.{more-within, by-pieces, decode-nil, decode-good, decode-bad, sound-nil, sound-good, sound-bad, ill-nil, ill-good, ill-bad, well-nil, well-good, well-bad}
+use Rattle.core.proofs.utf8.Pieces.{more-within, by-pieces, decode-nil, decode-good, decode-bad, valid-nil, valid-good, valid-bad, ill-nil, ill-good, ill-bad, well-nil, well-good, well-bad}
 
 -- what holds of a text by its first piece, with the two cases apart
 module _ (P : List ℕ → Type 0) (none : P []) (one : (x : ℕ) (xs : List ℕ) → good x xs ≡ true → P (drop (more x xs) xs) → P (x ∷ xs))
@@ -27,67 +27,67 @@ module _ (P : List ℕ → Type 0) (none : P []) (one : (x : ℕ) (xs : List ℕ
 
 -- ---- where the first ill-formed subpart starts
 
-pub sound-le : (t : List ℕ) → sound t ≤ length t
-sound-le =
-    by-kind (λ t. sound t ≤ length t) (rw sound-nil (omega arith))
-    (λ x xs e h. let m = more-within x xs in let d = length-drop (more x xs) xs in rw (sound-good x xs e) (omega arith))
-    (λ x xs e h. rw (sound-bad x xs e) (omega arith))
+pub valid-le : (t : List ℕ) → validUpTo t ≤ length t
+valid-le =
+    by-kind (λ t. validUpTo t ≤ length t) (rw valid-nil (omega arith))
+    (λ x xs e h. let m = more-within x xs in let d = length-drop (more x xs) xs in rw (valid-good x xs e) (omega arith))
+    (λ x xs e h. rw (valid-bad x xs e) (omega arith))
 
 -- a text is well-formed exactly where no ill-formed subpart starts before its end
-pub well-sound : (t : List ℕ) → wellFormed t ≡ eqb (sound t) (length t)
-well-sound =
-    by-kind (λ t. wellFormed t ≡ eqb (sound t) (length t)) (rw (well-nil, sound-nil))
+pub well-valid : (t : List ℕ) → wellFormed t ≡ eqb (validUpTo t) (length t)
+well-valid =
+    by-kind (λ t. wellFormed t ≡ eqb (validUpTo t) (length t)) (rw (well-nil, valid-nil))
     (λ x xs e h. well-good x xs e ∙ h ∙ same x xs e)
-    (λ x xs e h. well-bad x xs e ∙ sym (ne-eqb (sound (x ∷ xs)) (suc (length xs)) (λ q. let z = sound-bad x xs e in omega arith)))
+    (λ x xs e h. well-bad x xs e ∙ sym (ne-eqb (validUpTo (x ∷ xs)) (suc (length xs)) (λ q. let z = valid-bad x xs e in omega arith)))
   where
-    same : (x : ℕ) (xs : List ℕ) → good x xs ≡ true → eqb (sound (drop (more x xs) xs)) (length (drop (more x xs) xs)) ≡ eqb (sound (x ∷ xs)) (suc (length xs))
-    same x xs e = go (eqb (sound (drop (more x xs) xs)) (length (drop (more x xs) xs))) refl
+    same : (x : ℕ) (xs : List ℕ) → good x xs ≡ true → eqb (validUpTo (drop (more x xs) xs)) (length (drop (more x xs) xs)) ≡ eqb (validUpTo (x ∷ xs)) (suc (length xs))
+    same x xs e = go (eqb (validUpTo (drop (more x xs) xs)) (length (drop (more x xs) xs))) refl
       where
-        go : (b : Bool) → eqb (sound (drop (more x xs) xs)) (length (drop (more x xs) xs)) ≡ b → b ≡ eqb (sound (x ∷ xs)) (suc (length xs))
+        go : (b : Bool) → eqb (validUpTo (drop (more x xs) xs)) (length (drop (more x xs) xs)) ≡ b → b ≡ eqb (validUpTo (x ∷ xs)) (suc (length xs))
         go true q =
-            let z : sound (drop (more x xs) xs) ≡ length (drop (more x xs) xs) = eqb-true _ _ q in
+            let z : validUpTo (drop (more x xs) xs) ≡ length (drop (more x xs) xs) = eqb-true _ _ q in
             let m = more-within x xs in
             let d = length-drop (more x xs) xs in
-            let g = sound-good x xs e in
-            sym (eq-eqb (sound (x ∷ xs)) (suc (length xs)) (omega arith))
+            let g = valid-good x xs e in
+            sym (eq-eqb (validUpTo (x ∷ xs)) (suc (length xs)) (omega arith))
         go false q = sym (ne-eqb _ _ (λ w. no q w))
           where
-            no : eqb (sound (drop (more x xs) xs)) (length (drop (more x xs) xs)) ≡ false → sound (x ∷ xs) ≡ suc (length xs) → ⊥
+            no : eqb (validUpTo (drop (more x xs) xs)) (length (drop (more x xs) xs)) ≡ false → validUpTo (x ∷ xs) ≡ suc (length xs) → ⊥
             no q w =
                 let m = more-within x xs in
                 let d = length-drop (more x xs) xs in
-                let g = sound-good x xs e in
-                let k : sound (drop (more x xs) xs) ≡ length (drop (more x xs) xs) = omega arith in
+                let g = valid-good x xs e in
+                let k : validUpTo (drop (more x xs) xs) ≡ length (drop (more x xs) xs) = omega arith in
                 let f : _≡_ {A = Bool} true false = sym (eq-eqb _ _ k) ∙ q in
                 let z : _≡_ {A = ℕ} 0 1 = cc in
                 omega arith
 
-pub well-whole : (t : List ℕ) → wellFormed t ≡ true → sound t ≡ length t
-well-whole t e = eqb-true _ _ (sym (well-sound t) ∙ e)
+pub well-whole : (t : List ℕ) → wellFormed t ≡ true → validUpTo t ≡ length t
+well-whole t e = eqb-true _ _ (sym (well-valid t) ∙ e)
 
-pub whole-well : (t : List ℕ) → sound t ≡ length t → wellFormed t ≡ true
-whole-well t e = well-sound t ∙ eq-eqb _ _ e
+pub whole-well : (t : List ℕ) → validUpTo t ≡ length t → wellFormed t ≡ true
+whole-well t e = well-valid t ∙ eq-eqb _ _ e
 
 -- ---- what stands before the first ill-formed subpart is kept
 
 front-good : (x : ℕ) (xs : List ℕ) → good x xs ≡ true
-    → decode (drop (more x xs) xs) ≡ take (sound (drop (more x xs) xs)) (drop (more x xs) xs) ++ decode (drop (sound (drop (more x xs) xs)) (drop (more x xs) xs))
-    → decode (x ∷ xs) ≡ take (sound (x ∷ xs)) (x ∷ xs) ++ decode (drop (sound (x ∷ xs)) (x ∷ xs))
+    → decode (drop (more x xs) xs) ≡ take (validUpTo (drop (more x xs) xs)) (drop (more x xs) xs) ++ decode (drop (validUpTo (drop (more x xs) xs)) (drop (more x xs) xs))
+    → decode (x ∷ xs) ≡ take (validUpTo (x ∷ xs)) (x ∷ xs) ++ decode (drop (validUpTo (x ∷ xs)) (x ∷ xs))
 front-good x xs e h =
     let m = more x xs in
-    let k = sound (drop (more x xs) xs) in
+    let k = validUpTo (drop (more x xs) xs) in
     decode-good x xs e
     ∙ ap (λ (l : List ℕ). (x ∷ take m xs) ++ l) h
     ∙ sym (append-assoc (x ∷ take m xs) (take k (drop m xs)) (decode (drop k (drop m xs))))
     ∙ ap (λ (l : List ℕ). l ++ decode (drop k (drop m xs))) (sym (take-add (suc m) k (x ∷ xs)))
     ∙ ap (λ (l : List ℕ). take (suc m + k) (x ∷ xs) ++ decode l) (drop-drop k (suc m) (x ∷ xs))
-    ∙ ap (λ (n : ℕ). take n (x ∷ xs) ++ decode (drop n (x ∷ xs))) (sym (sound-good x xs e))
+    ∙ ap (λ (n : ℕ). take n (x ∷ xs) ++ decode (drop n (x ∷ xs))) (sym (valid-good x xs e))
 
-pub decode-front : (t : List ℕ) → decode t ≡ take (sound t) t ++ decode (drop (sound t) t)
+pub decode-front : (t : List ℕ) → decode t ≡ take (validUpTo t) t ++ decode (drop (validUpTo t) t)
 decode-front =
-    by-kind (λ t. decode t ≡ take (sound t) t ++ decode (drop (sound t) t)) (rw sound-nil)
+    by-kind (λ t. decode t ≡ take (validUpTo t) t ++ decode (drop (validUpTo t) t)) (rw valid-nil)
     front-good
-    (λ x xs e h. rw (sound-bad x xs e))
+    (λ x xs e h. rw (valid-bad x xs e))
 
 -- ---- the ill-formed subpart there
 
@@ -134,22 +134,22 @@ ill-within =
     (λ x xs e h. let m = more-within x xs in rw (ill-bad x xs e) (omega arith))
 
 -- behind the characters at the front there is an ill-formed subpart, or nothing
-pub ill-or-end : (t : List ℕ) → illSize (drop (sound t) t) ≡ 0 → sound t ≡ length t
+pub ill-or-end : (t : List ℕ) → illSize (drop (validUpTo t) t) ≡ 0 → validUpTo t ≡ length t
 ill-or-end =
-    by-kind (λ t. illSize (drop (sound t) t) ≡ 0 → sound t ≡ length t) (λ q. sound-nil)
+    by-kind (λ t. illSize (drop (validUpTo t) t) ≡ 0 → validUpTo t ≡ length t) (λ q. valid-nil)
     (λ x xs e h q. on x xs e h q)
-    (λ x xs e h q. let z = ill-bad x xs e in let w = sound-bad x xs e in absurd (off x xs w z q))
+    (λ x xs e h q. let z = ill-bad x xs e in let w = valid-bad x xs e in absurd (off x xs w z q))
   where
-    on : (x : ℕ) (xs : List ℕ) → good x xs ≡ true → (illSize (drop (sound (drop (more x xs) xs)) (drop (more x xs) xs)) ≡ 0 → sound (drop (more x xs) xs) ≡ length (drop (more x xs) xs))
-        → illSize (drop (sound (x ∷ xs)) (x ∷ xs)) ≡ 0 → sound (x ∷ xs) ≡ suc (length xs)
+    on : (x : ℕ) (xs : List ℕ) → good x xs ≡ true → (illSize (drop (validUpTo (drop (more x xs) xs)) (drop (more x xs) xs)) ≡ 0 → validUpTo (drop (more x xs) xs) ≡ length (drop (more x xs) xs))
+        → illSize (drop (validUpTo (x ∷ xs)) (x ∷ xs)) ≡ 0 → validUpTo (x ∷ xs) ≡ suc (length xs)
     on x xs e h q =
-        let g = sound-good x xs e in
+        let g = valid-good x xs e in
         let m = more-within x xs in
         let d = length-drop (more x xs) xs in
-        let k = h (ap illSize (drop-drop (sound (drop (more x xs) xs)) (suc (more x xs)) (x ∷ xs)) ∙ ap (λ (n : ℕ). illSize (drop n (x ∷ xs))) (sym g) ∙ q) in
+        let k = h (ap illSize (drop-drop (validUpTo (drop (more x xs) xs)) (suc (more x xs)) (x ∷ xs)) ∙ ap (λ (n : ℕ). illSize (drop n (x ∷ xs))) (sym g) ∙ q) in
         omega arith
 
-    off : (x : ℕ) (xs : List ℕ) → sound (x ∷ xs) ≡ 0 → illSize (x ∷ xs) ≡ suc (more x xs) → illSize (drop (sound (x ∷ xs)) (x ∷ xs)) ≡ 0 → ⊥
+    off : (x : ℕ) (xs : List ℕ) → validUpTo (x ∷ xs) ≡ 0 → illSize (x ∷ xs) ≡ suc (more x xs) → illSize (drop (validUpTo (x ∷ xs)) (x ∷ xs)) ≡ 0 → ⊥
     off x xs w z q = let r : illSize (x ∷ xs) ≡ 0 = rw w at q in omega arith
 
 -- an ill-formed subpart that comes first is shown as U+FFFD
@@ -196,7 +196,7 @@ good-append x xs b e =
 -- and so are all that stand before b
 pub record Before (a b : List ℕ) : Type 0 where
   pub kept : decode (a ++ b) ≡ a ++ decode b
-  pub reach : sound (a ++ b) ≡ length a + sound b
+  pub reach : validUpTo (a ++ b) ≡ length a + validUpTo b
   pub fault : wellFormed (a ++ b) ≡ wellFormed b
 
 module _ (b : List ℕ) where
@@ -208,7 +208,7 @@ module _ (b : List ℕ) where
       let d : drop (more x (xs ++ b)) (xs ++ b) ≡ drop (more x xs) xs ++ b = rw (k .1) (drop-append-le (more x xs) xs b m) in
       let t : take (more x (xs ++ b)) (xs ++ b) ≡ take (more x xs) xs = rw (k .1) (take-append-le (more x xs) xs b m) in
       let l = length-drop (more x xs) xs in
-      let s : sound (x ∷ (xs ++ b)) ≡ suc (more x xs) + sound (drop (more x xs) xs ++ b) = sound-good x (xs ++ b) (k .0) ∙ rw (d, k .1) in
+      let s : validUpTo (x ∷ (xs ++ b)) ≡ suc (more x xs) + validUpTo (drop (more x xs) xs ++ b) = valid-good x (xs ++ b) (k .0) ∙ rw (d, k .1) in
       record {
         kept =
             decode-good x (xs ++ b) (k .0)
@@ -219,7 +219,7 @@ module _ (b : List ℕ) where
 
   before-all : (a : List ℕ) → wellFormed a ≡ true → Before a b
   before-all =
-      by-kind (λ a. wellFormed a ≡ true → Before a b) (λ w. record { kept = refl; reach = sym (zero-add (sound b)); fault = refl })
+      by-kind (λ a. wellFormed a ≡ true → Before a b) (λ w. record { kept = refl; reach = sym (zero-add (validUpTo b)); fault = refl })
       before-good
       (λ x xs e h w. let z : _≡_ {A = ℕ} 0 1 = cc (well-bad x xs e) in absurd (omega arith))
 

@@ -9,7 +9,7 @@ use lib.ListN.{length, take, drop}
 use lib.Seq.{length-take-le}
 use Rattle.core.specs.Choice.{pick}
 use Rattle.core.specs.declared.utf8.step.Step.the-variants.{Good, Bad}
-use Rattle.core.specs.Utf8.{Range, within, classOf, laterOf, matched, more, good, stepOf, Piece, character, ill, pieceOf, piecesAfter, pieces, replacement, shown, decoded, leading, illFirst, clean, decode, sound, illSize, wellFormed}
+use Rattle.core.specs.Utf8.{Range, within, classOf, laterOf, matched, more, good, stepOf, Piece, character, ill, pieceOf, piecesAfter, pieces, replacement, shown, decoded, leading, illFirst, clean, decode, validUpTo, illSize, wellFormed}
 
 -- ---- the first piece
 
@@ -68,9 +68,9 @@ pub decode-nil : decode [] ≡ []
 unfolding decode decoded
 decode-nil = rw pieces-nil
 
-pub sound-nil : sound [] ≡ 0
-unfolding sound leading
-sound-nil = rw pieces-nil
+pub valid-nil : validUpTo [] ≡ 0
+unfolding validUpTo leading
+valid-nil = rw pieces-nil
 
 pub ill-nil : illSize [] ≡ 0
 unfolding illSize illFirst
@@ -85,9 +85,9 @@ module _ (x : ℕ) (xs : List ℕ) (e : good x xs ≡ true) where
   unfolding decode decoded shown
   decode-good = rw (pieces-cons, piece-good x xs e)
 
-  pub sound-good : sound (x ∷ xs) ≡ suc (more x xs) + sound (drop (more x xs) xs)
-  unfolding sound leading
-  sound-good = rw (pieces-cons, piece-good x xs e, length-take-le (more x xs) xs (more-within x xs))
+  pub valid-good : validUpTo (x ∷ xs) ≡ suc (more x xs) + validUpTo (drop (more x xs) xs)
+  unfolding validUpTo leading
+  valid-good = rw (pieces-cons, piece-good x xs e, length-take-le (more x xs) xs (more-within x xs))
 
   pub ill-good : illSize (x ∷ xs) ≡ 0
   unfolding illSize illFirst
@@ -102,9 +102,9 @@ module _ (x : ℕ) (xs : List ℕ) (e : good x xs ≡ false) where
   unfolding decode decoded shown
   decode-bad = rw (pieces-cons, piece-bad x xs e)
 
-  pub sound-bad : sound (x ∷ xs) ≡ 0
-  unfolding sound leading
-  sound-bad = rw (pieces-cons, piece-bad x xs e)
+  pub valid-bad : validUpTo (x ∷ xs) ≡ 0
+  unfolding validUpTo leading
+  valid-bad = rw (pieces-cons, piece-bad x xs e)
 
   pub ill-bad : illSize (x ∷ xs) ≡ suc (more x xs)
   unfolding illSize illFirst

@@ -13,7 +13,7 @@ use lib.ListN.{length, getD, take, drop, length-append, length-drop, drop-of-len
 use lib.Seq.{sets, slice, slice-empty, length-slice, drop-cons, drop-drop, take-nil}
 use Rattle.core.specs.declared.utf8.step.Step.{Step}
 use Rattle.core.specs.declared.utf8.step.Step.the-variants.{Good, Bad}
-use Rattle.core.specs.Utf8.{rows, classOf, laterOf, matched, more, good, stepOf, replacement, decode, decodedSize, sound, illSize}
+use Rattle.core.specs.Utf8.{rows, classOf, laterOf, matched, more, good, stepOf, replacement, decode, decodedSize, validUpTo, illSize}
 use Rattle.core.specs.Choice.{pick}
 use Rattle.core.specs.Text.{beforeZero, firstFault, every, notZero, ascii, plain, asciiSeen, isPlain, plainAt, endedOf}
 use Rattle.core.specs.declared.text.TextAt.the-variants.{Text}
@@ -21,8 +21,8 @@ use Rattle.core.proofs.Stores.{sets-on}
 use Rattle.core.proofs.Tests.{every-at}
 use Rattle.core.proofs.Zeros.{byte-some, free-of, ended-there}
 use Rattle.core.proofs.utf8.Steps.{matched-none, ascii-class, step-none}
-use Rattle.core.proofs.utf8.Pieces.{more-within, step-good, step-bad, decode-nil, decode-good, sound-nil, sound-good, sound-bad, ill-nil, ill-bad}
-use Rattle.core.proofs.utf8.Laws.{both-true, good-from, whole-well, decode-well, sound-le, decode-front, ill-short, ill-within, ill-or-end, decode-ill}
+use Rattle.core.proofs.utf8.Pieces.{more-within, step-good, step-bad, decode-nil, decode-good, valid-nil, valid-good, valid-bad, ill-nil, ill-bad}
+use Rattle.core.proofs.utf8.Laws.{both-true, good-from, whole-well, decode-well, valid-le, decode-front, ill-short, ill-within, ill-or-end, decode-ill}
 
 -- ---- parts of a list
 
@@ -31,8 +31,8 @@ take-drop zero k l = rw zero-add
 take-drop (suc i) k [] = simp take-nil
 take-drop (suc i) k (x ∷ l) = rw (native.Mathlib.Nat.suc-add i k) (take-drop i k l)
 
-pub sound-end : (s : List ℕ) (i : ℕ) → length s ≤ i → sound (drop i s) ≡ 0
-sound-end s i h = rw (drop-of-length-le s h) sound-nil
+pub valid-end : (s : List ℕ) (i : ℕ) → length s ≤ i → validUpTo (drop i s) ≡ 0
+valid-end s i h = rw (drop-of-length-le s h) valid-nil
 
 pub ill-end : (s : List ℕ) (i : ℕ) → length s ≤ i → illSize (drop i s) ≡ 0
 ill-end s i h = rw (drop-of-length-le s h) ill-nil
@@ -42,13 +42,13 @@ ill-end s i h = rw (drop-of-length-le s h) ill-nil
 pub record GoodAt (s : List ℕ) (i k : ℕ) : Type 0 where
   pub some : 1 ≤ k
   pub reach : i + k ≤ length s
-  pub on : i + k + sound (drop (i + k) s) ≡ i + sound (drop i s)
+  pub on : i + k + validUpTo (drop (i + k) s) ≡ i + validUpTo (drop i s)
   pub split : decode (drop i s) ≡ slice i (i + k) s ++ decode (drop (i + k) s)
 
 pub record BadAt (s : List ℕ) (i k : ℕ) : Type 0 where
   pub some : 1 ≤ k
   pub reach : i + k ≤ length s
-  pub here : sound (drop i s) ≡ 0
+  pub here : validUpTo (drop i s) ≡ 0
   pub size : k ≡ illSize (drop i s)
 
 module _ (s : List ℕ) (i k : ℕ) (h : i < length s) where
@@ -73,8 +73,8 @@ module _ (s : List ℕ) (i k : ℕ) (h : i < length s) where
       let xs = drop (i + 1) s in
       let w : x ∷ take (more x xs) xs ≡ slice i (i + k) s = ap (take (suc (more x xs))) (sym cut) ∙ rw (g .1) (take-drop i k s) in
       let b = reached (g .1) in
-      let a = ap sound cut ∙ sound-good x xs (g .0) in
-      let d = ap sound (rest (g .1)) in
+      let a = ap validUpTo cut ∙ valid-good x xs (g .0) in
+      let d = ap validUpTo (rest (g .1)) in
       record {
         some = b .0;
         reach = b .1;
@@ -93,7 +93,7 @@ module _ (s : List ℕ) (i k : ℕ) (h : i < length s) where
       record {
         some = b .0;
         reach = b .1;
-        here = ap sound cut ∙ sound-bad _ _ (g .0);
+        here = ap validUpTo cut ∙ valid-bad _ _ (g .0);
         size = sym (ap illSize cut ∙ ill-bad _ _ (g .0) ∙ g .1);
       }
 
@@ -106,18 +106,18 @@ ascii-good x xs h =
     let m : matched (laterOf (classOf x)) xs ≡ 0 = rw e (unfold laterOf rows in sym (matched-none xs)) in
     (good-from x xs (rw e refl) (m ∙ rw e (unfold laterOf rows in refl)), m)
 
-pub ascii-run : (s : List ℕ) (i m : ℕ) → i + m ≤ length s → ((j : ℕ) → j < m → getD s (i + j) 0 < 128) → i + m + sound (drop (i + m) s) ≡ i + sound (drop i s)
+pub ascii-run : (s : List ℕ) (i m : ℕ) → i + m ≤ length s → ((j : ℕ) → j < m → getD s (i + j) 0 < 128) → i + m + validUpTo (drop (i + m) s) ≡ i + validUpTo (drop i s)
 ascii-run s i zero h f = rw add-zero
 ascii-run s i (suc m) h f =
     let lt : i < length s = omega arith in
     let x = getD s i 0 in
     let g = ascii-good x (drop (i + 1) s) (rw add-zero at (f 0 (omega arith))) in
-    let a = ap sound (cut s i 1 lt) ∙ sound-good x (drop (i + 1) s) (g .0) in
-    let d : sound (drop (more x (drop (i + 1) s)) (drop (i + 1) s)) ≡ sound (drop (i + 1) s) = rw (g .1) in
+    let a = ap validUpTo (cut s i 1 lt) ∙ valid-good x (drop (i + 1) s) (g .0) in
+    let d : validUpTo (drop (more x (drop (i + 1) s)) (drop (i + 1) s)) ≡ validUpTo (drop (i + 1) s) = rw (g .1) in
     let p : i + 1 + m ≡ i + suc m = omega arith in
-    let n : i + 1 + m + sound (drop (i + 1 + m) s) ≡ i + 1 + sound (drop (i + 1) s) =
+    let n : i + 1 + m + validUpTo (drop (i + 1 + m) s) ≡ i + 1 + validUpTo (drop (i + 1) s) =
     ascii-run s (i + 1) m (omega arith) (λ j q. let e : i + suc j ≡ i + 1 + j = omega arith in rw e at (f (suc j) (omega arith))) in
-    let w : sound (drop (i + suc m) s) ≡ sound (drop (i + 1 + m) s) = rw p in
+    let w : validUpTo (drop (i + suc m) s) ≡ validUpTo (drop (i + 1 + m) s) = rw p in
     omega (arith, a, d, g .1)
 
 -- what the tests of a byte say
@@ -142,10 +142,10 @@ unfolding isPlain
 plain-bytes t e k h = plain-byte _ (every-at plain t (both-true (leb 8 (length t) && leb (length t) 32) (every plain t) e .1) k h)
 
 -- a text that is all ASCII is its own decoding
-pub ascii-sound : (s : List ℕ) → ((j : ℕ) → j < length s → getD s j 0 < 128) → sound s ≡ length s
-ascii-sound s f =
+pub ascii-valid : (s : List ℕ) → ((j : ℕ) → j < length s → getD s j 0 < 128) → validUpTo s ≡ length s
+ascii-valid s f =
     let r = ascii-run s 0 (length s) (omega arith) (λ j h. rw zero-add (f j h)) in
-    let e = sound-end s (0 + length s) (omega arith) in
+    let e = valid-end s (0 + length s) (omega arith) in
     omega (arith, r, e)
 
 -- a text of ASCII without a zero has no fault
@@ -154,11 +154,11 @@ unfolding firstFault
 plain-fault s e =
     let f = plain-bytes s e in
     let z = free-of s (λ k h e. let p = f k h .0 in omega (arith, p, e)) in
-    let a = ascii-sound s (λ k h. f k h .1) in
+    let a = ascii-valid s (λ k h. f k h .1) in
     omega (arith, z, a)
 
 pub ascii-decode : (s : List ℕ) → ((j : ℕ) → j < length s → getD s j 0 < 128) → decode s ≡ s
-ascii-decode s f = decode-well s (whole-well s (ascii-sound s f))
+ascii-decode s f = decode-well s (whole-well s (ascii-valid s f))
 
 pub ascii-size : (s : List ℕ) → length s < 18446744073709551616 → ((j : ℕ) → j < length s → getD s j 0 < 128) → length s ≡ decodedSize s
 unfolding decodedSize
@@ -166,9 +166,9 @@ ascii-size s h f = rw (ascii-decode s f) (omega arith)
 
 -- ---- a walk that came to an ill-formed subpart or to the end
 
-pub run-end : (s : List ℕ) (from end skip : ℕ) → end + sound (drop end s) ≡ from + sound (drop from s) → (skip ≡ 0 → length s ≤ end)
-    → (0 < skip → (skip ≡ illSize (drop end s)) × (sound (drop end s) ≡ 0)) → (end ≡ from + sound (drop from s)) × (skip ≡ illSize (drop end s))
-run-end s from end zero e last bad = (omega (arith, e, sound-end s end (last refl)), sym (ill-end s end (last refl)))
+pub run-end : (s : List ℕ) (from end skip : ℕ) → end + validUpTo (drop end s) ≡ from + validUpTo (drop from s) → (skip ≡ 0 → length s ≤ end)
+    → (0 < skip → (skip ≡ illSize (drop end s)) × (validUpTo (drop end s) ≡ 0)) → (end ≡ from + validUpTo (drop from s)) × (skip ≡ illSize (drop end s))
+run-end s from end zero e last bad = (omega (arith, e, valid-end s end (last refl)), sym (ill-end s end (last refl)))
 run-end s from end (suc k) e last bad = let b = bad (omega arith) in (omega (arith, e, b .1), b .0)
 
 -- ---- a run: the characters from i on, and the ill-formed subpart behind them
@@ -181,22 +181,22 @@ pub record RunAt (s : List ℕ) (i end skip : ℕ) : Type 0 where
   pub whole : skip ≡ 0 → decode (drop i s) ≡ slice i end s
   pub split : 0 < skip → decode (drop i s) ≡ slice i end s ++ (replacement ++ decode (drop (end + skip) s))
 
-module _ (s : List ℕ) (i end skip : ℕ) (h : i ≤ length s) (e : end ≡ i + sound (drop i s)) (k : skip ≡ illSize (drop end s)) where
-  behind : drop (sound (drop i s)) (drop i s) ≡ drop end s
-  behind = drop-drop (sound (drop i s)) i s ∙ rw (← e)
+module _ (s : List ℕ) (i end skip : ℕ) (h : i ≤ length s) (e : end ≡ i + validUpTo (drop i s)) (k : skip ≡ illSize (drop end s)) where
+  behind : drop (validUpTo (drop i s)) (drop i s) ≡ drop end s
+  behind = drop-drop (validUpTo (drop i s)) i s ∙ rw (← e)
 
   bounds : (i ≤ end) × (end ≤ length s)
-  bounds = let l = sound-le (drop i s) in let d = length-drop i s in omega (arith, l, d, e)
+  bounds = let l = valid-le (drop i s) in let d = length-drop i s in omega (arith, l, d, e)
 
   front : decode (drop i s) ≡ slice i end s ++ decode (drop end s)
   front =
       decode-front (drop i s)
-      ∙ ap (λ (l : List ℕ). l ++ decode (drop (sound (drop i s)) (drop i s))) (take-drop i (sound (drop i s)) s ∙ ap (λ (n : ℕ). slice i n s) (sym e))
+      ∙ ap (λ (l : List ℕ). l ++ decode (drop (validUpTo (drop i s)) (drop i s))) (take-drop i (validUpTo (drop i s)) s ∙ ap (λ (n : ℕ). slice i n s) (sym e))
       ∙ ap (λ (l : List ℕ). slice i end s ++ decode l) behind
 
   ended : skip ≡ 0 → end ≡ length s
   ended q =
-      let z : illSize (drop (sound (drop i s)) (drop i s)) ≡ 0 = ap illSize behind ∙ sym k ∙ q in
+      let z : illSize (drop (validUpTo (drop i s)) (drop i s)) ≡ 0 = ap illSize behind ∙ sym k ∙ q in
       let w = ill-or-end (drop i s) z in
       let d = length-drop i s in
       omega (arith, w, d, e)

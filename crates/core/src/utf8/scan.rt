@@ -5,7 +5,7 @@ ghost use Prim.Native.Nat.{_+_, _%_, _≤_, _<_, min, max};
 ghost use lib.Dec.{eqb};
 ghost use lib.ListN.{length, take, drop};
 ghost use Rattle.core.specs.Text.{every, ascii, plain, asciiSeen, isPlain};
-ghost use Rattle.core.specs.Utf8.{Classes, sound, illSize};
+ghost use Rattle.core.specs.Utf8.{Classes, validUpTo, illSize};
 ghost use Rattle.core.specs.inner.Flow.{Rows, Flow};
 use crate::fill::least;
 use crate::utf8::flow::flow_over;
@@ -130,7 +130,7 @@ fn last_block(
     rows: &[u64; 16],
 ) -> usize
     requires { ⌜ Flow (now s) good 0 at state × Classes (now classes) × Rows (now rows) ⌝ }
-    ensures { λ r. ⌜ (good ≤ r) × (r ≤ length (now (s .entry))) × (r + sound (drop r (now (s .entry))) ≡ good + sound (drop good (now (s .entry)))) ⌝ }
+    ensures { λ r. ⌜ (good ≤ r) × (r ≤ length (now (s .entry))) × (r + validUpTo (drop r (now (s .entry))) ≡ good + validUpTo (drop good (now (s .entry)))) ⌝ }
 {
     let n = s.len();
     let q = flow_over(s, at, n, state, classes, rows);
@@ -144,7 +144,7 @@ fn last_block(
 // is left open: the caller walks on from there, byte by byte.
 fn blocks(s: &[u8], from: usize, classes: &[u8; 256], rows: &[u64; 16]) -> usize
     requires { ⌜ (from ≤ length (now s)) × Classes (now classes) × Rows (now rows) ⌝ }
-    ensures { λ r. ⌜ (from ≤ r) × (r ≤ length (now (s .entry))) × (r + sound (drop r (now (s .entry))) ≡ from + sound (drop from (now (s .entry)))) ⌝ }
+    ensures { λ r. ⌜ (from ≤ r) × (r ≤ length (now (s .entry))) × (r + validUpTo (drop r (now (s .entry))) ≡ from + validUpTo (drop from (now (s .entry)))) ⌝ }
 {
     let mut good = from;
     let mut j = from;
@@ -179,9 +179,9 @@ fn at_least_one(n: usize) -> usize
 fn walk(s: &[u8], from: usize, stop: usize, classes: &[u8; 256], rows: &[u64; 16]) -> Run
     requires { ⌜ (from ≤ stop) × (stop ≤ length (now s)) × Classes (now classes) × Rows (now rows) ⌝ }
     ensures { λ r. ⌜ (from ≤ r .end) × (r .end ≤ length (now (s .entry)))
-        × (r .end + sound (drop (r .end) (now (s .entry))) ≡ from + sound (drop from (now (s .entry))))
+        × (r .end + validUpTo (drop (r .end) (now (s .entry))) ≡ from + validUpTo (drop from (now (s .entry))))
         × (r .skip ≡ 0 → stop ≡ length (now (s .entry)) → stop ≤ r .end)
-        × (0 < r .skip → (r .skip ≡ illSize (drop (r .end) (now (s .entry)))) × (sound (drop (r .end) (now (s .entry))) ≡ 0)) ⌝ }
+        × (0 < r .skip → (r .skip ≡ illSize (drop (r .end) (now (s .entry)))) × (validUpTo (drop (r .end) (now (s .entry))) ≡ 0)) ⌝ }
 {
     let mut i = from;
     let mut j = from;
@@ -211,7 +211,7 @@ fn walk(s: &[u8], from: usize, stop: usize, classes: &[u8; 256], rows: &[u64; 16
 // The rest of a text, by blocks; what is left of them byte by byte.
 fn far_run(s: &[u8], from: usize, classes: &[u8; 256], rows: &[u64; 16]) -> Run
     requires { ⌜ (from ≤ length (now s)) × Classes (now classes) × Rows (now rows) ⌝ }
-    ensures { λ r. ⌜ (r .end ≡ from + sound (drop from (now (s .entry)))) × (r .skip ≡ illSize (drop (r .end) (now (s .entry)))) ⌝ }
+    ensures { λ r. ⌜ (r .end ≡ from + validUpTo (drop from (now (s .entry)))) × (r .skip ≡ illSize (drop (r .end) (now (s .entry)))) ⌝ }
 {
     let e = blocks(s, from, classes, rows);
     walk(s, e, s.len(), classes, rows)
@@ -228,7 +228,7 @@ fn near(from: usize, size: usize) -> usize
 // Behind an ill-formed subpart a few bytes one by one first: where there are many of them, the blocks would be tried in vain.
 pub(crate) fn next_run(s: &[u8], from: usize, classes: &[u8; 256], rows: &[u64; 16]) -> Run
     requires { ⌜ (from ≤ length (now s)) × Classes (now classes) × Rows (now rows) ⌝ }
-    ensures { λ r. ⌜ (r .end ≡ from + sound (drop from (now (s .entry)))) × (r .skip ≡ illSize (drop (r .end) (now (s .entry)))) ⌝ }
+    ensures { λ r. ⌜ (r .end ≡ from + validUpTo (drop from (now (s .entry)))) × (r .skip ≡ illSize (drop (r .end) (now (s .entry)))) ⌝ }
 {
     if from == 0 {
         return far_run(s, from, classes, rows);

@@ -13,7 +13,7 @@ use Rattle.core.proofs.utf8.Laws.{whole-well, decode-well}
 returns : tie.Need-returns
 unfolding decodedSize
 returns c =
-    let d = decode-well _ (whole-well _ (c .before .before .before .before .before .short-sound .ensures (c .before .before .before .before .if1 .taken))) in
+    let d = decode-well _ (whole-well _ (c .before .before .before .before .before .short-valid .ensures (c .before .before .before .before .if1 .taken))) in
     (rw d (omega (arith, c .before .before .before .before .before .before .before .before .good)), c .before .before .copy .ensures ∙ ap (sets (now (c .before .before .before .before .before .before .before .before .args .out)) (c .before .before .before .before .before .before .before .before .args .at)) (sym d))
 
 pub decode-by-spec : {M : Type 1} → statement M

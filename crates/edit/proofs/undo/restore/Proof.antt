@@ -6,13 +6,13 @@ use Rattle.edit.proofs.undo.restore.Tie as tie
 use mathlib.Core.Path.{_∙_}
 use denote.Ref.{now}
 use lib.ListN.{length}
-use Rattle.edit.proofs.Calls.{sound-size, sound-inside, restored-packed}
+use Rattle.edit.proofs.Calls.{restorable-size, restorable-inside, restored-packed}
 
 cast-at : tie.Need-cast-at
 cast-at c = search needs
 
 put-packed-requires : tie.Need-put-packed-requires
-put-packed-requires c κs = (sound-size (c .before .before .before .before .args .e) (length (now (c .before .before .before .before .args .section))) (c .before .before .before .before .pre), sound-inside (c .before .before .before .before .args .e) (length (now (c .before .before .before .before .args .section))) (c .before .before .before .before .pre))
+put-packed-requires c κs = (restorable-size (c .before .before .before .before .args .e) (length (now (c .before .before .before .before .args .section))) (c .before .before .before .before .pre), restorable-inside (c .before .before .before .before .args .e) (length (now (c .before .before .before .before .args .section))) (c .before .before .before .before .pre))
 
 same-length : tie.Need-same-length
 same-length c = search needs

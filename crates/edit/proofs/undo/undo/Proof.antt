@@ -23,20 +23,20 @@ sub-last c = search needs
 entry-at-requires : tie.Need-entry-at-requires
 entry-at-requires c κs = undo-room (now (c .before .before .before .before .before .args .section)) (now (c .before .before .before .before .before .args .journal)) _ (omega (arith, c .before .before .if1 .left)) (c .before .if2 .left) (omega (arith, c .if3 .left))
 
-sound-requires : tie.Need-sound-requires
-sound-requires c κs = search needs
+restorable-requires : tie.Need-restorable-requires
+restorable-requires c κs = search needs
 
 restore-requires : tie.Need-restore-requires
-restore-requires c κs = sym (c .before .before .sound .ensures) ∙ c .before .if4 .taken
+restore-requires c κs = sym (c .before .before .restorable .ensures) ∙ c .before .if4 .taken
 
 same-length : tie.Need-same-length
 same-length c = search needs
 
 returns-4 : tie.Need-returns-4
-returns-4 c = undo-good _ _ _ (omega (arith, c .before .before .before .before .before .before .before .before .before .if1 .left)) (c .before .before .before .before .before .before .before .before .if2 .left) (omega (arith, c .before .before .before .before .before .before .before .if3 .left)) _ _ _ (c .before .before .before .before .before .before .entry-at .ensures) (c .before .before .before .before .before .sound .ensures) (c .before .before .before .before .if4 .taken) (c .before .before .restore .ensures)
+returns-4 c = undo-good _ _ _ (omega (arith, c .before .before .before .before .before .before .before .before .before .if1 .left)) (c .before .before .before .before .before .before .before .before .if2 .left) (omega (arith, c .before .before .before .before .before .before .before .if3 .left)) _ _ _ (c .before .before .before .before .before .before .entry-at .ensures) (c .before .before .before .before .before .restorable .ensures) (c .before .before .before .before .if4 .taken) (c .before .before .restore .ensures)
 
 returns-5 : tie.Need-returns-5
-returns-5 c = undo-bad _ _ _ (omega (arith, c .before .before .before .before .before .if1 .left)) (c .before .before .before .before .if2 .left) (omega (arith, c .before .before .before .if3 .left)) _ _ (c .before .before .entry-at .ensures) (c .before .sound .ensures) (c .if4 .left)
+returns-5 c = undo-bad _ _ _ (omega (arith, c .before .before .before .before .before .if1 .left)) (c .before .before .before .before .if2 .left) (omega (arith, c .before .before .before .if3 .left)) _ _ (c .before .before .entry-at .ensures) (c .before .restorable .ensures) (c .if4 .left)
 
 pub undo-spec : {M : Type 1} → statement M
 undo-spec =
@@ -47,7 +47,7 @@ undo-spec =
     returns-3
     sub-last
     entry-at-requires
-    sound-requires
+    restorable-requires
     restore-requires
     same-length
     returns-4

@@ -6,7 +6,8 @@ use Rattle.bflan.proofs.reader.content.content_at.Tie as tie
 use mathlib.Core.Path.{sym, ap, _∙_}
 use native.Mathlib.Omega.{arith}
 use denote.Ref.{now}
-use Rattle.bflan.specs.inner.Walk.{walkOf, asTable}
+use Rattle.bflan.specs.inner.Sought.{asTable}
+use Rattle.bflan.specs.inner.Walk.{walkOf}
 use Rattle.bflan.proofs.reader.ContentParts.{content-no}
 use Rattle.bflan.proofs.reader.Walks.{told-stop}
 

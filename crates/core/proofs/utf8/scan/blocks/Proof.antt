@@ -6,7 +6,7 @@ use native.Mathlib.Omega.{arith}
 use borrow.Author.Tests.{eqb-true}
 use denote.Ref.{now}
 use lib.ListN.{length, drop}
-use Rattle.core.specs.Utf8.{sound}
+use Rattle.core.specs.Utf8.{validUpTo}
 use Rattle.core.specs.inner.Flow.{Flow}
 use Rattle.core.specs.Text.{ascii}
 use Rattle.core.proofs.Tests.{every-in}
@@ -17,7 +17,7 @@ use Rattle.core.proofs.utf8.scan.blocks.Statement.{statement}
 use Rattle.core.proofs.utf8.scan.blocks.Tie as tie
 
 abbrev Inv-loop : tie.InvT-loop
-Inv-loop s from classes rows good₀ j₀ q₀ good j q = (from ≤ good) × Flow s good 0 j q × (good + sound (drop good s) ≡ from + sound (drop from s))
+Inv-loop s from classes rows good₀ j₀ q₀ good j q = (from ≤ good) × Flow s good 0 j q × (good + validUpTo (drop good s) ≡ from + validUpTo (drop from s))
 
 abbrev μ-loop : tie.MeasureT-loop
 μ-loop s from classes rows good₀ j₀ q₀ good j q = length s - j

@@ -5,7 +5,7 @@ use denote.Ref.{now}
 use Prim.Native.Nat.{_+_, _-_, _≤_}
 use native.Mathlib.Omega.{arith}
 use lib.ListN.{drop}
-use Rattle.core.specs.Utf8.{sound}
+use Rattle.core.specs.Utf8.{validUpTo}
 use Rattle.core.specs.inner.Flow.{stateOf, State}
 use Rattle.core.proofs.utf8.Automaton.{zero-state, state-zero, state-lost, not-zero, not-lost}
 use Rattle.core.proofs.utf8.Inside.{Inside, inside-start, inside-turn, inside-cut, inside-on, inside-new, inside-done}
@@ -14,7 +14,7 @@ use Rattle.core.proofs.utf8.scan.walk.Statement.{statement}
 use Rattle.core.proofs.utf8.scan.walk.Tie as tie
 
 abbrev Inv-loop : tie.InvT-loop
-Inv-loop s from stop classes rows i₀ j₀ q₀ i j q = (from ≤ i) × (j ≤ stop) × State q × Inside s i j (stateOf q) × (i + sound (drop i s) ≡ from + sound (drop from s))
+Inv-loop s from stop classes rows i₀ j₀ q₀ i j q = (from ≤ i) × (j ≤ stop) × State q × Inside s i j (stateOf q) × (i + validUpTo (drop i s) ≡ from + validUpTo (drop from s))
 
 abbrev μ-loop : tie.MeasureT-loop
 μ-loop s from stop classes rows i₀ j₀ q₀ i j q = stop - j
