@@ -10,4 +10,5 @@ pub mod Rows
 pub mod SectionBounds
 pub mod SectionParts
 pub mod TargetParts
+pub mod Unstopped
 pub mod Walks

@@ -1,18 +1,15 @@
 -- What a section that reads has on the path to a field, and where the path leads. Assumes nothing.
-use Prim.Native.Nat.{ℕ, zero, suc, _+_, _-_, _*_, _<_, _≤_, min}
+use Prim.Native.Nat.{ℕ, zero, suc, _+_, _-_, _*_, _<_, _≤_}
 use mathlib.Core.Path.{_≡_, refl, ap, sym, subst, _∙_}
 use mathlib.Core.Bool.{Bool, true, false, _&&_}
-use mathlib.Core.List.{List, [], _∷_}
+use mathlib.Core.List.{List, [], _∷_, map}
 use native.Mathlib.Nat.{zero-add, suc-mul, mul-le-mul-right}
 use native.Mathlib.Omega.{arith}
-use borrow.Author.Tests.{leb-true, leb-false, le-leb, lt-leb, lt-ltb, le-ltb, ltb-true, ltb-false, eqb-true, eqb-false, eq-eqb, ne-eqb}
+use borrow.Author.Tests.{leb-true, leb-false, le-leb, lt-leb, lt-ltb, le-ltb, ltb-true, eqb-true, eqb-false, eq-eqb, ne-eqb}
 use lib.Dec.{eqb, leb, ltb}
 use lib.ListN.{length}
 use Rattle.core.specs.Number.{get}
-use Rattle.core.specs.Run.{numbersAt, numbersOf}
-use Rattle.core.specs.declared.run.Run.{Run}
-use Rattle.core.specs.declared.run.Run.the-variants.{Next, Cut}
-use Rattle.core.proofs.Runs.{table-fits, numbers-next}
+use Rattle.core.specs.Run.{numbersAt}
 use Rattle.bflan.specs.declared.fault.Fault.{Fault}
 use Rattle.bflan.specs.declared.fault.Fault.the-variants.{OtherLetters}
 use Rattle.bflan.specs.declared.place.Field.{Field}
@@ -31,7 +28,7 @@ use Rattle.bflan.specs.Limits.{limit}
 use Rattle.bflan.specs.pai1.Locating.{ofSpot, locatingIn, locating}
 use Rattle.bflan.specs.inner.Path.{layerUnder, numberUnder, keyUnder, valueUnder, contentBase, infoBase, infoUnder, targetBase, afterBase, datumBase, TargetAt, DatumAt, InfoAt, ContentAt, SectionAt}
 use Rattle.bflan.specs.pai1.Places.{Spot, nowhere, spot, after as behind, widths, total, stride, trackAt, keyIn, valueIn, targetIn, datumIn, infoTableIn, infoIn, contentIn, locate}
-use Rattle.bflan.specs.Reader.{Res, ok, stop, P, andThen, _>>=_, ret, given, fail, here, Item, word, text, num, seekTo, skip, fixedText, numbers, many, visit}
+use Rattle.bflan.specs.Reader.{Res, ok, stop, _>>=_, ret, given, fail, here, Item, word, text, num, seekTo, skip, numbers, many, visit}
 use Rattle.bflan.specs.pai1.Reading.{keyOf, curveOf, countOf, keys, target, datum, info, typeOf, infoTable, content, texture, ownLetters, contents, body, section}
 use Rattle.bflan.specs.pai1.Record.{keyWidths}
 use Rattle.bflan.specs.inner.Walk.{emptyTally, walkOf, walked}
@@ -40,107 +37,18 @@ use Rattle.bflan.specs.declared.reader.tally.Walk.{Walk}
 use Rattle.bflan.specs.declared.reader.tally.Walk.the-variants.{Went, Stopped}
 use Rattle.bflan.proofs.read.Answers.{told-answer, stopped, whole}
 use Rattle.bflan.specs.pai1.RecordAt.{nameSize}
-use Rattle.bflan.proofs.reader.ContentParts.{name-there, name-none}
+use Rattle.bflan.specs.inner.SectionParts.{afterHead}
+use Rattle.bflan.proofs.reader.ContentParts.{contentAfter, widths as contentWidths}
+use Rattle.bflan.proofs.reader.DatumParts.{fieldsIn, datumAfter, widths as datumWidths}
 use Rattle.bflan.proofs.reader.Emits.{sought-there, sought-over}
 use Rattle.bflan.proofs.place.Fields.{and-left, and-right}
-use Rattle.bflan.proofs.reader.KeyRuns.{asNumbers, num-there, num-short, numbers-run, many-on}
+use Rattle.bflan.proofs.reader.InfoParts.{infoAfter, widths as infoWidths}
+use Rattle.bflan.proofs.reader.KeyRuns.{many-on}
+use Rattle.bflan.proofs.reader.Rows.{rowThen, fieldsAt}
+use Rattle.bflan.proofs.reader.SectionParts.{headOf, widths as headWidths}
+use Rattle.bflan.proofs.reader.TargetParts.{targetAfter, widths as targetWidths}
+use Rattle.bflan.proofs.reader.Unstopped.{If, if-ok, yes, no, weaker, sure, next, after, number, head, sought, table, name, visited}
 use Rattle.bflan.proofs.reader.Walks.{before, on-no, on-place}
-
--- ---- what holds where a reading is not stopped, of its value and of the place behind it
-
-abbrev pub Holds : {A : Type 0} → (A → ℕ → Type 0) → Res A → Type 0
-Holds Q (ok v j) = Q v j
-Holds Q (stop f) = Unit
-
-pub record If {A : Type 0} (Q : A → ℕ → Type 0) (r : Res A) : Type 0 where
-  pub holds : Holds Q r
-
-pub if-ok : {A : Type 0} (Q : A → ℕ → Type 0) (r : Res A) {v : A} {j : ℕ} → If Q r → r ≡ ok v j → Q v j
-if-ok Q r h e = rw e at (h .holds)
-
-module _ {A : Type 0} {Q : A → ℕ → Type 0} where
-  pub yes : {v : A} {j : ℕ} → Q v j → If Q (ok v j)
-  yes h = record { holds = h }
-
-  no : (f : Fault) → If Q (stop f)
-  no f = record { holds = tt }
-
-weaker : {A : Type 0} {Q R : A → ℕ → Type 0} (r : Res A) → If Q r → ((v : A) (j : ℕ) → Q v j → R v j) → If R r
-weaker {Q = Q} (ok v j) h f = yes (f v j (h .holds))
-weaker (stop g) h f = no g
-
--- a fact that is known already
-sure : {A : Type 0} {X : Type 0} (r : Res A) → X → If (λ v j. X) r
-sure (ok v j) x = yes x
-sure (stop f) x = no f
-
-module _ (s : List ℕ) {A B : Type 0} {Q : B → ℕ → Type 0} (r : Res A) (q : A → P B) where
-  -- one reading after another
-  pub next : ((v : A) (j : ℕ) → r ≡ ok v j → If Q (q v s j)) → If Q (andThen r q s)
-  next f = go r refl
-    where
-      go : (x : Res A) → r ≡ x → If Q (andThen x q s)
-      go (ok v j) e = f v j e
-      go (stop g) e = no g
-
-  pub after : {R : A → ℕ → Type 0} → If R r → ((v : A) (j : ℕ) → R v j → If Q (q v s j)) → If Q (andThen r q s)
-  after {R} h f = next (λ v j e. f v j (if-ok R r h e))
-
--- ---- single reads: what follows may use that they are in the section
-
-module _ (s : List ℕ) {B : Type 0} {Q : B → ℕ → Type 0} where
-  pub number : (k i p : ℕ) (q : ℕ → P B) → i + k ≡ p → (p ≤ length s → If Q (q (get k s i) s p)) → If Q (andThen (num k s i) q s)
-  number k i p q e f = go (leb (i + k) (length s)) refl
-    where
-      go : (b : Bool) → leb (i + k) (length s) ≡ b → If Q (andThen (num k s i) q s)
-      go true t = let h = leb-true (i + k) (length s) t in rw (num-there k s i h, e) (f (omega (arith, h, e)))
-      go false t = rw (num-short k s i (leb-false (i + k) (length s) t)) (no _)
-
-  pub sought : (to i : ℕ) (q : ℕ → P B) → (to ≤ length s → If Q (q to s to)) → If Q (andThen (seekTo to s i) q s)
-  sought to i q f = go (leb to (length s)) refl
-    where
-      go : (b : Bool) → leb to (length s) ≡ b → If Q (andThen (seekTo to s i) q s)
-      go true t = let h = leb-true to (length s) t in rw (sought-there s to i h) (f h)
-      go false t = rw (sought-over s to i (leb-false to (length s) t)) (no _)
-
-  pub table : (n i : ℕ) (q : List ℕ → P B) → i ≤ length s → (i + 4 * n ≤ length s → If Q (q (numbersAt n s i) s (i + 4 * n))) → If Q (andThen (numbers n s i) q s)
-  table n i q h f = go (numbersOf n s i) refl
-    where
-      go : (r : Run) → numbersOf n s i ≡ r → If Q (andThen (numbers n s i) q s)
-      go (Next p) e =
-          let d : numbers n s i ≡ ok (numbersAt n s i) (i + 4 * n) = numbers-run n s i ∙ rw (e, numbers-next n s i p e .1) in
-          rw d (f (table-fits n s i p h e))
-      go (Cut o k) e = let d : numbers n s i ≡ asNumbers (Cut o k) (numbersAt n s i) = numbers-run n s i ∙ rw e in rw d (no _)
-
-  -- a name is cut by the section's end; the number behind it is then refused
-  pub name : (b : ℕ) (q : Item → P B) → (b + 28 ≤ length s → If Q (q (text b (nameSize s b)) s (b + 28))) → ((t : Item) → If Q (q t s (length s))) → If Q (andThen (fixedText 28 s b) q s)
-  name b q f g = go (leb (b + 28) (length s)) refl (ltb b (length s)) refl
-    where
-      go : (x : Bool) → leb (b + 28) (length s) ≡ x → (y : Bool) → ltb b (length s) ≡ y → If Q (andThen (fixedText 28 s b) q s)
-      go x t false u = rw (name-none s b (ltb-false b (length s) u)) (no _)
-      go true t true u =
-          let h = leb-true (b + 28) (length s) t in
-          let e : b + min 28 (length s - b) ≡ b + 28 = omega arith in
-          rw (name-there s b (ltb-true b (length s) u), e) (f h)
-      go false t true u =
-          let h = leb-false (b + 28) (length s) t in
-          let l = ltb-true b (length s) u in
-          let e : b + min 28 (length s - b) ≡ length s = omega arith in
-          rw (name-there s b l, e) (g (text b (nameSize s b)))
-
--- ---- parts at the offsets of a table
-
-module _ (s : List ℕ) (base : ℕ) (p : ℕ → P (List Item)) (Good : ℕ → Type 0) (h : (b i : ℕ) → If (λ is j. Good b) (p b s i)) where
-  visited : (n at i : ℕ) → If (λ is j. (k : ℕ) → k < n → Good (base + get 4 s (at + 4 * k))) (visit base p (numbersAt n s at) s i)
-  unfolding visit numbersAt
-  visited zero at i = yes (λ k l. absurd (omega arith))
-  visited (suc n) at i =
-      after s (p (base + get 4 s at) s i) _ (h (base + get 4 s at) i) (λ x j g.
-      after s (visit base p (numbersAt n s (at + 4)) s j) _ (visited n (at + 4) j) (λ xs j′ gs. yes (found g gs)))
-    where
-      found : Good (base + get 4 s at) → ((k : ℕ) → k < n → Good (base + get 4 s (at + 4 + 4 * k))) → (k : ℕ) → k < suc n → Good (base + get 4 s (at + 4 * k))
-      found g gs zero l = let e : at + 4 * 0 ≡ at = omega arith in rw e g
-      found g gs (suc k) l = let e : at + 4 * suc k ≡ at + 4 + 4 * k = omega arith in rw e (gs k (omega arith))
 
 -- ---- keys
 
@@ -153,12 +61,10 @@ module _ (s : List ℕ) where
   KeyAt c p is j = (j ≡ p + stride c) × (p + total (keyWidths c) ≤ length s)
 
   key-at : (c p : ℕ) → If (KeyAt c p) (keyOf c s p)
-  unfolding stride total keyWidths keySkip skip
-  key-at zero p = number s 4 p (p + 4) _ refl (λ h. yes (refl, h))
-  key-at (suc zero) p =
-      number s 4 p (p + 4) _ refl (λ h. number s 2 (p + 4) (p + 6) _ (omega arith) (λ l. yes (omega arith, l)))
-  key-at (suc (suc c)) p =
-      number s 4 p (p + 4) _ refl (λ h. number s 4 (p + 4) (p + 8) _ (omega arith) (λ l. number s 4 (p + 8) (p + 12) _ (omega arith) (λ m. yes (ap (λ (n : ℕ). p + n) (sym (stride-three c)), m))))
+  unfolding stride total keyWidths keySkip skip rowThen
+  key-at zero p = head s (keyWidths 0) (λ vs. ret (map word vs)) p 0 (omega arith) (λ h. yes (refl, h))
+  key-at (suc zero) p = head s (keyWidths 1) (λ vs. _>>=_ (skip 2) (λ n. ret (map word vs))) p 0 (omega arith) (λ h. yes (omega arith, h))
+  key-at (suc (suc c)) p = head s (keyWidths 2) (λ vs. ret (map word vs)) p 0 (omega arith) (λ h. yes (ap (λ (n : ℕ). p + n) (sym (stride-three c)), h))
 
   keys-at : (c n p : ℕ) → If (λ is j. (k : ℕ) → k < n → p + k * stride c + total (keyWidths c) ≤ length s) (many n (keyOf c) s p)
   unfolding many
@@ -172,14 +78,12 @@ module _ (s : List ℕ) where
       found j h hs (suc k) l = omega (arith, h .0, hs k (omega arith), suc-mul k (stride c))
 
   target-at : (letters b i : ℕ) → If (λ is j. TargetAt s b) (target letters b s i)
-  unfolding target keys
+  unfolding target keys rowThen total fieldsAt
   target-at letters b i =
-      sought s b i _ (λ l0.
-      number s 1 b (b + 1) _ refl (λ l1. number s 1 (b + 1) (b + 2) _ (omega arith) (λ l2. number s 1 (b + 2) (b + 3) _ (omega arith) (λ l3. number s 1 (b + 3) (b + 4) _ (omega arith) (λ l4.
-      number s 2 (b + 4) (b + 6) _ (omega arith) (λ l6. number s 2 (b + 6) (b + 8) _ (omega arith) (λ l8. number s 4 (b + 8) (b + 12) _ (omega arith) (λ l12.
+      sought s b i _ (λ l. head s targetWidths (targetAfter letters b) b 0 (omega arith) (λ l12.
       sought s (b + get 4 s (b + 8)) (b + 12) _ (λ m.
       after s (many (countOf (get 1 s (b + 2)) (get 2 s (b + 4))) (keyOf (curveOf (get 1 s (b + 2)))) s (b + get 4 s (b + 8))) _ (keys-at (curveOf (get 1 s (b + 2))) (countOf (get 1 s (b + 2)) (get 2 s (b + 4))) (b + get 4 s (b + 8)))
-      (λ ks j h. yes (record { head = l12; keys = h })))))))))))
+      (λ ks j h. yes (record { head = l12; keys = h })))))
 
 -- ---- data
 
@@ -192,11 +96,10 @@ joined-at x is (stop g) q e f = absurd (let z : _≡_ {A = ℕ} 0 1 = cc in omeg
 
 module _ (s : List ℕ) where
   datum-at : (p : ℕ) → If (λ is j. DatumAt s p) (datum s p)
-  unfolding datum
+  unfolding datum rowThen total fieldsAt
   datum-at p =
-      number s 4 p (p + 4) _ refl (λ l4. number s 2 (p + 4) (p + 6) _ (omega arith) (λ l6. number s 2 (p + 6) (p + 8) _ (omega arith) (λ l8.
-      number s 4 (p + 8) (p + 12) _ (omega arith) (λ l12. number s 4 (p + 12) (p + 16) _ (omega arith) (λ l16.
-      table s (3 * get 4 s (p + 8)) (p + 16) _ l16 (λ l. sure _ (record { lists = omega (arith, l) })))))))
+      head s datumWidths (λ vs. datumAfter (fieldsIn vs)) p 0 (omega arith) (λ l16.
+      table s (3 * get 4 s (p + 8)) (p + 16) _ l16 (λ l. sure _ (record { lists = omega (arith, l) })))
 
   -- where the reader stands after d of them, the next one starts
   abbrev DataAt : ℕ → ℕ → Type 0
@@ -215,10 +118,8 @@ module _ (s : List ℕ) where
   -- ---- infos
 
   info-at : (b i : ℕ) → If (λ is j. InfoAt s b) (info b s i)
-  unfolding info
-  info-at b i =
-      sought s b i _ (λ l0. number s 4 b (b + 4) _ refl (λ l4. number s 1 (b + 4) (b + 5) _ (omega arith) (λ l5. number s 1 (b + 5) (b + 6) _ (omega arith) (λ l6.
-      number s 2 (b + 6) (b + 8) _ (omega arith) (λ l8. kind l8 (eqb (get 4 s b) fleu) refl)))))
+  unfolding info rowThen total fieldsAt
+  info-at b i = sought s b i _ (λ l. head s infoWidths (infoAfter b) b 0 (omega arith) (λ l8. kind l8 (eqb (get 4 s b) fleu) refl))
     where
       kind : b + 8 ≤ length s → (t : Bool) → eqb (get 4 s b) fleu ≡ t
           → If (λ is j. InfoAt s b) (given t (_>>=_ (many (get 1 s (b + 4)) datum) (λ ds. ret (word fleu ∷ word (get 1 s (b + 4)) ∷ ds)))
@@ -253,12 +154,10 @@ module _ (s : List ℕ) where
       kind false e = yes (refl, h, λ x. absurd (eqb-false (get 1 s (b + 29)) 2 e x))
 
   content-at : (b i : ℕ) → If (λ is j. ContentAt s b) (content b s i)
-  unfolding content
+  unfolding content rowThen total fieldsAt
   content-at b i =
-      sought s b i _ (λ l0. name s b _
-      (λ l28. number s 1 (b + 28) (b + 29) _ (omega arith) (λ l29. number s 1 (b + 29) (b + 30) _ (omega arith) (λ l30. number s 2 (b + 30) (b + 32) _ (omega arith) (λ l32.
-      after s (infoTable b (get 1 s (b + 29)) s (b + 32)) _ (table-at b l32) (λ at j h. infos l32 j h)))))
-      (λ t. number s 1 (length s) (length s + 1) _ refl (λ l. absurd (omega arith))))
+      sought s b i _ (λ l. name s contentWidths (contentAfter b) b (omega arith) (λ l32.
+      after s (infoTable b (get 1 s (b + 29)) s (b + 32)) _ (table-at b l32) (λ at j h. infos l32 j h)))
     where
       infos : b + 32 ≤ length s → (j : ℕ) → (j ≡ infoTableIn s b) × (infoTableIn s b ≤ length s) × (get 1 s (b + 29) ≡ 2 → b + 36 ≤ length s)
           → If (λ is j. ContentAt s b)
@@ -279,12 +178,12 @@ module _ (s : List ℕ) where
       weaker (visit 0 content (numbersAt n s to) s (to + 4 * n)) (visited s 0 content (ContentAt s) content-at n to (to + 4 * n)) (λ is j hs. (m, λ c k. subst (ContentAt s) (zero-add (get 4 s (to + 4 * c))) (hs c k)))))
 
   body-at : (size : ℕ) → If (λ is j. SectionAt s) (body size s 8)
-  unfolding body
+  unfolding body afterHead rowThen total fieldsAt
   body-at size =
-      number s 2 8 10 _ refl (λ l10. number s 1 10 11 _ refl (λ l11. number s 1 11 12 _ refl (λ l12. number s 2 12 14 _ refl (λ l14. number s 2 14 16 _ refl (λ l16. number s 4 16 20 _ refl (λ l20.
+      head s headWidths (λ vs. afterHead size (headOf vs)) 8 0 (omega arith) (λ l20.
       next s (numbers (get 2 s 12) s 20) _ (λ os j e. next s (visit 20 texture os s j) _ (λ ts k d.
       after s (contents (get 4 s 16) (get 2 s 14) s k) _ (contents-at (get 4 s 16) (get 2 s 14) k) (λ cs m h.
-      sure _ (record { head = l20; table = h .0; contents = h .1 }))))))))))
+      sure _ (record { head = l20; table = h .0; contents = h .1 })))))
 
   section-if : If (λ is j. SectionAt s) (section s 0)
   unfolding section

@@ -98,31 +98,31 @@ rest-behind : (is : List Item) (vs : List ℕ) (s : List ℕ) (q : ℕ) → rest
 rest-behind is vs s q = rest-is is vs s q ∙ ap (before is) (sym (put-before (map word vs) (keyText s q) s))
 
 -- the lines of `datum` behind its head
-abbrev tail : Fields → P (List Item)
-tail h = λ s i. andThen (numbers (3 * h .base) s i) (rest (map word (fieldsOf h))) s
+abbrev pub datumAfter : Fields → P (List Item)
+datumAfter h = λ s i. andThen (numbers (3 * h .base) s i) (rest (map word (fieldsOf h))) s
 
-tail-is : (h : Fields) (s : List ℕ) (q : ℕ) → tail h s q ≡ before (map word (fieldsOf h)) (valuesAndKeyText (3 * h .base) s q)
+after-is : (h : Fields) (s : List ℕ) (q : ℕ) → datumAfter h s q ≡ before (map word (fieldsOf h)) (valuesAndKeyText (3 * h .base) s q)
 unfolding valuesAndKeyText
-tail-is h s q = go (numbers (3 * h .base) s q)
+after-is h s q = go (numbers (3 * h .base) s q)
   where
     go : (r : Res (List ℕ)) → andThen r (rest (map word (fieldsOf h))) s ≡ before (map word (fieldsOf h)) (andThen r (λ vs. λ s i. andThen (keyText s i) (λ key. ret (map word vs ++ key)) s) s)
     go (ok vs j) = rest-behind (map word (fieldsOf h)) vs s j
     go (stop f) = refl
 
 module _ (s : List ℕ) (p : ℕ) where
-  datum-row : datum s p ≡ rowThen widths (λ vs. tail (fieldsIn vs)) s p
+  datum-row : datum s p ≡ rowThen widths (λ vs. datumAfter (fieldsIn vs)) s p
   unfolding datum rowThen
   datum-row = refl
 
-  datum-head : datum s p ≡ andThen (head s p) tail s
-  datum-head = datum-row ∙ sym (row-bind widths (λ vs. ret (fieldsIn vs)) tail s p) ∙ ap (λ (r : Res Fields). andThen r tail s) (sym (head-row s p))
+  datum-head : datum s p ≡ andThen (head s p) datumAfter s
+  datum-head = datum-row ∙ sym (row-bind widths (λ vs. ret (fieldsIn vs)) datumAfter s p) ∙ ap (λ (r : Res Fields). andThen r datumAfter s) (sym (head-row s p))
 
   -- the same for the arms over a head
   pub datum-on : (h : Fields) (q : ℕ) → ok h q ≡ head s p → datum s p ≡ before (map word (fieldsOf h)) (valuesAndKeyText (3 * h .base) s q)
-  datum-on h q e = datum-head ∙ ap (λ (r : Res Fields). andThen r tail s) (sym e) ∙ tail-is h s q
+  datum-on h q e = datum-head ∙ ap (λ (r : Res Fields). andThen r datumAfter s) (sym e) ∙ after-is h s q
 
   pub datum-no : (f : Fault) → stop f ≡ head s p → datum s p ≡ stop f
-  datum-no f e = datum-head ∙ ap (λ (r : Res Fields). andThen r tail s) (sym e)
+  datum-no f e = datum-head ∙ ap (λ (r : Res Fields). andThen r datumAfter s) (sym e)
 
 -- ---- the head's words
 

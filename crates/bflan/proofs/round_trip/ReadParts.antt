@@ -25,7 +25,15 @@ use Rattle.bflan.specs.pai1.RecordAt.{nameSize, reached, partsAt, endedA
 use Rattle.bflan.specs.pai1.Record.{Standard, ExtendedUserData, keyWidths, targetCells, datumCells, infoCells, contentCells, cells}
 use Rattle.bflan.specs.Cells.{Cell, word as wordCell, chars, each, textCells}
 use Rattle.bflan.specs.Items.{shownAt}
-use Rattle.bflan.proofs.place.Locating.{If, if-ok, yes, next, after, number, sought, table, name, stride-three, table-at}
+use Rattle.bflan.proofs.place.Locating.{stride-three, table-at}
+use Rattle.bflan.specs.inner.SectionParts.{afterHead}
+use Rattle.bflan.proofs.reader.ContentParts.{contentAfter, widths as contentWidths}
+use Rattle.bflan.proofs.reader.DatumParts.{fieldsIn, datumAfter, widths as datumWidths}
+use Rattle.bflan.proofs.reader.InfoParts.{infoAfter, widths as infoWidths}
+use Rattle.bflan.proofs.reader.Rows.{rowThen, fieldsAt}
+use Rattle.bflan.proofs.reader.SectionParts.{headOf, widths as headWidths}
+use Rattle.bflan.proofs.reader.TargetParts.{targetAfter, widths as targetWidths}
+use Rattle.bflan.proofs.reader.Unstopped.{If, if-ok, yes, next, after, number, head, sought, table, name}
 use Rattle.bflan.proofs.round_trip.ReadBack.{shownIn, shown-append, shown-words}
 
 module _ (s : List ℕ) where
@@ -82,12 +90,12 @@ module _ (s : List ℕ) where
 
   -- keys
   key-shown : (c p : ℕ) → If (λ is j. (shownIn s is ≡ map wordCell (numbersIn (keyWidths c) s p)) × (j ≡ p + stride c)) (keyOf c s p)
-  unfolding stride total keyWidths keySkip skip numbersIn shownIn
-  key-shown zero p = number s 4 p (p + 4) _ refl (λ h. yes (refl, refl))
-  key-shown (suc zero) p = number s 4 p (p + 4) _ refl (λ h. number s 2 (p + 4) (p + 6) _ (omega arith) (λ l. yes (refl, omega arith)))
+  unfolding stride total keyWidths keySkip skip rowThen fieldsAt numbersIn shownIn
+  key-shown zero p = head s (keyWidths 0) (λ vs. ret (map word vs)) p 0 (omega arith) (λ h. yes (refl, refl))
+  key-shown (suc zero) p = head s (keyWidths 1) (λ vs. _>>=_ (skip 2) (λ n. ret (map word vs))) p 0 (omega arith) (λ h. yes (refl, omega arith))
   key-shown (suc (suc c)) p =
-      number s 4 p (p + 4) _ refl (λ h. number s 4 (p + 4) (p + 8) _ (omega arith) (λ l. number s 4 (p + 8) (p + 12) _ (omega arith) (λ m.
-      yes (let e : p + 4 + 4 ≡ p + 8 = omega arith in rw e, ap (λ (n : ℕ). p + n) (sym (stride-three c))))))
+      head s (keyWidths 2) (λ vs. ret (map word vs)) p 0 (omega arith) (λ h.
+      yes (let e : p + 4 + 4 ≡ p + 8 = omega arith in rw e, ap (λ (n : ℕ). p + n) (sym (stride-three c))))
 
   keys-shown : (c n p : ℕ) → If (Shows (each (map wordCell)) (keysAt s c n p)) (many n (keyOf c) s p)
   unfolding many keysAt
@@ -106,15 +114,13 @@ module _ (s : List ℕ) where
       (sym (length-keys s (curveOf (get 1 s (b + 2))) (countOf (get 1 s (b + 2)) (get 2 s (b + 4))) (b + get 4 s (b + 8)))) h
 
   target-shown : (letters b i : ℕ) → If (Shows targetCells (targetAt s letters b)) (target letters b s i)
-  unfolding target keys
+  unfolding target keys rowThen total fieldsAt
   target-shown letters b i =
-      sought s b i _ (λ l0.
-      number s 1 b (b + 1) _ refl (λ l1. number s 1 (b + 1) (b + 2) _ (omega arith) (λ l2. number s 1 (b + 2) (b + 3) _ (omega arith) (λ l3. number s 1 (b + 3) (b + 4) _ (omega arith) (λ l4.
-      number s 2 (b + 4) (b + 6) _ (omega arith) (λ l6. number s 2 (b + 6) (b + 8) _ (omega arith) (λ l8. number s 4 (b + 8) (b + 12) _ (omega arith) (λ l12.
+      sought s b i _ (λ l. head s targetWidths (targetAfter letters b) b 0 (omega arith) (λ l12.
       sought s (b + get 4 s (b + 8)) (b + 12) _ (λ m.
       after s (many (countOf (get 1 s (b + 2)) (get 2 s (b + 4))) (keyOf (curveOf (get 1 s (b + 2)))) s (b + get 4 s (b + 8))) _
       (keys-shown (curveOf (get 1 s (b + 2))) (countOf (get 1 s (b + 2)) (get 2 s (b + 4))) (b + get 4 s (b + 8)))
-      (λ ks j h. yes (target-cells letters b ks (unfold targetAt in h))))))))))))
+      (λ ks j h. yes (target-cells letters b ks (unfold targetAt in h))))))
 
   -- data
   datum-cells : (p : ℕ) (key : List Item) → shownIn s key ≡ textCells (datumAt s p .key)
@@ -126,16 +132,15 @@ module _ (s : List ℕ) where
       (shown-append s (map word (numbersAt (3 * get 4 s (p + 8)) s (p + 16))) key ∙ ap₂ (λ (a b : List Cell). a ++ b) (shown-words s (numbersAt (3 * get 4 s (p + 8)) s (p + 16))) h)
 
   datum-shown : (p : ℕ) → If (Shows datumCells (datumAt s p)) (datum s p)
-  unfolding datum
+  unfolding datum rowThen total fieldsAt
   datum-shown p =
-      number s 4 p (p + 4) _ refl (λ l4. number s 2 (p + 4) (p + 6) _ (omega arith) (λ l6. number s 2 (p + 6) (p + 8) _ (omega arith) (λ l8.
-      number s 4 (p + 8) (p + 12) _ (omega arith) (λ l12. number s 4 (p + 12) (p + 16) _ (omega arith) (λ l16.
+      head s datumWidths (λ vs. datumAfter (fieldsIn vs)) p 0 (omega arith) (λ l16.
       table s (3 * get 4 s (p + 8)) (p + 16) _ l16 (λ l.
       number s 4 (p + 16 + 4 * (3 * get 4 s (p + 8))) (p + 16 + 4 * (3 * get 4 s (p + 8)) + 4) _ refl (λ m.
       sought s (p + 16 + 4 * (3 * get 4 s (p + 8)) + get 4 s (p + 16 + 4 * (3 * get 4 s (p + 8)))) (p + 16 + 4 * (3 * get 4 s (p + 8)) + 4) _ (λ k.
       after s (oneEnded s (p + 16 + 4 * (3 * get 4 s (p + 8)) + get 4 s (p + 16 + 4 * (3 * get 4 s (p + 8))))) _
       (ended-shown (p + 16 + 4 * (3 * get 4 s (p + 8)) + get 4 s (p + 16 + 4 * (3 * get 4 s (p + 8)))))
-      (λ key j h. yes (datum-cells p key (unfold datumAt in h)))))))))))
+      (λ key j h. yes (datum-cells p key (unfold datumAt in h)))))))
 
   data-shown : (n p : ℕ) → If (Shows (each datumCells) (dataAt s n p)) (many n datum s p)
   unfolding many dataAt
@@ -152,10 +157,8 @@ module _ (s : List ℕ) where
 
   -- infos
   info-shown : (b i : ℕ) → If (Shows infoCells (infoAt s b)) (info b s i)
-  unfolding info infoAt infoCells shownIn
-  info-shown b i =
-      sought s b i _ (λ l0. number s 4 b (b + 4) _ refl (λ l4. number s 1 (b + 4) (b + 5) _ (omega arith) (λ l5. number s 1 (b + 5) (b + 6) _ (omega arith) (λ l6.
-      number s 2 (b + 6) (b + 8) _ (omega arith) (λ l8. kind l8 (eqb (get 4 s b) fleu))))))
+  unfolding info infoAt infoCells shownIn rowThen total fieldsAt
+  info-shown b i = sought s b i _ (λ l. head s infoWidths (infoAfter b) b 0 (omega arith) (λ l8. kind l8 (eqb (get 4 s b) fleu)))
     where
       n : ℕ
       n = get 1 s (b + 4)
@@ -184,12 +187,10 @@ module _ (s : List ℕ) where
       (sym (length-parts s (infoAt s) b (get 1 s (b + 28)) (infoTableIn s b))) h
 
   content-shown : (b i : ℕ) → If (Shows contentCells (contentAt s b)) (content b s i)
-  unfolding content
+  unfolding content rowThen total fieldsAt
   content-shown b i =
-      sought s b i _ (λ l0. name s b _
-      (λ l28. number s 1 (b + 28) (b + 29) _ (omega arith) (λ l29. number s 1 (b + 29) (b + 30) _ (omega arith) (λ l30. number s 2 (b + 30) (b + 32) _ (omega arith) (λ l32.
-      after s (infoTable b (get 1 s (b + 29)) s (b + 32)) _ (table-at s b l32) (λ at j h. infos j (h .0) (h .1))))))
-      (λ t. number s 1 (length s) (length s + 1) _ refl (λ l. absurd (omega arith))))
+      sought s b i _ (λ l. name s contentWidths (contentAfter b) b (omega arith) (λ l32.
+      after s (infoTable b (get 1 s (b + 29)) s (b + 32)) _ (table-at s b l32) (λ at j h. infos j (h .0) (h .1))))
     where
       infos : (j : ℕ) → j ≡ infoTableIn s b → infoTableIn s b ≤ length s
           → If (Shows contentCells (contentAt s b))
@@ -216,13 +217,13 @@ module _ (s : List ℕ) where
       (shown-append s ts cs ∙ ap₂ (λ (a b : List Cell). a ++ b) h k)
 
   body-shown : (size : ℕ) → If (Shows cells (recordAt s)) (body size s 8)
-  unfolding body
+  unfolding body afterHead rowThen total fieldsAt
   body-shown size =
-      number s 2 8 10 _ refl (λ l10. number s 1 10 11 _ refl (λ l11. number s 1 11 12 _ refl (λ l12. number s 2 12 14 _ refl (λ l14. number s 2 14 16 _ refl (λ l16. number s 4 16 20 _ refl (λ l20.
+      head s headWidths (λ vs. afterHead size (headOf vs)) 8 0 (omega arith) (λ l20.
       table s (get 2 s 12) 20 _ l20 (λ l.
       after s (visit 20 texture (numbersAt (get 2 s 12) s 20) s (20 + 4 * get 2 s 12)) _ (parts-shown textCells (endedAt s) 20 texture texture-shown (get 2 s 12) 20 (20 + 4 * get 2 s 12)) (λ ts k ht.
       after s (contents (get 4 s 16) (get 2 s 14) s k) _ (contents-shown (get 4 s 16) (get 2 s 14) k) (λ cs m hc.
-      sought s size m _ (λ z. yes (section-cells ts cs (unfold recordAt in ht) (unfold recordAt in hc))))))))))))
+      sought s size m _ (λ z. yes (section-cells ts cs (unfold recordAt in ht) (unfold recordAt in hc)))))))
 
   section-shows : If (Shows cells (recordAt s)) (section s 0)
   unfolding section

@@ -1,0 +1,131 @@
+-- What holds of a reading that is not stopped: of single reads, heads and tables, and of readings one after another.
+-- Assumes nothing.
+use Prim.Native.Nat.{ℕ, zero, suc, _+_, _-_, _*_, _<_, _≤_, min}
+use mathlib.Core.Path.{_≡_, refl, _∙_}
+use mathlib.Core.Bool.{Bool, true, false}
+use mathlib.Core.List.{List}
+use native.Mathlib.Omega.{arith}
+use borrow.Author.Tests.{leb-true, leb-false, ltb-true, ltb-false}
+use lib.Dec.{leb, ltb}
+use lib.ListN.{length}
+use Rattle.core.specs.Number.{get}
+use Rattle.core.specs.Run.{numbersAt, numbersOf}
+use Rattle.core.specs.declared.run.Run.{Run}
+use Rattle.core.specs.declared.run.Run.the-variants.{Next, Cut}
+use Rattle.core.proofs.Runs.{table-fits, numbers-next}
+use Rattle.bflan.specs.declared.fault.Fault.{Fault}
+use Rattle.bflan.specs.pai1.Places.{total}
+use Rattle.bflan.specs.Reader.{Res, ok, stop, P, andThen, Item, text, num, seekTo, fixedText, numbers, visit}
+use Rattle.bflan.specs.pai1.RecordAt.{nameSize}
+use Rattle.bflan.proofs.reader.ContentParts.{name-there, name-none}
+use Rattle.bflan.proofs.reader.Emits.{sought-there, sought-over}
+use Rattle.bflan.proofs.reader.KeyRuns.{asNumbers, num-there, num-short, numbers-run}
+use Rattle.bflan.proofs.reader.Rows.{rowThen, behind, behind-is, fieldsAt, row-there, row-cut}
+
+-- of its value and of the place behind it
+abbrev pub Holds : {A : Type 0} → (A → ℕ → Type 0) → Res A → Type 0
+Holds Q (ok v j) = Q v j
+Holds Q (stop f) = Unit
+
+pub record If {A : Type 0} (Q : A → ℕ → Type 0) (r : Res A) : Type 0 where
+  pub holds : Holds Q r
+
+pub if-ok : {A : Type 0} (Q : A → ℕ → Type 0) (r : Res A) {v : A} {j : ℕ} → If Q r → r ≡ ok v j → Q v j
+if-ok Q r h e = rw e at (h .holds)
+
+module _ {A : Type 0} {Q : A → ℕ → Type 0} where
+  pub yes : {v : A} {j : ℕ} → Q v j → If Q (ok v j)
+  yes h = record { holds = h }
+
+  pub no : (f : Fault) → If Q (stop f)
+  no f = record { holds = tt }
+
+pub weaker : {A : Type 0} {Q R : A → ℕ → Type 0} (r : Res A) → If Q r → ((v : A) (j : ℕ) → Q v j → R v j) → If R r
+weaker {Q = Q} (ok v j) h f = yes (f v j (h .holds))
+weaker (stop g) h f = no g
+
+-- a fact that is known already
+pub sure : {A : Type 0} {X : Type 0} (r : Res A) → X → If (λ v j. X) r
+sure (ok v j) x = yes x
+sure (stop f) x = no f
+
+module _ (s : List ℕ) {A B : Type 0} {Q : B → ℕ → Type 0} (r : Res A) (q : A → P B) where
+  -- one reading after another
+  pub next : ((v : A) (j : ℕ) → r ≡ ok v j → If Q (q v s j)) → If Q (andThen r q s)
+  next f = go r refl
+    where
+      go : (x : Res A) → r ≡ x → If Q (andThen x q s)
+      go (ok v j) e = f v j e
+      go (stop g) e = no g
+
+  pub after : {R : A → ℕ → Type 0} → If R r → ((v : A) (j : ℕ) → R v j → If Q (q v s j)) → If Q (andThen r q s)
+  after {R} h f = next (λ v j e. f v j (if-ok R r h e))
+
+-- ---- single reads: what follows may use that they are in the section
+
+module _ (s : List ℕ) {B : Type 0} {Q : B → ℕ → Type 0} where
+  pub number : (k i p : ℕ) (q : ℕ → P B) → i + k ≡ p → (p ≤ length s → If Q (q (get k s i) s p)) → If Q (andThen (num k s i) q s)
+  number k i p q e f = go (leb (i + k) (length s)) refl
+    where
+      go : (b : Bool) → leb (i + k) (length s) ≡ b → If Q (andThen (num k s i) q s)
+      go true t = let h = leb-true (i + k) (length s) t in rw (num-there k s i h, e) (f (omega (arith, h, e)))
+      go false t = rw (num-short k s i (leb-false (i + k) (length s) t)) (no _)
+
+  -- a head of fixed fields, whose first number stands o behind b
+  pub head : (ks : List ℕ) (c : List ℕ → P B) (b o : ℕ) → 0 < total ks → (b + (o + total ks) ≤ length s → If Q (c (fieldsAt ks s b o) s (b + (o + total ks))))
+      → If Q (rowThen ks c s (behind b o))
+  head ks c b o z f = go (leb (b + (o + total ks)) (length s)) refl
+    where
+      go : (x : Bool) → leb (b + (o + total ks)) (length s) ≡ x → If Q (rowThen ks c s (behind b o))
+      go true t = let h = leb-true (b + (o + total ks)) (length s) t in rw (row-there s ks c b o h) (f h)
+      go false t =
+          let h = leb-false (b + (o + total ks)) (length s) t in
+          let e = behind-is b o in
+          rw (row-cut s ks c (behind b o) z (omega (arith, h, e))) (no _)
+
+  pub sought : (to i : ℕ) (q : ℕ → P B) → (to ≤ length s → If Q (q to s to)) → If Q (andThen (seekTo to s i) q s)
+  sought to i q f = go (leb to (length s)) refl
+    where
+      go : (b : Bool) → leb to (length s) ≡ b → If Q (andThen (seekTo to s i) q s)
+      go true t = let h = leb-true to (length s) t in rw (sought-there s to i h) (f h)
+      go false t = rw (sought-over s to i (leb-false to (length s) t)) (no _)
+
+  pub table : (n i : ℕ) (q : List ℕ → P B) → i ≤ length s → (i + 4 * n ≤ length s → If Q (q (numbersAt n s i) s (i + 4 * n))) → If Q (andThen (numbers n s i) q s)
+  table n i q h f = go (numbersOf n s i) refl
+    where
+      go : (r : Run) → numbersOf n s i ≡ r → If Q (andThen (numbers n s i) q s)
+      go (Next p) e =
+          let d : numbers n s i ≡ ok (numbersAt n s i) (i + 4 * n) = numbers-run n s i ∙ rw (e, numbers-next n s i p e .1) in
+          rw d (f (table-fits n s i p h e))
+      go (Cut o k) e = let d : numbers n s i ≡ asNumbers (Cut o k) (numbersAt n s i) = numbers-run n s i ∙ rw e in rw d (no _)
+
+  -- a name and a head behind it: where the section's end cuts the name, the head is refused
+  pub name : (ks : List ℕ) (c : Item → List ℕ → P B) (b : ℕ) → 0 < total ks
+      → (b + (28 + total ks) ≤ length s → If Q (c (text b (nameSize s b)) (fieldsAt ks s b 28) s (b + (28 + total ks))))
+      → If Q (andThen (fixedText 28 s b) (λ t. rowThen ks (c t)) s)
+  name ks c b z f = go (leb (b + 28) (length s)) refl (ltb b (length s)) refl
+    where
+      go : (x : Bool) → leb (b + 28) (length s) ≡ x → (y : Bool) → ltb b (length s) ≡ y → If Q (andThen (fixedText 28 s b) (λ t. rowThen ks (c t)) s)
+      go x t false u = rw (name-none s b (ltb-false b (length s) u)) (no _)
+      go true t true u =
+          let h = leb-true (b + 28) (length s) t in
+          let e : b + min 28 (length s - b) ≡ b + 28 = omega arith in
+          rw (name-there s b (ltb-true b (length s) u), e) (head ks (c (text b (nameSize s b))) b 28 z f)
+      go false t true u =
+          let h = leb-false (b + 28) (length s) t in
+          let e : b + min 28 (length s - b) ≡ length s = omega (arith, h, ltb-true b (length s) u) in
+          rw (name-there s b (ltb-true b (length s) u), e) (head ks (c (text b (nameSize s b))) (length s) 0 z (λ l. absurd (omega arith)))
+
+-- ---- parts at the offsets of a table
+
+module _ (s : List ℕ) (base : ℕ) (p : ℕ → P (List Item)) (Good : ℕ → Type 0) (h : (b i : ℕ) → If (λ is j. Good b) (p b s i)) where
+  pub visited : (n at i : ℕ) → If (λ is j. (k : ℕ) → k < n → Good (base + get 4 s (at + 4 * k))) (visit base p (numbersAt n s at) s i)
+  unfolding visit numbersAt
+  visited zero at i = yes (λ k l. absurd (omega arith))
+  visited (suc n) at i =
+      after s (p (base + get 4 s at) s i) _ (h (base + get 4 s at) i) (λ x j g.
+      after s (visit base p (numbersAt n s (at + 4)) s j) _ (visited n (at + 4) j) (λ xs j′ gs. yes (found g gs)))
+    where
+      found : Good (base + get 4 s at) → ((k : ℕ) → k < n → Good (base + get 4 s (at + 4 + 4 * k))) → (k : ℕ) → k < suc n → Good (base + get 4 s (at + 4 * k))
+      found g gs zero l = let e : at + 4 * 0 ≡ at = omega arith in rw e g
+      found g gs (suc k) l = let e : at + 4 * suc k ≡ at + 4 + 4 * k = omega arith in rw e (gs k (omega arith))
