@@ -42,24 +42,24 @@ row-bind {A} {B} (k ∷ ks) c d s i = go (num k s i) (λ v j. row-bind ks (λ vs
 
 -- ---- the numbers of a head at b, each by how far behind b it stands
 
-abbrev pub behind : ℕ → ℕ → ℕ
-behind b zero = b
-behind b (suc o) = b + suc o
+abbrev pub offsetBy : ℕ → ℕ → ℕ
+offsetBy b zero = b
+offsetBy b (suc o) = b + suc o
 
-pub behind-is : (b o : ℕ) → behind b o ≡ b + o
-behind-is b zero = omega arith
-behind-is b (suc o) = refl
+pub offset-is : (b o : ℕ) → offsetBy b o ≡ b + o
+offset-is b zero = omega arith
+offset-is b (suc o) = refl
 
 unfoldable pub fieldsAt : List ℕ → List ℕ → ℕ → ℕ → List ℕ
 fieldsAt [] s b o = []
-fieldsAt (k ∷ ks) s b o = get k s (behind b o) ∷ fieldsAt ks s b (o + k)
+fieldsAt (k ∷ ks) s b o = get k s (offsetBy b o) ∷ fieldsAt ks s b (o + k)
 
 fields-are : (ks s : List ℕ) (b o : ℕ) → numbersIn ks s (b + o) ≡ fieldsAt ks s b o
 unfolding numbersIn fieldsAt
 fields-are [] s b o = refl
 fields-are (k ∷ ks) s b o =
     let e : b + o + k ≡ b + (o + k) = omega arith in
-    rw (e, behind-is b o, fields-are ks s b (o + k))
+    rw (e, offset-is b o, fields-are ks s b (o + k))
 
 -- ---- the read that is refused, by the first width
 
@@ -82,10 +82,10 @@ module _ {A : Type 0} (s : List ℕ) where
       rw (num-there k s i (omega arith), e) (row-whole ks (λ vs. c (get k s i ∷ vs)) (i + k) (omega arith))
 
   -- its first number stands o behind b
-  pub row-there : (ks : List ℕ) (c : List ℕ → P A) (b o : ℕ) → b + (o + total ks) ≤ length s → rowThen ks c s (behind b o) ≡ c (fieldsAt ks s b o) s (b + (o + total ks))
+  pub row-there : (ks : List ℕ) (c : List ℕ → P A) (b o : ℕ) → b + (o + total ks) ≤ length s → rowThen ks c s (offsetBy b o) ≡ c (fieldsAt ks s b o) s (b + (o + total ks))
   row-there ks c b o h =
       let e : b + o + total ks ≡ b + (o + total ks) = omega arith in
-      rw (behind-is b o) (row-whole ks c (b + o) (omega arith) ∙ ap₂ (λ (vs : List ℕ) (j : ℕ). c vs s j) (fields-are ks s b o) e)
+      rw (offset-is b o) (row-whole ks c (b + o) (omega arith) ∙ ap₂ (λ (vs : List ℕ) (j : ℕ). c vs s j) (fields-are ks s b o) e)
 
   -- ---- it is cut
 

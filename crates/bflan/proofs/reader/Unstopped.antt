@@ -20,7 +20,7 @@ use Rattle.bflan.specs.pai1.RecordAt.{nameSize}
 use Rattle.bflan.proofs.reader.ContentParts.{name-there, name-none}
 use Rattle.bflan.proofs.reader.Emits.{sought-there, sought-over}
 use Rattle.bflan.proofs.reader.KeyRuns.{asNumbers, num-there, num-short, numbers-run}
-use Rattle.bflan.proofs.reader.Rows.{rowThen, behind, behind-is, fieldsAt, row-there, row-cut}
+use Rattle.bflan.proofs.reader.Rows.{rowThen, offsetBy, offset-is, fieldsAt, row-there, row-cut}
 
 -- of its value and of the place behind it
 abbrev pub Holds : {A : Type 0} → (A → ℕ → Type 0) → Res A → Type 0
@@ -73,15 +73,15 @@ module _ (s : List ℕ) {B : Type 0} {Q : B → ℕ → Type 0} where
 
   -- a head of fixed fields, whose first number stands o behind b
   pub head : (ks : List ℕ) (c : List ℕ → P B) (b o : ℕ) → 0 < total ks → (b + (o + total ks) ≤ length s → If Q (c (fieldsAt ks s b o) s (b + (o + total ks))))
-      → If Q (rowThen ks c s (behind b o))
+      → If Q (rowThen ks c s (offsetBy b o))
   head ks c b o z f = go (leb (b + (o + total ks)) (length s)) refl
     where
-      go : (x : Bool) → leb (b + (o + total ks)) (length s) ≡ x → If Q (rowThen ks c s (behind b o))
+      go : (x : Bool) → leb (b + (o + total ks)) (length s) ≡ x → If Q (rowThen ks c s (offsetBy b o))
       go true t = let h = leb-true (b + (o + total ks)) (length s) t in rw (row-there s ks c b o h) (f h)
       go false t =
           let h = leb-false (b + (o + total ks)) (length s) t in
-          let e = behind-is b o in
-          rw (row-cut s ks c (behind b o) z (omega (arith, h, e))) (no _)
+          let e = offset-is b o in
+          rw (row-cut s ks c (offsetBy b o) z (omega (arith, h, e))) (no _)
 
   pub sought : (to i : ℕ) (q : ℕ → P B) → (to ≤ length s → If Q (q to s to)) → If Q (andThen (seekTo to s i) q s)
   sought to i q f = go (leb to (length s)) refl

@@ -30,7 +30,7 @@ use Rattle.bflan.specs.inner.LayoutParts.{targetHead, datumHead, datumFr
 use Rattle.bflan.proofs.reader.Inversion.{TextAt, text-at, times-none, times-more, times-length, WordsAt, row-at, DatumAt, datum-at, info-at, info-extended, info-standard, ContentAt, content-at, SectionAt, section-at, TargetAt, target-at}
 use Rattle.bflan.proofs.Layouts.{size-written, section-size}
 use Rattle.bflan.proofs.judge.Measures.{size-parts, size-numbers}
-use Rattle.bflan.proofs.reader.Rows.{behind, behind-is}
+use Rattle.bflan.proofs.reader.Rows.{offsetBy, offset-is}
 use Rattle.bflan.proofs.writer.Pens.{laid-fine, behind-fine, listed-size, Wrote, wrote-number, wrote-bytes, wrote-then, wrote-like, wrote-patched, Splits, split-behind, head-ready, head-done, whole-laid, whole-behind, like-ready, like-behind, like-laid, wrote-code}
 
 -- ---- fields
@@ -72,17 +72,17 @@ counts-stored {at = at} e f g = wrote-then (wrote-number e) (wrote-then (wrote-n
 
 -- ---- a row of numbers, stored one after another: the first of them o behind at
 
-pub data Stored (at : ℕ) : List ℕ → List ℕ → ℕ → List ℕ → List ℕ → Type 0 where
-  stored-none : {o : ℕ} {l : List ℕ} → Stored at [] [] o l l
-  stored-more : {k u v o : ℕ} {ks vs l m n : List ℕ} → m ≡ put k l (behind at o) u → u ≡ v → Stored at ks vs (o + k) m n → Stored at (k ∷ ks) (v ∷ vs) o l n
+pub data Puts (at : ℕ) : List ℕ → List ℕ → ℕ → List ℕ → List ℕ → Type 0 where
+  puts-none : {o : ℕ} {l : List ℕ} → Puts at [] [] o l l
+  puts-more : {k u v o : ℕ} {ks vs l m n : List ℕ} → m ≡ put k l (offsetBy at o) u → u ≡ v → Puts at ks vs (o + k) m n → Puts at (k ∷ ks) (v ∷ vs) o l n
 
-stored-from : {at o : ℕ} {ks vs l n : List ℕ} → Stored at ks vs o l n → Wrote l (at + o) (rowLay ks vs) n
+puts-from : {at o : ℕ} {ks vs l n : List ℕ} → Puts at ks vs o l n → Wrote l (at + o) (rowLay ks vs) n
 unfolding rowLay written size
-stored-from stored-none = record { same = refl }
-stored-from {at} (stored-more {o = o} e d r) = wrote-then (wrote-number (rw (behind-is at o, d) at e)) (stored-from r) (omega arith)
+puts-from puts-none = record { same = refl }
+puts-from {at} (puts-more {o = o} e d r) = wrote-then (wrote-number (rw (offset-is at o, d) at e)) (puts-from r) (omega arith)
 
-pub row-stored : {at : ℕ} {ks vs l n : List ℕ} → Stored at ks vs 0 l n → n ≡ sets l at (written (rowLay ks vs))
-row-stored {at} r = let e : at + 0 ≡ at = omega arith in rw e at (stored-from r .same)
+pub row-stored : {at : ℕ} {ks vs l n : List ℕ} → Puts at ks vs 0 l n → n ≡ sets l at (written (rowLay ks vs))
+row-stored {at} r = let e : at + 0 ≡ at = omega arith in rw e at (puts-from r .same)
 
 -- ---- a text, and what is behind it
 

@@ -2,7 +2,7 @@
 -- Assumes nothing.
 use native.Mathlib.Omega.{arith}
 use Rattle.bflan.specs.inner.LayoutParts.{datumHead}
-use Rattle.bflan.proofs.writer.LayoutParts.{stored-none, stored-more, row-stored}
+use Rattle.bflan.proofs.writer.LayoutParts.{puts-none, puts-more, row-stored}
 use borrow.Author.Needs.{needs}
 use Rattle.bflan.proofs.writer.datum.put_head.Statement.{statement}
 use Rattle.bflan.proofs.writer.datum.put_head.Tie as tie
@@ -21,7 +21,7 @@ add-word-of-4 c = omega (arith, c .before .before .before .before .before .befor
 
 returns : tie.Need-returns
 unfolding datumHead
-returns c = row-stored (stored-more (c .before .before .before .before .before .before .before .before .before .before .before .before .before .before .before .before .before .before .write-u32 .ensures) (c .before .before .before .before .before .before .before .before .before .before .before .before .before .before .before .before .before .before .before .before .before .before .before .before .word-of .ensures) (stored-more (c .before .before .before .before .before .before .before .before .before .before .before .before .before .before .put-half .ensures) (c .before .before .before .before .before .before .before .before .before .before .before .before .before .before .before .before .before .before .before .before .before .before .before .word-of2 .ensures) (stored-more (c .before .before .before .before .before .before .before .before .before .before .put-half2 .ensures) (c .before .before .before .before .before .before .before .before .before .before .before .before .before .before .before .before .before .before .before .before .before .before .word-of3 .ensures) (stored-more (c .before .before .before .before .before .before .write-u322 .ensures) (c .before .before .before .before .before .before .before .before .before .before .before .before .before .before .before .before .before .before .before .before .before .word-of4 .ensures) (stored-more (c .before .before .write-u323 .ensures) (c .before .before .before .before .before .before .before .before .before .before .before .before .before .before .before .before .before .before .before .before .word-of5 .ensures) stored-none)))))
+returns c = row-stored (puts-more (c .before .before .before .before .before .before .before .before .before .before .before .before .before .before .before .before .before .before .write-u32 .ensures) (c .before .before .before .before .before .before .before .before .before .before .before .before .before .before .before .before .before .before .before .before .before .before .before .before .word-of .ensures) (puts-more (c .before .before .before .before .before .before .before .before .before .before .before .before .before .before .put-half .ensures) (c .before .before .before .before .before .before .before .before .before .before .before .before .before .before .before .before .before .before .before .before .before .before .before .word-of2 .ensures) (puts-more (c .before .before .before .before .before .before .before .before .before .before .put-half2 .ensures) (c .before .before .before .before .before .before .before .before .before .before .before .before .before .before .before .before .before .before .before .before .before .before .word-of3 .ensures) (puts-more (c .before .before .before .before .before .before .write-u322 .ensures) (c .before .before .before .before .before .before .before .before .before .before .before .before .before .before .before .before .before .before .before .before .before .word-of4 .ensures) (puts-more (c .before .before .write-u323 .ensures) (c .before .before .before .before .before .before .before .before .before .before .before .before .before .before .before .before .before .before .before .before .word-of5 .ensures) puts-none)))))
 
 pub put-head-spec : {M : Type 1} → statement M
 put-head-spec =
