@@ -1,3 +1,4 @@
+pub mod Inversion
 pub mod JudgeParts
 pub mod Judging
 pub mod Laws

@@ -4,7 +4,6 @@ pub mod Counts
 pub mod DatumParts
 pub mod Emits
 pub mod InfoParts
-pub mod Inversion
 pub mod KeyRuns
 pub mod Rows
 pub mod SectionBounds

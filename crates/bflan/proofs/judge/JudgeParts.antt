@@ -15,20 +15,20 @@ use Rattle.core.specs.Number.{le}
 use Rattle.bflan.specs.declared.judge.Mark.{Mark}
 use Rattle.bflan.specs.declared.judge.Verdict.{Verdict}
 use Rattle.bflan.specs.declared.judge.Verdict.the-variants.{Fine, BadWord, BadText}
-use Rattle.bflan.specs.Judge.{Judged, fine, badWord, badText, J, andThen, _>>=_, ret, given, nextWord, nextChars, nextText, times, wide, row, ends, whole}
+use Rattle.bflan.specs.Judge.{Judged, fine, badWord, badText, J, andThen, ret, nextWord, nextChars, nextText, times, wide, row, ends, whole}
 use Rattle.bflan.specs.pai1.Judge.{target, datum, info, content, pane}
-use Rattle.bflan.specs.pai1.Letters.{fleu, lettersFit, targetFits}
+use Rattle.bflan.specs.pai1.Letters.{fleu}
 use Rattle.bflan.specs.Layout.{zeros, number, size, parts, ended}
 use Rattle.bflan.specs.pai1.Layout.{targetLay, datumLay, infoHead, infoLay, infosOut, tableFrom, infosFrom, contentBody, contentLay, namesEnd, contentTable, sectionLay, keySkip, keyLay}
 use Rattle.bflan.specs.inner.Measure.{verdictOf}
 use Rattle.bflan.specs.inner.Measure.{fits, grown, filledUp, padded}
 use Rattle.bflan.specs.inner.JudgeParts.{ValuesAndKey, valuesAndKey, afterName, afterHead}
 use Rattle.bflan.specs.pai1.Places.{total}
-use Rattle.bflan.specs.pai1.Record.{AnimTarget, ExtendedUserDataAnim, Standard, ExtendedUserData, AnimInfo, AnimContent, PaneAnimInfo, keyWidths}
+use Rattle.bflan.specs.pai1.Record.{AnimTarget, Standard, AnimInfo, AnimContent, PaneAnimInfo, keyWidths}
 use Rattle.bflan.specs.inner.Walk.{sat}
 use Rattle.bflan.proofs.Layouts.{size-row, size-table, user-size}
-use Rattle.bflan.proofs.reader.Inversion.{times-length}
-use Rattle.bflan.proofs.judge.Measures.{testsThen, Tested, bad-at, marked, measured-padded, sat-filled, grown-sat, was-word, was-text, was-fine, measured-by, measured-grown, measured-made, then-grown, word-fine, word-bad, times-none, times-turn, steps-as, steps-word, steps-row, steps-times, ran, steps-measured, size-parts, size-numbers}
+use Rattle.bflan.proofs.judge.Inversion.{times-length, targetTests, targetThen, datumTests, datumThen, infoTests, infoThen, namedTests, namedThen, paneTests, paneThen}
+use Rattle.bflan.proofs.judge.Measures.{testsThen, Tested, Fitting, tests-fine, bad-at, marked, measured-padded, sat-filled, grown-sat, was-word, was-text, was-fine, measured-by, measured-grown, measured-made, then-grown, word-fine, word-bad, times-none, times-turn, steps-as, steps-word, steps-row, steps-times, ran, steps-measured, size-parts, size-numbers}
 
 -- ---- texts
 
@@ -162,23 +162,17 @@ keys-step w x i j curve n e = rw e
 -- ---- a target: refused at its first word, .., at its fourth, or measured with its keys
 
 module _ (letters : ℕ) (w x : List ℕ) (i j : ℕ) where
-  abbrev pub targetTests : List (ℕ → Bool)
-  targetTests = wide 1 ∷ targetFits letters ∷ (λ c. ltb c 3) ∷ wide 2 ∷ []
-
-  abbrev pub targetThen : List ℕ → J AnimTarget
-  targetThen vs = _>>=_ (times (getD vs 3 0) (row (keyWidths (getD vs 2 0)))) (λ ks. ret (record { layer = getD vs 0 0; target = getD vs 1 0; curve = getD vs 2 0; keys = ks }))
-
-  pub target-bad : {k : ℕ} → Tested targetTests targetThen w x i j (badWord k) → BadWord k ≡ verdictOf (λ t. size (targetLay t)) (target letters w x i j)
+  pub target-bad : {k : ℕ} → Tested (targetTests letters) targetThen w x i j (badWord k) → BadWord k ≡ verdictOf (λ t. size (targetLay t)) (target letters w x i j)
   unfolding target testsThen
   target-bad h = bad-at (λ t. size (targetLay t)) (h .gives)
 
-  pub target-whole : fits (wide 1) w i ≡ true → fits (targetFits letters) w (i + 1) ≡ true → fits (λ c. ltb c 3) w (i + 1 + 1) ≡ true → fits (wide 2) w (i + 1 + 1 + 1) ≡ true
-      → (curve n : ℕ) → curve ≡ getD w (i + 1 + 1) 0 → n ≡ getD w (i + 1 + 1 + 1) 0
+  pub target-whole : Fitting (targetTests letters) w i → (curve n : ℕ) → curve ≡ getD w (i + 1 + 1) 0 → n ≡ getD w (i + 1 + 1 + 1) 0
       → (v : Verdict) → v ≡ verdictOf (λ ks. size (parts (keyLay curve) ks)) (times n (row (keyWidths curve)) w x (i + 1 + 1 + 1 + 1) j)
       → grown 12 v ≡ verdictOf (λ t. size (targetLay t)) (target letters w x i j)
-  unfolding target
-  target-whole e1 e2 e3 e4 curve n ec en v ev =
-      rw (word-fine (wide 1) w x i j e1, word-fine (targetFits letters) w x (i + 1) j e2, word-fine (λ c. ltb c 3) w x (i + 1 + 1) j e3, word-fine (wide 2) w x (i + 1 + 1 + 1) j e4, ← ec, ← en)
+  unfolding target testsThen
+  target-whole f curve n ec en v ev =
+      let e : target letters w x i j ≡ _ = tests-fine (targetTests letters) targetThen w x i j f in
+      rw (e, ← ec, ← en)
       (then-grown (λ t. size (targetLay t)) (λ ks. size (parts (keyLay curve) ks)) (times n (row (keyWidths curve)) w x (i + 1 + 1 + 1 + 1) j) w x 12 v _ ev (λ ks u u′ e. unfold targetLay size in omega arith))
 
 -- ---- a datum: the values and the key, and what is before them
@@ -215,24 +209,16 @@ module _ (n : ℕ) (w x : List ℕ) (i j : ℕ) where
           ∙ rw is (then-grown behindSize (λ t. size (ended t)) (nextText (wide 4) w x (m .word) (m .byte)) w x (size (parts (number 4) vs)) v _ ev (λ t u u′ d. refl))
 
 module _ (w x : List ℕ) (i j : ℕ) where
-  abbrev pub datumTests : List (ℕ → Bool)
-  datumTests = wide 4 ∷ wide 2 ∷ wide 2 ∷ wide 4 ∷ wide 4 ∷ []
-
-  abbrev pub datumThen : List ℕ → J ExtendedUserDataAnim
-  datumThen vs =
-      _>>=_ (times (3 * getD vs 3 0) (nextWord (wide 4)))
-      (λ ns. _>>=_ (nextText (wide 4)) (λ key. ret (record { headerSize = getD vs 0 0; unk1 = getD vs 1 0; unk2 = getD vs 2 0; baseCount = getD vs 3 0; unk3 = getD vs 4 0; values = ns; key = key })))
-
   pub datum-bad : {k : ℕ} → Tested datumTests datumThen w x i j (badWord k) → BadWord k ≡ verdictOf (λ d. size (datumLay d)) (datum w x i j)
   unfolding datum testsThen
   datum-bad h = bad-at (λ d. size (datumLay d)) (h .gives)
 
-  pub datum-whole : fits (wide 4) w i ≡ true → fits (wide 2) w (i + 1) ≡ true → fits (wide 2) w (i + 1 + 1) ≡ true → fits (wide 4) w (i + 1 + 1 + 1) ≡ true → fits (wide 4) w (i + 1 + 1 + 1 + 1) ≡ true
-      → (base : ℕ) → base ≡ getD w (i + 1 + 1 + 1) 0 → (v : Verdict) → v ≡ verdictOf behindSize (valuesAndKey (3 * base) w x (i + 1 + 1 + 1 + 1 + 1) j)
+  pub datum-whole : Fitting datumTests w i → (base : ℕ) → base ≡ getD w (i + 1 + 1 + 1) 0 → (v : Verdict) → v ≡ verdictOf behindSize (valuesAndKey (3 * base) w x (i + 1 + 1 + 1 + 1 + 1) j)
       → grown 20 v ≡ verdictOf (λ d. size (datumLay d)) (datum w x i j)
-  unfolding datum valuesAndKey
-  datum-whole e1 e2 e3 e4 e5 base eb v ev =
-      rw (word-fine (wide 4) w x i j e1, word-fine (wide 2) w x (i + 1) j e2, word-fine (wide 2) w x (i + 1 + 1) j e3, word-fine (wide 4) w x (i + 1 + 1 + 1) j e4, word-fine (wide 4) w x (i + 1 + 1 + 1 + 1) j e5, ev, ← eb)
+  unfolding datum valuesAndKey testsThen
+  datum-whole f base eb v ev =
+      let e : datum w x i j ≡ _ = tests-fine datumTests datumThen w x i j f in
+      rw (e, ev, ← eb)
       (two-grown behindSize (λ d. size (datumLay d)) 20 (times (3 * base) (nextWord (wide 4)) w x (i + 1 + 1 + 1 + 1 + 1) j) (nextText (wide 4)) _ _ w x (λ vs t. unfold datumLay size in omega arith))
 
 -- ---- an info: its two words, and then data or targets
@@ -242,27 +228,24 @@ unfolding infoLay infoHead size le
 targets-size letters n ts l = let t = size-table targetLay (8 + 4 * length ts) ts in omega (arith, l, t)
 
 module _ (w x : List ℕ) (i j : ℕ) where
-  abbrev pub infoThen : List ℕ → J AnimInfo
-  infoThen vs =
-      given (eqb (getD vs 0 0) fleu) (_>>=_ (times (getD vs 1 0) datum) (λ ds. ret (ExtendedUserData ds)))
-      (_>>=_ (times (getD vs 1 0) (target (getD vs 0 0))) (λ ts. ret (Standard (getD vs 0 0) ts)))
-
-  pub info-bad : {k : ℕ} → Tested (lettersFit ∷ wide 1 ∷ []) infoThen w x i j (badWord k) → BadWord k ≡ verdictOf (λ a. size (infoLay a)) (info w x i j)
+  pub info-bad : {k : ℕ} → Tested infoTests infoThen w x i j (badWord k) → BadWord k ≡ verdictOf (λ a. size (infoLay a)) (info w x i j)
   unfolding info testsThen
   info-bad h = bad-at (λ a. size (infoLay a)) (h .gives)
 
-  module _ (e1 : fits lettersFit w i ≡ true) (e2 : fits (wide 1) w (i + 1) ≡ true) (letters n : ℕ) (el : letters ≡ getD w i 0) (en : n ≡ getD w (i + 1) 0) (v : Verdict) where
+  module _ (f : Fitting infoTests w i) (letters n : ℕ) (el : letters ≡ getD w i 0) (en : n ≡ getD w (i + 1) 0) (v : Verdict) where
+    info-words : info w x i j ≡ infoThen (getD w i 0 ∷ getD w (i + 1) 0 ∷ []) w x (i + 1 + 1) j
+    unfolding info testsThen
+    info-words = tests-fine infoTests infoThen w x i j f
+
     pub info-data : letters ≡ fleu → v ≡ verdictOf (λ ds. size (parts datumLay ds)) (times n datum w x (i + 1 + 1) j) → grown 8 v ≡ verdictOf (λ a. size (infoLay a)) (info w x i j)
-    unfolding info
     info-data e ev =
-        rw (word-fine lettersFit w x i j e1, word-fine (wide 1) w x (i + 1) j e2, ← el, ← en, eq-eqb letters fleu e)
+        rw (info-words, ← el, ← en, eq-eqb letters fleu e)
         (then-grown (λ a. size (infoLay a)) (λ ds. size (parts datumLay ds)) (times n datum w x (i + 1 + 1) j) w x 8 v _ ev (λ ds u u′ d. unfold infoLay infoHead size le in omega arith))
 
     pub info-targets : (letters ≡ fleu → ⊥) → v ≡ verdictOf (λ ts. size (parts targetLay ts)) (times n (target letters) w x (i + 1 + 1) j)
         → grown (8 + 4 * n) v ≡ verdictOf (λ a. size (infoLay a)) (info w x i j)
-    unfolding info
     info-targets e ev =
-        rw (word-fine lettersFit w x i j e1, word-fine (wide 1) w x (i + 1) j e2, ← el, ← en, ne-eqb letters fleu e)
+        rw (info-words, ← el, ← en, ne-eqb letters fleu e)
         (then-grown (λ a. size (infoLay a)) (λ ts. size (parts targetLay ts)) (times n (target letters) w x (i + 1 + 1) j) w x (8 + 4 * n) v _ ev
         (λ ts u u′ d. targets-size letters n ts (times-length (target letters) w x n (i + 1 + 1) j d)))
 
@@ -293,10 +276,7 @@ unfolding contentLay size filledUp
 content-size c h = rw (← body-size c h) (ap (λ (n : ℕ). size (contentBody c) + n) (sym (zeros-size (paddingOf (size (contentBody c))))))
 
 module _ (name w x : List ℕ) (i j : ℕ) where
-  abbrev pub namedThen : List ℕ → J AnimContent
-  namedThen vs = _>>=_ (times (getD vs 1 0) info) (λ is. ret (record { name = name; type = getD vs 0 0; infos = is }))
-
-  pub named-bad : {k : ℕ} → Tested ((λ t. leb t 4) ∷ wide 1 ∷ []) namedThen w x i j (badWord k) → BadWord k ≡ verdictOf (λ c. size (contentLay c)) (afterName name w x i j)
+  pub named-bad : {k : ℕ} → Tested namedTests (namedThen name) w x i j (badWord k) → BadWord k ≡ verdictOf (λ c. size (contentLay c)) (afterName name w x i j)
   unfolding afterName testsThen
   named-bad h = bad-at (λ c. size (contentLay c)) (h .gives)
 
@@ -308,11 +288,12 @@ module _ (name w x : List ℕ) (i j : ℕ) where
       (λ ps u v e. ap (λ (k : ℕ). filledUp (k + size (parts infoLay ps))) (eh ∙ ap (λ (k : ℕ). tableFrom type + 4 * k) (sym (l ps u v e))) ∙ content-size (record { name = name; type = type; infos = ps }) h)
       ∙ measured-made (λ c. size (contentLay c)) r w x (λ ps. record { name = name; type = type; infos = ps })
 
-  pub named-whole : fits (λ t. leb t 4) w i ≡ true → fits (wide 1) w (i + 1) ≡ true → length name ≤ 28 → (head n type : ℕ) → n ≡ getD w (i + 1) 0 → type ≡ getD w i 0 → head ≡ tableFrom type + 4 * n
+  pub named-whole : Fitting namedTests w i → length name ≤ 28 → (head n type : ℕ) → n ≡ getD w (i + 1) 0 → type ≡ getD w i 0 → head ≡ tableFrom type + 4 * n
       → (v : Verdict) → v ≡ verdictOf (λ ps. size (parts infoLay ps)) (times n info w x (i + 1 + 1) j) → padded (grown head v) ≡ verdictOf (λ c. size (contentLay c)) (afterName name w x i j)
-  unfolding afterName
-  named-whole e1 e2 h head n type en et eh v ev =
-      rw (word-fine (λ t. leb t 4) w x i j e1, word-fine (wide 1) w x (i + 1) j e2, ← en, ← et, ev)
+  unfolding afterName testsThen
+  named-whole f h head n type en et eh v ev =
+      let e : afterName name w x i j ≡ _ = tests-fine namedTests (namedThen name) w x i j f in
+      rw (e, ← en, ← et, ev)
       (named-made head n type eh h (times n info w x (i + 1 + 1) j) (λ ps u v e. times-length info w x n (i + 1 + 1) j e))
 
 module _ (w x : List ℕ) (i j : ℕ) where
@@ -413,18 +394,11 @@ module _ (frames looping nt nc : ℕ) (w x : List ℕ) (i j : ℕ) where
           (λ cs u u′ d. ap (λ (k : ℕ). f + 4 * k + size (parts contentLay cs)) (sym (times-length content w x nc (m .word) (m .byte) d)) ∙ section-size (made frames looping ts cs)))
 
 module _ (w x : List ℕ) (i j : ℕ) where
-  abbrev pub paneTests : List (ℕ → Bool)
-  paneTests = wide 2 ∷ (λ b. leb b 1) ∷ wide 2 ∷ wide 2 ∷ []
-
-  abbrev pub paneThen : List ℕ → J PaneAnimInfo
-  paneThen vs = afterHead (getD vs 0 0) (getD vs 1 0) (getD vs 2 0) (getD vs 3 0)
-
   pub pane-bad : {k : ℕ} → Tested paneTests paneThen w x i j (badWord k) → BadWord k ≡ verdictOf (λ (a : PaneAnimInfo). size (sectionLay a)) (pane w x i j)
   unfolding pane afterHead testsThen
   pane-bad h = bad-at (λ (a : PaneAnimInfo). size (sectionLay a)) (h .gives)
 
-  pub pane-on : (nt nc : ℕ) → nt ≡ getD w (i + 1 + 1) 0 → nc ≡ getD w (i + 1 + 1 + 1) 0
-      → Tested paneTests paneThen w x i j (afterHead (getD w i 0) (getD w (i + 1) 0) (getD w (i + 1 + 1) 0) (getD w (i + 1 + 1 + 1) 0) w x (i + 1 + 1 + 1 + 1) j)
+  pub pane-on : (nt nc : ℕ) → nt ≡ getD w (i + 1 + 1) 0 → nc ≡ getD w (i + 1 + 1 + 1) 0 → Fitting paneTests w i
       → afterHead (getD w i 0) (getD w (i + 1) 0) nt nc w x (i + 1 + 1 + 1 + 1) j ≡ pane w x i j
   unfolding pane afterHead testsThen
-  pane-on nt nc et ec h = rw (et, ec) (sym (h .gives))
+  pane-on nt nc et ec f = rw (et, ec) (sym (tests-fine paneTests paneThen w x i j f))

@@ -208,9 +208,24 @@ module _ {A : Type 0} {c : List ℕ → J A} {w x : List ℕ} {i j : ℕ} where
   unfolding testsThen
   tested-next {t} e h = record { gives = rw (word-fine t w x i j e) (h .gives) }
 
-  pub tested-all : Tested [] c w x i j (c [] w x i j)
-  unfolding testsThen
-  tested-all = record { gives = refl }
+-- all of them hold
+abbrev pub Fitting : List (ℕ → Bool) → List ℕ → ℕ → Type 0
+Fitting [] w i = Unit
+Fitting (t ∷ ts) w i = (fits t w i ≡ true) × Fitting ts w (i + 1)
+
+-- the words, and the place behind them
+abbrev pub wordsOn : List (ℕ → Bool) → List ℕ → ℕ → List ℕ
+wordsOn [] w i = []
+wordsOn (t ∷ ts) w i = getD w i 0 ∷ wordsOn ts w (i + 1)
+
+abbrev pub past : List (ℕ → Bool) → ℕ → ℕ
+past [] i = i
+past (t ∷ ts) i = past ts (i + 1)
+
+pub tests-fine : {A : Type 0} (ts : List (ℕ → Bool)) (c : List ℕ → J A) (w x : List ℕ) (i j : ℕ) → Fitting ts w i → testsThen ts c w x i j ≡ c (wordsOn ts w i) w x (past ts i) j
+unfolding testsThen
+tests-fine [] c w x i j f = refl
+tests-fine (t ∷ ts) c w x i j f = rw (word-fine t w x i j (f .0)) (tests-fine ts (λ vs. c (getD w i 0 ∷ vs)) w x (i + 1) j (f .1))
 
 -- a word that is refused, as the code answers it
 pub bad-at : {A : Type 0} (s : A → ℕ) {r : Judged A} {k : ℕ} → r ≡ badWord k → BadWord k ≡ verdictOf s r

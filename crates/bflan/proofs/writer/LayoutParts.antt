@@ -12,7 +12,7 @@ use lib.ListN.{length, getD, take, drop, replicate, length-drop, length-replicat
 use lib.Seq.{sets, take-add, drop-drop, length-take-le}
 use Rattle.core.specs.Choice.{pick}
 use Rattle.core.specs.Fill.{paddingOf}
-use Rattle.core.specs.Number.{le, put, val}
+use Rattle.core.specs.Number.{le, put}
 use Rattle.core.specs.Run.{numbersLe, pairsLe}
 use Rattle.core.proofs.Numbers.{put-put}
 use Rattle.core.proofs.Runs.{numbers-le-append}
@@ -23,11 +23,11 @@ use Rattle.bflan.specs.Layout.{Layout, nothing, number, bytes, _⨾_, si
 use Rattle.bflan.specs.pai1.Layout.{keySkip, keyLay, targetLay, datumLay, infoHead, infoLay, dataOut, infosOut, tableFrom, infosFrom, userLay, contentBody, contentLay, namesEnd, contentTable, sectionSize, sectionLay}
 use Rattle.bflan.specs.pai1.Letters.{fleu, targetFits}
 use Rattle.bflan.specs.Limits.{limit}
-use Rattle.bflan.specs.pai1.Reading.{ownBytes, ownLetters}
+use Rattle.bflan.specs.pai1.Reading.{ownBytes}
 use Rattle.bflan.specs.pai1.Record.{ExtendedUserDataAnim, AnimInfo, Standard, ExtendedUserData, AnimContent, keyWidths}
 use Rattle.bflan.specs.inner.Pen.{Ready, laid, penBehind, listed}
 use Rattle.bflan.specs.inner.LayoutParts.{targetHead, datumHead, datumFront, nameLay, bodyLay, frameLay, namesLay, outOf, outBy}
-use Rattle.bflan.proofs.reader.Inversion.{TextAt, text-at, times-none, times-more, times-length, WordsAt, row-at, DatumAt, datum-at, info-at, info-extended, info-standard, ContentAt, content-at, SectionAt, section-at, TargetAt, target-at}
+use Rattle.bflan.proofs.judge.Inversion.{TextAt, text-at, times-none, times-more, times-length, WordsAt, row-at, DatumAt, datum-at, info-at, info-extended, info-standard, ContentAt, content-at, SectionAt, section-at, TargetAt, target-at}
 use Rattle.bflan.proofs.Layouts.{size-written, section-size}
 use Rattle.bflan.proofs.judge.Measures.{size-parts, size-numbers}
 use Rattle.bflan.proofs.reader.Rows.{offsetBy, offset-is}

@@ -19,7 +19,7 @@ use Rattle.bflan.specs.Judge.{Judged, fine, badWord, badText, J, times}
 use Rattle.bflan.specs.Layout.{Layout, number, bytes, _⨾_, size, written, parts, table}
 use Rattle.bflan.specs.Limits.{limit}
 use Rattle.bflan.specs.inner.Pen.{Ready, laid, penBehind, listed}
-use Rattle.bflan.proofs.reader.Inversion.{times-more, times-length}
+use Rattle.bflan.proofs.judge.Inversion.{times-more, times-length}
 use Rattle.bflan.proofs.judge.Laws.{fine-to}
 use Rattle.bflan.proofs.Layouts.{size-written, size-table}
 

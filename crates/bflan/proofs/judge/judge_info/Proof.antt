@@ -15,7 +15,7 @@ use Rattle.bflan.specs.Layout.{size}
 use Rattle.bflan.specs.inner.Measure.{verdictOf}
 use Rattle.bflan.specs.pai1.Layout.{sectionLay}
 use Rattle.bflan.specs.pai1.Record.{PaneAnimInfo}
-use Rattle.bflan.proofs.judge.Measures.{held, failed, fits-most, fits-there, fits-holds, tested-bad, tested-next, tested-all}
+use Rattle.bflan.proofs.judge.Measures.{held, failed, fits-most, fits-there, fits-holds, tested-bad, tested-next}
 use Rattle.bflan.proofs.judge.JudgeParts.{pane-bad, pane-on}
 
 returns : tie.Need-returns
@@ -51,7 +51,7 @@ headed-requires c κs =
 returns-5 : tie.Need-returns-5
 returns-5 c =
     c .headed .ensures (getD (now (c .before .before .before .before .before .before .before .before .before .before .before .before .before .args .words)) (c .before .before .before .before .before .before .before .before .before .before .before .before .before .args .i) 0) (getD (now (c .before .before .before .before .before .before .before .before .before .before .before .before .before .args .words)) ((c .before .before .before .before .before .before .before .before .before .before .before .before .before .args .i) + 1) 0)
-    ∙ ap (λ (r : Judged PaneAnimInfo). verdictOf (λ (a : PaneAnimInfo). size (sectionLay a)) r) (pane-on (now (c .before .before .before .before .before .before .before .before .before .before .before .before .before .args .words)) (now (c .before .before .before .before .before .before .before .before .before .before .before .before .before .args .texts)) (c .before .before .before .before .before .before .before .before .before .before .before .before .before .args .i) (c .before .before .before .before .before .before .before .before .before .before .before .before .before .args .j) _ _ (c .before .before .word-of .ensures) (c .before .word-of2 .ensures) (tested-next (held _ _ (c .before .before .before .before .before .before .before .before .before .before .below .ensures) (c .before .before .before .before .before .before .before .before .before .if1 .left)) (tested-next (sym (fits-most 1 _ _) ∙ held _ _ (c .before .before .before .before .before .before .before .before .below2 .ensures) (c .before .before .before .before .before .before .before .if2 .left)) (tested-next (held _ _ (c .before .before .before .before .before .before .below3 .ensures) (c .before .before .before .before .before .if3 .left)) (tested-next (held _ _ (c .before .before .before .before .below4 .ensures) (c .before .before .before .if4 .left)) tested-all)))))
+    ∙ ap (λ (r : Judged PaneAnimInfo). verdictOf (λ (a : PaneAnimInfo). size (sectionLay a)) r) (pane-on (now (c .before .before .before .before .before .before .before .before .before .before .before .before .before .args .words)) (now (c .before .before .before .before .before .before .before .before .before .before .before .before .before .args .texts)) (c .before .before .before .before .before .before .before .before .before .before .before .before .before .args .i) (c .before .before .before .before .before .before .before .before .before .before .before .before .before .args .j) _ _ (c .before .before .word-of .ensures) (c .before .word-of2 .ensures) (held _ _ (c .before .before .before .before .before .before .before .before .before .before .below .ensures) (c .before .before .before .before .before .before .before .before .before .if1 .left), (sym (fits-most 1 _ _) ∙ held _ _ (c .before .before .before .before .before .before .before .before .below2 .ensures) (c .before .before .before .before .before .before .before .if2 .left), (held _ _ (c .before .before .before .before .before .before .below3 .ensures) (c .before .before .before .before .before .if3 .left), (held _ _ (c .before .before .before .before .below4 .ensures) (c .before .before .before .if4 .left), tt)))))
 
 pub judge-info-spec : {M : Type 1} → statement M
 judge-info-spec =

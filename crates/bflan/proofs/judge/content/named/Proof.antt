@@ -29,7 +29,7 @@ add-infos : tie.Need-add-infos
 add-infos c = let h = fits-there (wide 1) (now (c .before .before .before .before .before .before .before .before .before .args .words)) ((c .before .before .before .before .before .before .before .before .before .args .i) + 1) (held _ _ (c .before .before .before .before .below2 .ensures) (c .before .before .before .if2 .left)) in omega (arith, h, c .before .before .before .before .before .before .before .before .before .good)
 
 returns-3 : tie.Need-returns-3
-returns-3 c = λ name h. c .padded .ensures ∙ ap padded (c .before .grown .ensures) ∙ named-whole name (now (c .before .before .before .before .before .before .before .before .before .before .before .before .args .words)) (now (c .before .before .before .before .before .before .before .before .before .before .before .before .args .texts)) (c .before .before .before .before .before .before .before .before .before .before .before .before .args .i) (c .before .before .before .before .before .before .before .before .before .before .before .before .args .j) (sym (fits-most 4 (now (c .before .before .before .before .before .before .before .before .before .before .before .before .args .words)) (c .before .before .before .before .before .before .before .before .before .before .before .before .args .i)) ∙ (held _ _ (c .before .before .before .before .before .before .before .before .before .below .ensures) (c .before .before .before .before .before .before .before .before .if1 .left))) (held _ _ (c .before .before .before .before .before .before .before .below2 .ensures) (c .before .before .before .before .before .before .if2 .left)) h _ _ _ (c .before .before .before .before .before .word-of .ensures) (c .before .before .before .before .word-of2 .ensures) (ap (λ (k : ℕ). k + 4 * c .before .before .before .before .before .word-of .result) (c .before .before .before .table-from .ensures)) _ (c .before .before .infos .ensures)
+returns-3 c = λ name h. c .padded .ensures ∙ ap padded (c .before .grown .ensures) ∙ named-whole name (now (c .before .before .before .before .before .before .before .before .before .before .before .before .args .words)) (now (c .before .before .before .before .before .before .before .before .before .before .before .before .args .texts)) (c .before .before .before .before .before .before .before .before .before .before .before .before .args .i) (c .before .before .before .before .before .before .before .before .before .before .before .before .args .j) (sym (fits-most 4 (now (c .before .before .before .before .before .before .before .before .before .before .before .before .args .words)) (c .before .before .before .before .before .before .before .before .before .before .before .before .args .i)) ∙ (held _ _ (c .before .before .before .before .before .before .before .before .before .below .ensures) (c .before .before .before .before .before .before .before .before .if1 .left)), (held _ _ (c .before .before .before .before .before .before .before .below2 .ensures) (c .before .before .before .before .before .before .if2 .left), tt)) h _ _ _ (c .before .before .before .before .before .word-of .ensures) (c .before .before .before .before .word-of2 .ensures) (ap (λ (k : ℕ). k + 4 * c .before .before .before .before .before .word-of .result) (c .before .before .before .table-from .ensures)) _ (c .before .before .infos .ensures)
 
 pub named-spec : {M : Type 1} → statement M
 named-spec =

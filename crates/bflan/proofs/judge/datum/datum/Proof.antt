@@ -42,7 +42,7 @@ add-behind : tie.Need-add-behind
 add-behind c = let h = fits-there (wide 4) (now (c .before .before .before .before .before .before .before .before .before .before .before .before .before .args .words)) ((c .before .before .before .before .before .before .before .before .before .before .before .before .before .args .i) + 1 + 1 + 1 + 1) (held _ _ (c .before .before .below5 .ensures) (c .before .if5 .left)) in omega (arith, h, c .before .before .before .before .before .before .before .before .before .before .before .before .before .good)
 
 returns-6 : tie.Need-returns-6
-returns-6 c = c .grown .ensures ∙ datum-whole (now (c .before .before .before .before .before .before .before .before .before .before .before .before .before .before .before .args .words)) (now (c .before .before .before .before .before .before .before .before .before .before .before .before .before .before .before .args .texts)) (c .before .before .before .before .before .before .before .before .before .before .before .before .before .before .before .args .i) (c .before .before .before .before .before .before .before .before .before .before .before .before .before .before .before .args .j) (held _ _ (c .before .before .before .before .before .before .before .before .before .before .before .before .below .ensures) (c .before .before .before .before .before .before .before .before .before .before .before .if1 .left)) (held _ _ (c .before .before .before .before .before .before .before .before .before .before .below2 .ensures) (c .before .before .before .before .before .before .before .before .before .if2 .left)) (held _ _ (c .before .before .before .before .before .before .before .before .below3 .ensures) (c .before .before .before .before .before .before .before .if3 .left)) (held _ _ (c .before .before .before .before .before .before .below4 .ensures) (c .before .before .before .before .before .if4 .left)) (held _ _ (c .before .before .before .before .below5 .ensures) (c .before .before .before .if5 .left)) _ (c .before .before .word-of .ensures) _ (c .before .behind .ensures)
+returns-6 c = c .grown .ensures ∙ datum-whole (now (c .before .before .before .before .before .before .before .before .before .before .before .before .before .before .before .args .words)) (now (c .before .before .before .before .before .before .before .before .before .before .before .before .before .before .before .args .texts)) (c .before .before .before .before .before .before .before .before .before .before .before .before .before .before .before .args .i) (c .before .before .before .before .before .before .before .before .before .before .before .before .before .before .before .args .j) (held _ _ (c .before .before .before .before .before .before .before .before .before .before .before .before .below .ensures) (c .before .before .before .before .before .before .before .before .before .before .before .if1 .left), (held _ _ (c .before .before .before .before .before .before .before .before .before .before .below2 .ensures) (c .before .before .before .before .before .before .before .before .before .if2 .left), (held _ _ (c .before .before .before .before .before .before .before .before .below3 .ensures) (c .before .before .before .before .before .before .before .if3 .left), (held _ _ (c .before .before .before .before .before .before .below4 .ensures) (c .before .before .before .before .before .if4 .left), (held _ _ (c .before .before .before .before .below5 .ensures) (c .before .before .before .if5 .left), tt))))) _ (c .before .before .word-of .ensures) _ (c .before .behind .ensures)
 
 pub datum-spec : {M : Type 1} → statement M
 datum-spec =

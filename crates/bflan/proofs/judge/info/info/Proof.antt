@@ -27,14 +27,14 @@ add-data c = let h = fits-there (wide 1) (now (c .before .before .before .before
 
 returns-3 : tie.Need-returns-3
 unfolding fleu val
-returns-3 c = c .grown .ensures ∙ info-data (now (c .before .before .before .before .before .before .before .before .before .before .before .args .words)) (now (c .before .before .before .before .before .before .before .before .before .before .before .args .texts)) (c .before .before .before .before .before .before .before .before .before .before .before .args .i) (c .before .before .before .before .before .before .before .before .before .before .before .args .j) (held _ _ (c .before .before .before .before .before .before .before .before .letters-fit .ensures) (c .before .before .before .before .before .before .before .if1 .left)) (held _ _ (c .before .before .before .before .before .before .below .ensures) (c .before .before .before .before .before .if2 .left)) _ _ (c .before .before .before .before .word-of .ensures) (c .before .before .before .word-of2 .ensures) _ (c .before .before .if3 .taken) (c .before .«data» .ensures)
+returns-3 c = c .grown .ensures ∙ info-data (now (c .before .before .before .before .before .before .before .before .before .before .before .args .words)) (now (c .before .before .before .before .before .before .before .before .before .before .before .args .texts)) (c .before .before .before .before .before .before .before .before .before .before .before .args .i) (c .before .before .before .before .before .before .before .before .before .before .before .args .j) (held _ _ (c .before .before .before .before .before .before .before .before .letters-fit .ensures) (c .before .before .before .before .before .before .before .if1 .left), (held _ _ (c .before .before .before .before .before .before .below .ensures) (c .before .before .before .before .before .if2 .left), tt)) _ _ (c .before .before .before .before .word-of .ensures) (c .before .before .before .word-of2 .ensures) _ (c .before .before .if3 .taken) (c .before .«data» .ensures)
 
 add-targets : tie.Need-add-targets
 add-targets c = let h = fits-there (wide 1) (now (c .before .before .before .before .before .before .before .before .before .args .words)) ((c .before .before .before .before .before .before .before .before .before .args .i) + 1) (held _ _ (c .before .before .before .before .below .ensures) (c .before .before .before .if2 .left)) in omega (arith, h, c .before .before .before .before .before .before .before .before .before .good)
 
 returns-4 : tie.Need-returns-4
 unfolding fleu val
-returns-4 c = c .grown2 .ensures ∙ info-targets (now (c .before .before .before .before .before .before .before .before .before .before .before .args .words)) (now (c .before .before .before .before .before .before .before .before .before .before .before .args .texts)) (c .before .before .before .before .before .before .before .before .before .before .before .args .i) (c .before .before .before .before .before .before .before .before .before .before .before .args .j) (held _ _ (c .before .before .before .before .before .before .before .before .letters-fit .ensures) (c .before .before .before .before .before .before .before .if1 .left)) (held _ _ (c .before .before .before .before .before .before .below .ensures) (c .before .before .before .before .before .if2 .left)) _ _ (c .before .before .before .before .word-of .ensures) (c .before .before .before .word-of2 .ensures) _ (c .before .before .if3 .left) (c .before .targets .ensures (now (c .before .before .before .before .before .before .before .before .before .before .before .args .texts)))
+returns-4 c = c .grown2 .ensures ∙ info-targets (now (c .before .before .before .before .before .before .before .before .before .before .before .args .words)) (now (c .before .before .before .before .before .before .before .before .before .before .before .args .texts)) (c .before .before .before .before .before .before .before .before .before .before .before .args .i) (c .before .before .before .before .before .before .before .before .before .before .before .args .j) (held _ _ (c .before .before .before .before .before .before .before .before .letters-fit .ensures) (c .before .before .before .before .before .before .before .if1 .left), (held _ _ (c .before .before .before .before .before .before .below .ensures) (c .before .before .before .before .before .if2 .left), tt)) _ _ (c .before .before .before .before .word-of .ensures) (c .before .before .before .word-of2 .ensures) _ (c .before .before .if3 .left) (c .before .targets .ensures (now (c .before .before .before .before .before .before .before .before .before .before .before .args .texts)))
 
 pub info-spec : {M : Type 1} → statement M
 info-spec =

@@ -43,7 +43,7 @@ keys-requires : tie.Need-keys-requires
 keys-requires c κs = let h = ltb-true (getD (now (c .before .before .before .before .before .before .before .before .before .before .before .args .words)) ((c .before .before .before .before .before .before .before .before .before .before .before .args .i) + 1 + 1 + 1) 0) 65536 (fits-holds (wide 2) (now (c .before .before .before .before .before .before .before .before .before .before .before .args .words)) ((c .before .before .before .before .before .before .before .before .before .before .before .args .i) + 1 + 1 + 1) (held _ _ (c .before .before .before .below3 .ensures) (c .before .before .if4 .left))) in omega (arith, h, c .word-of2 .ensures)
 
 returns-5 : tie.Need-returns-5
-returns-5 c = λ x. c .grown .ensures ∙ target-whole (c .before .before .before .before .before .before .before .before .before .before .before .before .before .args .letters) (now (c .before .before .before .before .before .before .before .before .before .before .before .before .before .args .words)) x (c .before .before .before .before .before .before .before .before .before .before .before .before .before .args .i) (c .before .before .before .before .before .before .before .before .before .before .before .before .before .args .j) (held _ _ (c .before .before .before .before .before .before .before .before .before .before .before .below .ensures) (c .before .before .before .before .before .before .before .before .before .before .if1 .left)) (held _ _ (c .before .before .before .before .before .before .before .before .before .target-fits .ensures) (c .before .before .before .before .before .before .before .before .if2 .left)) (held _ _ (c .before .before .before .before .before .before .before .below2 .ensures) (c .before .before .before .before .before .before .if3 .left)) (held _ _ (c .before .before .before .before .before .below3 .ensures) (c .before .before .before .before .if4 .left)) _ _ (c .before .before .before .word-of .ensures) (c .before .before .word-of2 .ensures) _ (c .before .keys .ensures x)
+returns-5 c = λ x. c .grown .ensures ∙ target-whole (c .before .before .before .before .before .before .before .before .before .before .before .before .before .args .letters) (now (c .before .before .before .before .before .before .before .before .before .before .before .before .before .args .words)) x (c .before .before .before .before .before .before .before .before .before .before .before .before .before .args .i) (c .before .before .before .before .before .before .before .before .before .before .before .before .before .args .j) (held _ _ (c .before .before .before .before .before .before .before .before .before .before .before .below .ensures) (c .before .before .before .before .before .before .before .before .before .before .if1 .left), (held _ _ (c .before .before .before .before .before .before .before .before .before .target-fits .ensures) (c .before .before .before .before .before .before .before .before .if2 .left), (held _ _ (c .before .before .before .before .before .before .before .below2 .ensures) (c .before .before .before .before .before .before .if3 .left), (held _ _ (c .before .before .before .before .before .below3 .ensures) (c .before .before .before .before .if4 .left), tt)))) _ _ (c .before .before .before .word-of .ensures) (c .before .before .word-of2 .ensures) _ (c .before .keys .ensures x)
 
 pub target-spec : {M : Type 1} → statement M
 target-spec =

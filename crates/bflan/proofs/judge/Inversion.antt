@@ -2,7 +2,7 @@
 -- Assumes nothing.
 use Prim.Native.Nat.{ℕ, zero, suc, _+_, _*_, _-_, _≤_, _<_}
 use mathlib.Core.Path.{_≡_, refl, sym, ap, _∙_}
-use mathlib.Core.Bool.{Bool, true, false, _&&_}
+use mathlib.Core.Bool.{Bool, true, false}
 use mathlib.Core.List.{List, [], _∷_}
 use native.Mathlib.Numerals.{add-one}
 use native.Mathlib.Omega.{arith}
@@ -16,7 +16,11 @@ use Rattle.bflan.specs.Judge.{Judged, fine, badWord, badText, J, andThen
 use Rattle.bflan.specs.pai1.Judge.{target, datum, info, content, pane, section}
 use Rattle.bflan.specs.pai1.Letters.{fleu, lettersFit, targetFits}
 use Rattle.bflan.specs.pai1.Record.{AnimTarget, ExtendedUserDataAnim, AnimInfo, Standard, ExtendedUserData, AnimContent, PaneAnimInfo, keyWidths}
+use Rattle.bflan.specs.inner.JudgeParts.{afterHead}
+use Rattle.bflan.specs.inner.Measure.{fits}
 use Rattle.bflan.proofs.judge.Laws.{fine-to, no-word, no-text}
+use Rattle.bflan.proofs.judge.Measures.{fits-there, fits-holds, testsThen}
+use Rattle.bflan.proofs.reader.Rows.{offsetBy, offset-is}
 
 -- ---- a walk of two parts
 
@@ -33,17 +37,34 @@ module _ {Y C : Type 0} (w x : List ℕ) (i j : ℕ) {y : Y} {k l : ℕ} where
 
   -- the first part a word
   pub opened-word : (test : ℕ → Bool) (q : ℕ → J Y) → _>>=_ (nextWord test) q w x i j ≡ fine y k l
-      → (i < length w → test (getD w i 0) ≡ true → q (getD w i 0) w x (i + 1) j ≡ fine y k l → C)
+      → (fits test w i ≡ true → q (getD w i 0) w x (i + 1) j ≡ fine y k l → C)
       → C
-  unfolding nextWord
-  opened-word test q e f = go (ltb i (length w)) (test (getD w i 0)) refl refl e
+  unfolding nextWord fits
+  opened-word test q e f = go (fits test w i) refl e
     where
-      go : (s t : Bool) → ltb i (length w) ≡ s → test (getD w i 0) ≡ t
-          → andThen (pick (s && t) (fine (getD w i 0) (i + 1) j) (badWord i)) q w x ≡ fine y k l
-          → C
-      go true true a b d = f (ltb-true i (length w) a) b d
-      go true false a b d = no-word d
-      go false t a b d = no-word d
+      go : (b : Bool) → fits test w i ≡ b → andThen (pick b (fine (getD w i 0) (i + 1) j) (badWord i)) q w x ≡ fine y k l → C
+      go true a d = f a d
+      go false a d = no-word d
+
+-- words with a test each, the first of them o behind i
+abbrev pub Fit : List (ℕ → Bool) → List ℕ → ℕ → ℕ → Type 0
+Fit [] w i o = Unit
+Fit (t ∷ ts) w i o = (fits t w (offsetBy i o) ≡ true) × Fit ts w i (o + 1)
+
+unfoldable pub wordsFrom : List (ℕ → Bool) → List ℕ → ℕ → ℕ → List ℕ
+wordsFrom [] w i o = []
+wordsFrom (t ∷ ts) w i o = getD w (offsetBy i o) 0 ∷ wordsFrom ts w i (o + 1)
+
+pub opened-words : {Y C : Type 0} (w x : List ℕ) (i j : ℕ) {y : Y} {k l : ℕ} (ts : List (ℕ → Bool)) (c : List ℕ → J Y) (o : ℕ) → testsThen ts c w x (offsetBy i o) j ≡ fine y k l
+    → (Fit ts w i o → c (wordsFrom ts w i o) w x (offsetBy i (o + length ts)) j ≡ fine y k l → C)
+    → C
+unfolding testsThen wordsFrom
+opened-words w x i j [] c o e f = let z : o + 0 ≡ o = omega arith in f tt (rw z e)
+opened-words w x i j (t ∷ ts) c o e f =
+    let s : offsetBy i o + 1 ≡ offsetBy i (o + 1) = rw (offset-is i o, offset-is i (o + 1)) (omega arith) in
+    let z : o + suc (length ts) ≡ o + 1 + length ts = omega arith in
+    opened-word w x (offsetBy i o) j t _ e λ h e.
+    opened-words w x i j ts _ (o + 1) (rw s at e) λ g e. f (h, g) (rw z e)
 
 -- ---- texts
 
@@ -59,8 +80,8 @@ pub record TextAt (test : ℕ → Bool) (w x : List ℕ) (i j : ℕ) (t : List �
 pub text-at : (test : ℕ → Bool) (w x : List ℕ) (i j : ℕ) {t : List ℕ} {k l : ℕ} → nextText test w x i j ≡ fine t k l → TextAt test w x i j t k l
 unfolding nextText nextChars
 text-at test w x i j {t} {k} {l} e =
-    opened-word w x i j test nextChars e λ h g d.
-    go h g (take (getD w i 0) (drop j x)) refl (leb (j + getD w i 0) (length x)) (ltb (firstFault (take (getD w i 0) (drop j x))) (getD w i 0)) refl d
+    opened-word w x i j test nextChars e λ h d.
+    go (fits-there test w i h) (fits-holds test w i h) (take (getD w i 0) (drop j x)) refl (leb (j + getD w i 0) (length x)) (ltb (firstFault (take (getD w i 0) (drop j x))) (getD w i 0)) refl d
   where
     go : i < length w → test (getD w i 0) ≡ true → (u : List ℕ) → take (getD w i 0) (drop j x) ≡ u → (c d : Bool) → leb (j + getD w i 0) (length x) ≡ c
         → pick c (pick d (badText (j + firstFault u)) (fine u (i + 1) (j + getD w i 0))) (badText (length x)) ≡ fine t k l
@@ -120,19 +141,25 @@ pub row-at : (ks : List ℕ) (w x : List ℕ) (i j : ℕ) {vs : List ℕ} {k l :
 unfolding row
 row-at [] w x i j e = fine-to (λ (vs : List ℕ) (k l : ℕ). WordsAt 0 w i j vs k l) e no-words
 row-at (c ∷ ks) w x i j e =
-    opened-word w x i j (wide c) _ e λ h g e.
+    opened-word w x i j (wide c) _ e λ h e.
     opened w x (i + 1) j (row ks) _ e λ us m o a e.
-    fine-to (λ (vs : List ℕ) (k l : ℕ). WordsAt (suc (length ks)) w i j vs k l) e (more-words h (row-at ks w x (i + 1) j a))
+    fine-to (λ (vs : List ℕ) (k l : ℕ). WordsAt (suc (length ks)) w i j vs k l) e (more-words (fits-there (wide c) w i h) (row-at ks w x (i + 1) j a))
 
 pub values-at : (n : ℕ) (w x : List ℕ) (i j : ℕ) {vs : List ℕ} {k l : ℕ} → times n (nextWord (wide 4)) w x i j ≡ fine vs k l → WordsAt n w i j vs k l
 unfolding times
 values-at zero w x i j e = fine-to (λ (vs : List ℕ) (k l : ℕ). WordsAt 0 w i j vs k l) e no-words
 values-at (suc n) w x i j e =
-    opened-word w x i j (wide 4) _ e λ h g e.
+    opened-word w x i j (wide 4) _ e λ h e.
     opened w x (i + 1) j (times n (nextWord (wide 4))) _ e λ us m o a e.
-    fine-to (λ (vs : List ℕ) (k l : ℕ). WordsAt (suc n) w i j vs k l) e (more-words h (values-at n w x (i + 1) j a))
+    fine-to (λ (vs : List ℕ) (k l : ℕ). WordsAt (suc n) w i j vs k l) e (more-words (fits-there (wide 4) w i h) (values-at n w x (i + 1) j a))
 
--- ---- the parts
+-- ---- the parts: each head as a row of tests, and what is judged behind it
+
+abbrev pub targetTests : ℕ → List (ℕ → Bool)
+targetTests letters = wide 1 ∷ targetFits letters ∷ (λ c. ltb c 3) ∷ wide 2 ∷ []
+
+abbrev pub targetThen : List ℕ → J AnimTarget
+targetThen vs = _>>=_ (times (getD vs 3 0) (row (keyWidths (getD vs 2 0)))) (λ ks. ret (record { layer = getD vs 0 0; target = getD vs 1 0; curve = getD vs 2 0; keys = ks }))
 
 pub record TargetAt (w x : List ℕ) (i j : ℕ) (t : AnimTarget) (k l : ℕ) : Type 0 where
   pub there : i + 4 ≤ length w
@@ -143,18 +170,27 @@ pub record TargetAt (w x : List ℕ) (i j : ℕ) (t : AnimTarget) (k l : ℕ) : 
   pub keys : times (getD w (i + 3) 0) (row (keyWidths (getD w (i + 2) 0))) w x (i + 4) j ≡ fine (t .keys) k l
 
 pub target-at : (letters : ℕ) (w x : List ℕ) (i j : ℕ) {t : AnimTarget} {k l : ℕ} → target letters w x i j ≡ fine t k l → TargetAt w x i j t k l
-unfolding target
+unfolding target testsThen wordsFrom
 target-at letters w x i j e =
-    let p2 : i + 1 + 1 ≡ i + 2 = omega arith in
-    let p3 : i + 2 + 1 ≡ i + 3 = omega arith in
-    let p4 : i + 3 + 1 ≡ i + 4 = omega arith in
-    opened-word w x i j (wide 1) _ e λ h q e.
-    opened-word w x (i + 1) j (targetFits letters) _ e λ h q e.
-    opened-word w x (i + 2) j (λ c. ltb c 3) _ (rw p2 at e) λ h q e.
-    opened-word w x (i + 3) j (wide 2) _ (rw p3 at e) λ g r e.
-    opened w x (i + 4) j (times (getD w (i + 3) 0) (row (keyWidths (getD w (i + 2) 0)))) _ (rw p4 at e) λ ks m n a e.
+    opened-words w x i j (targetTests letters) targetThen 0 e λ f e.
+    opened w x (i + 4) j (times (getD w (i + 3) 0) (row (keyWidths (getD w (i + 2) 0)))) _ e λ ks m n a e.
     fine-to (λ (t : AnimTarget) (k l : ℕ). TargetAt w x i j t k l) e
-    (record { there = omega (arith, g); layer = refl; number = refl; curve = refl; low = ltb-true (getD w (i + 2) 0) 3 q; keys = a })
+    (record {
+      there = omega (arith, fits-there (wide 2) w (i + 3) (f .1 .1 .1 .0));
+      layer = refl;
+      number = refl;
+      curve = refl;
+      low = ltb-true (getD w (i + 2) 0) 3 (fits-holds (λ c. ltb c 3) w (i + 2) (f .1 .1 .0));
+      keys = a;
+    })
+
+abbrev pub datumTests : List (ℕ → Bool)
+datumTests = wide 4 ∷ wide 2 ∷ wide 2 ∷ wide 4 ∷ wide 4 ∷ []
+
+abbrev pub datumThen : List ℕ → J ExtendedUserDataAnim
+datumThen vs =
+    _>>=_ (times (3 * getD vs 3 0) (nextWord (wide 4)))
+    (λ ns. _>>=_ (nextText (wide 4)) (λ key. ret (record { headerSize = getD vs 0 0; unk1 = getD vs 1 0; unk2 = getD vs 2 0; baseCount = getD vs 3 0; unk3 = getD vs 4 0; values = ns; key = key })))
 
 pub record DatumAt (w x : List ℕ) (i j : ℕ) (d : ExtendedUserDataAnim) (k l : ℕ) : Type 0 where
   pub headerSize : d .headerSize ≡ getD w i 0
@@ -167,36 +203,33 @@ pub record DatumAt (w x : List ℕ) (i j : ℕ) (d : ExtendedUserDataAnim) (k l 
   pub key : nextText (wide 4) w x (i + 5 + 3 * getD w (i + 3) 0) j ≡ fine (d .key) k l
 
 pub datum-at : (w x : List ℕ) (i j : ℕ) {d : ExtendedUserDataAnim} {k l : ℕ} → datum w x i j ≡ fine d k l → DatumAt w x i j d k l
-unfolding datum
+unfolding datum testsThen wordsFrom
 datum-at w x i j e =
-    let p2 : i + 1 + 1 ≡ i + 2 = omega arith in
-    let p3 : i + 2 + 1 ≡ i + 3 = omega arith in
-    let p4 : i + 3 + 1 ≡ i + 4 = omega arith in
-    let p5 : i + 4 + 1 ≡ i + 5 = omega arith in
-    opened-word w x i j (wide 4) _ e λ h q e.
-    opened-word w x (i + 1) j (wide 2) _ e λ h q e.
-    opened-word w x (i + 2) j (wide 2) _ (rw p2 at e) λ h q e.
-    opened-word w x (i + 3) j (wide 4) _ (rw p3 at e) λ h q e.
-    opened-word w x (i + 4) j (wide 4) _ (rw p4 at e) λ h q e.
-    opened w x (i + 5) j (times (3 * getD w (i + 3) 0) (nextWord (wide 4))) _ (rw p5 at e) λ vs m n a e.
+    opened-words w x i j datumTests datumThen 0 e λ f e.
+    opened w x (i + 5) j (times (3 * getD w (i + 3) 0) (nextWord (wide 4))) _ e λ vs m n a e.
     let v = values-at (3 * getD w (i + 3) 0) w x (i + 5) j a in
     opened w x (i + 5 + 3 * getD w (i + 3) 0) j (nextText (wide 4)) _ (rw (v .word, v .byte) at e) λ key m n b e.
     fine-to (λ (d : ExtendedUserDataAnim) (k l : ℕ). DatumAt w x i j d k l) e
     (record { headerSize = refl; unk1 = refl; unk2 = refl; baseCount = refl; unk3 = refl; values = v .same; count = v .count; key = b })
 
+abbrev pub infoTests : List (ℕ → Bool)
+infoTests = lettersFit ∷ wide 1 ∷ []
+
+abbrev pub infoThen : List ℕ → J AnimInfo
+infoThen vs =
+    given (eqb (getD vs 0 0) fleu) (_>>=_ (times (getD vs 1 0) datum) (λ ds. ret (ExtendedUserData ds)))
+    (_>>=_ (times (getD vs 1 0) (target (getD vs 0 0))) (λ ts. ret (Standard (getD vs 0 0) ts)))
+
 -- an info of either kind
 pub record InfoAt (w x : List ℕ) (i j : ℕ) (a : AnimInfo) (k l : ℕ) : Type 0 where
   pub there : i + 2 ≤ length w
-  pub body : given (eqb (getD w i 0) fleu) (_>>=_ (times (getD w (i + 1) 0) datum) (λ ds. ret (ExtendedUserData ds)))
-      (_>>=_ (times (getD w (i + 1) 0) (target (getD w i 0))) (λ ts. ret (Standard (getD w i 0) ts))) w x (i + 2) j ≡ fine a k l
+  pub body : infoThen (getD w i 0 ∷ getD w (i + 1) 0 ∷ []) w x (i + 2) j ≡ fine a k l
 
 pub info-at : (w x : List ℕ) (i j : ℕ) {a : AnimInfo} {k l : ℕ} → info w x i j ≡ fine a k l → InfoAt w x i j a k l
-unfolding info
+unfolding info testsThen wordsFrom
 info-at w x i j e =
-    let p2 : i + 1 + 1 ≡ i + 2 = omega arith in
-    opened-word w x i j lettersFit _ e λ h q e.
-    opened-word w x (i + 1) j (wide 1) _ e λ h q e.
-    record { there = omega (arith, h); body = rw p2 at e }
+    opened-words w x i j infoTests infoThen 0 e λ f e.
+    record { there = omega (arith, fits-there (wide 1) w (i + 1) (f .1 .0)); body = e }
 
 module _ {C : Type 0} (w x : List ℕ) (i j : ℕ) {a : AnimInfo} {k l : ℕ} (e : info w x i j ≡ fine a k l) where
   pub info-extended : getD w i 0 ≡ fleu
@@ -213,6 +246,13 @@ module _ {C : Type 0} (w x : List ℕ) (i j : ℕ) {a : AnimInfo} {k l : ℕ} (e
       fine-to (λ (a : AnimInfo) (k l : ℕ). ((ts : List AnimTarget) → a ≡ Standard (getD w i 0) ts → times (getD w (i + 1) 0) (target (getD w i 0)) w x (i + 2) j ≡ fine ts k l → C) → C)
       e (λ g. g ts refl b) f
 
+abbrev pub namedTests : List (ℕ → Bool)
+namedTests = (λ t. leb t 4) ∷ wide 1 ∷ []
+
+-- behind its name
+abbrev pub namedThen : List ℕ → List ℕ → J AnimContent
+namedThen name vs = _>>=_ (times (getD vs 1 0) info) (λ is. ret (record { name = name; type = getD vs 0 0; infos = is }))
+
 pub record ContentAt (w x : List ℕ) (i j : ℕ) (c : AnimContent) (k l : ℕ) : Type 0 where
   pub word : ℕ
   pub byte : ℕ
@@ -222,15 +262,19 @@ pub record ContentAt (w x : List ℕ) (i j : ℕ) (c : AnimContent) (k l : ℕ) 
   pub infos : times (getD w (word + 1) 0) info w x (word + 2) byte ≡ fine (c .infos) k l
 
 pub content-at : (w x : List ℕ) (i j : ℕ) {c : AnimContent} {k l : ℕ} → content w x i j ≡ fine c k l → ContentAt w x i j c k l
-unfolding content
+unfolding content testsThen wordsFrom
 content-at w x i j e =
     opened w x i j (nextText (λ n. leb n 28)) _ e λ name m n a e.
-    let p2 : m + 1 + 1 ≡ m + 2 = omega arith in
-    opened-word w x m n (λ t. leb t 4) _ e λ h q e.
-    opened-word w x (m + 1) n (wide 1) _ e λ h q e.
-    opened w x (m + 2) n (times (getD w (m + 1) 0) info) _ (rw p2 at e) λ is o r b e.
+    opened-words w x m n namedTests (namedThen name) 0 e λ f e.
+    opened w x (m + 2) n (times (getD w (m + 1) 0) info) _ e λ is o r b e.
     fine-to (λ (c : AnimContent) (k l : ℕ). ContentAt w x i j c k l) e
-    (record { word = m; byte = n; name = a; there = omega (arith, h); type = refl; infos = b })
+    (record { word = m; byte = n; name = a; there = omega (arith, fits-there (wide 1) w (m + 1) (f .1 .0)); type = refl; infos = b })
+
+abbrev pub paneTests : List (ℕ → Bool)
+paneTests = wide 2 ∷ (λ b. leb b 1) ∷ wide 2 ∷ wide 2 ∷ []
+
+abbrev pub paneThen : List ℕ → J PaneAnimInfo
+paneThen vs = afterHead (getD vs 0 0) (getD vs 1 0) (getD vs 2 0) (getD vs 3 0)
 
 pub record SectionAt (w x : List ℕ) (r : PaneAnimInfo) (k l : ℕ) : Type 0 where
   pub word : ℕ
@@ -260,16 +304,13 @@ whole-at {A} p w x i j e =
     fine-to (λ (a : A) (k l : ℕ). p w x i j ≡ fine a k l) e (rw (f .0, f .1) b)
 
 pane-at : (w x : List ℕ) {r : PaneAnimInfo} {k l : ℕ} → pane w x 0 0 ≡ fine r k l → SectionAt w x r k l
-unfolding pane
+unfolding pane afterHead testsThen wordsFrom
 pane-at w x e =
-    opened-word w x 0 0 (wide 2) _ e λ h q e.
-    opened-word w x 1 0 (λ b. leb b 1) _ e λ h q e.
-    opened-word w x 2 0 (wide 2) _ e λ h q e.
-    opened-word w x 3 0 (wide 2) _ e λ h q e.
+    opened-words w x 0 0 paneTests paneThen 0 e λ f e.
     opened w x 4 0 (times (getD w 2 0) (nextText (wide 4))) _ e λ ts m n a e.
     opened w x m n (times (getD w 3 0) content) _ e λ cs o p b e.
     fine-to (λ (r : PaneAnimInfo) (k l : ℕ). SectionAt w x r k l) e
-    (record { word = m; byte = n; there = omega (arith, h); frames = refl; looping = refl; textures = a; contents = b })
+    (record { word = m; byte = n; there = omega (arith, fits-there (wide 2) w 3 (f .1 .1 .1 .0)); frames = refl; looping = refl; textures = a; contents = b })
 
 pub section-at : (w x : List ℕ) {r : PaneAnimInfo} {k l : ℕ} → section w x 0 0 ≡ fine r k l → SectionAt w x r k l
 unfolding section
