@@ -4,6 +4,7 @@ use Prim.Native.Nat.{ℕ, zero, suc, _+_, _*_, _-_, _≤_, _<_}
 use mathlib.Core.Path.{_≡_, refl, sym, ap, _∙_}
 use mathlib.Core.Bool.{Bool, true, false}
 use mathlib.Core.List.{List, [], _∷_}
+use native.Mathlib.Nat.{add-assoc}
 use native.Mathlib.Numerals.{add-one}
 use native.Mathlib.Omega.{arith}
 use borrow.Author.Tests.{ltb-true, leb-true, eq-eqb, ne-eqb}
@@ -19,8 +20,7 @@ use Rattle.bflan.specs.pai1.Record.{AnimTarget, ExtendedUserDataAnim, An
 use Rattle.bflan.specs.inner.JudgeParts.{afterHead}
 use Rattle.bflan.specs.inner.Measure.{fits}
 use Rattle.bflan.proofs.judge.Laws.{fine-to, no-word, no-text}
-use Rattle.bflan.proofs.judge.Measures.{fits-there, fits-holds, testsThen}
-use Rattle.bflan.proofs.reader.Rows.{offsetBy, offset-is}
+use Rattle.bflan.proofs.judge.Measures.{fits-there, fits-holds, testsThen, Fitting, wordsOn, past}
 
 -- ---- a walk of two parts
 
@@ -46,25 +46,13 @@ module _ {Y C : Type 0} (w x : List ℕ) (i j : ℕ) {y : Y} {k l : ℕ} where
       go true a d = f a d
       go false a d = no-word d
 
--- words with a test each, the first of them o behind i
-abbrev pub Fit : List (ℕ → Bool) → List ℕ → ℕ → ℕ → Type 0
-Fit [] w i o = Unit
-Fit (t ∷ ts) w i o = (fits t w (offsetBy i o) ≡ true) × Fit ts w i (o + 1)
-
-unfoldable pub wordsFrom : List (ℕ → Bool) → List ℕ → ℕ → ℕ → List ℕ
-wordsFrom [] w i o = []
-wordsFrom (t ∷ ts) w i o = getD w (offsetBy i o) 0 ∷ wordsFrom ts w i (o + 1)
-
-pub opened-words : {Y C : Type 0} (w x : List ℕ) (i j : ℕ) {y : Y} {k l : ℕ} (ts : List (ℕ → Bool)) (c : List ℕ → J Y) (o : ℕ) → testsThen ts c w x (offsetBy i o) j ≡ fine y k l
-    → (Fit ts w i o → c (wordsFrom ts w i o) w x (offsetBy i (o + length ts)) j ≡ fine y k l → C)
+-- words with a test each
+pub opened-words : {Y C : Type 0} (w x : List ℕ) (i j : ℕ) {y : Y} {k l : ℕ} (ts : List (ℕ → Bool)) (c : List ℕ → J Y) → testsThen ts c w x i j ≡ fine y k l
+    → (Fitting ts w i → c (wordsOn ts w i) w x (past ts i) j ≡ fine y k l → C)
     → C
-unfolding testsThen wordsFrom
-opened-words w x i j [] c o e f = let z : o + 0 ≡ o = omega arith in f tt (rw z e)
-opened-words w x i j (t ∷ ts) c o e f =
-    let s : offsetBy i o + 1 ≡ offsetBy i (o + 1) = rw (offset-is i o, offset-is i (o + 1)) (omega arith) in
-    let z : o + suc (length ts) ≡ o + 1 + length ts = omega arith in
-    opened-word w x (offsetBy i o) j t _ e λ h e.
-    opened-words w x i j ts _ (o + 1) (rw s at e) λ g e. f (h, g) (rw z e)
+unfolding testsThen
+opened-words w x i j [] c e f = f tt e
+opened-words w x i j (t ∷ ts) c e f = opened-word w x i j t _ e λ h e. opened-words w x (i + 1) j ts _ e λ g e. f (h, g) e
 
 -- ---- texts
 
@@ -170,17 +158,17 @@ pub record TargetAt (w x : List ℕ) (i j : ℕ) (t : AnimTarget) (k l : ℕ) : 
   pub keys : times (getD w (i + 3) 0) (row (keyWidths (getD w (i + 2) 0))) w x (i + 4) j ≡ fine (t .keys) k l
 
 pub target-at : (letters : ℕ) (w x : List ℕ) (i j : ℕ) {t : AnimTarget} {k l : ℕ} → target letters w x i j ≡ fine t k l → TargetAt w x i j t k l
-unfolding target testsThen wordsFrom
+unfolding target testsThen
 target-at letters w x i j e =
-    opened-words w x i j (targetTests letters) targetThen 0 e λ f e.
-    opened w x (i + 4) j (times (getD w (i + 3) 0) (row (keyWidths (getD w (i + 2) 0)))) _ e λ ks m n a e.
+    opened-words w x i j (targetTests letters) targetThen e λ f e.
+    opened w x (i + 4) j (times (getD w (i + 3) 0) (row (keyWidths (getD w (i + 2) 0)))) _ (simp add-assoc at e) λ ks m n a e.
     fine-to (λ (t : AnimTarget) (k l : ℕ). TargetAt w x i j t k l) e
     (record {
-      there = omega (arith, fits-there (wide 2) w (i + 3) (f .1 .1 .1 .0));
+      there = omega (arith, fits-there (wide 2) w (i + 1 + 1 + 1) (f .1 .1 .1 .0));
       layer = refl;
       number = refl;
       curve = refl;
-      low = ltb-true (getD w (i + 2) 0) 3 (fits-holds (λ c. ltb c 3) w (i + 2) (f .1 .1 .0));
+      low = ltb-true (getD w (i + 2) 0) 3 (fits-holds (λ c. ltb c 3) w (i + 2) (simp add-assoc at (f .1 .1 .0)));
       keys = a;
     })
 
@@ -203,10 +191,10 @@ pub record DatumAt (w x : List ℕ) (i j : ℕ) (d : ExtendedUserDataAnim) (k l 
   pub key : nextText (wide 4) w x (i + 5 + 3 * getD w (i + 3) 0) j ≡ fine (d .key) k l
 
 pub datum-at : (w x : List ℕ) (i j : ℕ) {d : ExtendedUserDataAnim} {k l : ℕ} → datum w x i j ≡ fine d k l → DatumAt w x i j d k l
-unfolding datum testsThen wordsFrom
+unfolding datum testsThen
 datum-at w x i j e =
-    opened-words w x i j datumTests datumThen 0 e λ f e.
-    opened w x (i + 5) j (times (3 * getD w (i + 3) 0) (nextWord (wide 4))) _ e λ vs m n a e.
+    opened-words w x i j datumTests datumThen e λ f e.
+    opened w x (i + 5) j (times (3 * getD w (i + 3) 0) (nextWord (wide 4))) _ (simp add-assoc at e) λ vs m n a e.
     let v = values-at (3 * getD w (i + 3) 0) w x (i + 5) j a in
     opened w x (i + 5 + 3 * getD w (i + 3) 0) j (nextText (wide 4)) _ (rw (v .word, v .byte) at e) λ key m n b e.
     fine-to (λ (d : ExtendedUserDataAnim) (k l : ℕ). DatumAt w x i j d k l) e
@@ -226,10 +214,10 @@ pub record InfoAt (w x : List ℕ) (i j : ℕ) (a : AnimInfo) (k l : ℕ) : Type
   pub body : infoThen (getD w i 0 ∷ getD w (i + 1) 0 ∷ []) w x (i + 2) j ≡ fine a k l
 
 pub info-at : (w x : List ℕ) (i j : ℕ) {a : AnimInfo} {k l : ℕ} → info w x i j ≡ fine a k l → InfoAt w x i j a k l
-unfolding info testsThen wordsFrom
+unfolding info testsThen
 info-at w x i j e =
-    opened-words w x i j infoTests infoThen 0 e λ f e.
-    record { there = omega (arith, fits-there (wide 1) w (i + 1) (f .1 .0)); body = e }
+    opened-words w x i j infoTests infoThen e λ f e.
+    record { there = omega (arith, fits-there (wide 1) w (i + 1) (f .1 .0)); body = simp add-assoc at e }
 
 module _ {C : Type 0} (w x : List ℕ) (i j : ℕ) {a : AnimInfo} {k l : ℕ} (e : info w x i j ≡ fine a k l) where
   pub info-extended : getD w i 0 ≡ fleu
@@ -262,11 +250,11 @@ pub record ContentAt (w x : List ℕ) (i j : ℕ) (c : AnimContent) (k l : ℕ) 
   pub infos : times (getD w (word + 1) 0) info w x (word + 2) byte ≡ fine (c .infos) k l
 
 pub content-at : (w x : List ℕ) (i j : ℕ) {c : AnimContent} {k l : ℕ} → content w x i j ≡ fine c k l → ContentAt w x i j c k l
-unfolding content testsThen wordsFrom
+unfolding content testsThen
 content-at w x i j e =
     opened w x i j (nextText (λ n. leb n 28)) _ e λ name m n a e.
-    opened-words w x m n namedTests (namedThen name) 0 e λ f e.
-    opened w x (m + 2) n (times (getD w (m + 1) 0) info) _ e λ is o r b e.
+    opened-words w x m n namedTests (namedThen name) e λ f e.
+    opened w x (m + 2) n (times (getD w (m + 1) 0) info) _ (simp add-assoc at e) λ is o r b e.
     fine-to (λ (c : AnimContent) (k l : ℕ). ContentAt w x i j c k l) e
     (record { word = m; byte = n; name = a; there = omega (arith, fits-there (wide 1) w (m + 1) (f .1 .0)); type = refl; infos = b })
 
@@ -304,9 +292,9 @@ whole-at {A} p w x i j e =
     fine-to (λ (a : A) (k l : ℕ). p w x i j ≡ fine a k l) e (rw (f .0, f .1) b)
 
 pane-at : (w x : List ℕ) {r : PaneAnimInfo} {k l : ℕ} → pane w x 0 0 ≡ fine r k l → SectionAt w x r k l
-unfolding pane afterHead testsThen wordsFrom
+unfolding pane afterHead testsThen
 pane-at w x e =
-    opened-words w x 0 0 paneTests paneThen 0 e λ f e.
+    opened-words w x 0 0 paneTests paneThen e λ f e.
     opened w x 4 0 (times (getD w 2 0) (nextText (wide 4))) _ e λ ts m n a e.
     opened w x m n (times (getD w 3 0) content) _ e λ cs o p b e.
     fine-to (λ (r : PaneAnimInfo) (k l : ℕ). SectionAt w x r k l) e
