@@ -20,25 +20,21 @@ use Rattle.bflan.specs.Limits.{All, Fits, FineText}
 use Rattle.bflan.specs.pai1.Limits.{FineTarget, FineDatum, FineInfo, FineNamed, FineContent, FineBut, Fine}
 use Rattle.bflan.specs.pai1.Record.{AnimTarget, ExtendedUserDataAnim, AnimInfo, Standard, ExtendedUserData, AnimContent, PaneAnimInfo, keyWidths, targetCells, datumCells, infoCells, contentCells, cells, words, texts}
 use Rattle.bflan.specs.Cells.{Cell, word as wordCell, chars as charsCell, wordsIn, bytesIn, textCells, each}
+use Rattle.bflan.specs.inner.JudgeParts.{afterHead}
 use Rattle.bflan.specs.pai1.Rewriting.{namesFit, untilLong, longAt}
-use Rattle.bflan.proofs.judge.Laws.{wordCount, byteCount, word-counts, byte-counts, Place, place-left, place-right, place-join, word-next, text-next, fine-at, Walks, word-law, text-law, times-law, row-law, one, values-law, one-text-law, all-map, place-all, text-long, Got, Sound, fine-to, opens, word-join, text-join, opens-word, text-sound, opens-text, AllOf, times-sound, row-sound, values-sound, wide-four, Judges, whole-judges}
+use Rattle.bflan.proofs.judge.Inversion.{targetTests, targetThen, datumTests, datumThen, infoTests, infoThen, namedTests, namedThen, paneTests, paneThen}
+use Rattle.bflan.proofs.judge.Measures.{testsThen}
+use Rattle.bflan.proofs.judge.Laws.{wordCount, byteCount, word-counts, byte-counts, Place, place-left, place-right, place-join, text-next, fine-at, Walks, tests-law, text-law, times-law, row-law, one, values-law, one-text-law, all-map, place-all, text-long, Got, Sound, fine-to, opens, word-join, text-join, opens-word, text-sound, opens-text, AllOf, times-sound, row-sound, values-sound, wide-four, Judges, whole-judges}
 
 -- ---- the walk over the cells of a part gives the part
 
 target-law : (letters : ℕ) → Walks (target letters) targetCells (FineTarget letters)
-unfolding target targetCells
+unfolding target targetCells testsThen
 target-law letters w x i j t q h =
-    let h1 = word-next h in
-    let h2 = word-next h1 in
-    let h3 = word-next h2 in
-    let h4 = word-next h3 in
-    rw (
-      word-law (wide 1) (lt-ltb (t .layer) 256 (q .layer)) h,
-      word-law (targetFits letters) (q .target) h1,
-      word-law (λ c. ltb c 3) (lt-ltb (t .curve) 3 (q .curve)) h2,
-      word-law (wide 2) (lt-ltb (length (t .keys)) 65536 (q .count)) h3,
-      times-law (row (keyWidths (t .curve))) (map wordCell) (Fits (keyWidths (t .curve))) (row-law (keyWidths (t .curve))) w x (i + 1 + 1 + 1 + 1) j (t .keys) (q .keys) h4,
-    )
+    let g = tests-law (targetTests letters) targetThen (t .layer ∷ t .target ∷ t .curve ∷ length (t .keys) ∷ []) (each (map wordCell) (t .keys))
+    (lt-ltb (t .layer) 256 (q .layer), (q .target, (lt-ltb (t .curve) 3 (q .curve), (lt-ltb (length (t .keys)) 65536 (q .count), tt)))) h in
+    g .0
+    ∙ rw (times-law (row (keyWidths (t .curve))) (map wordCell) (Fits (keyWidths (t .curve))) (row-law (keyWidths (t .curve))) w x (i + 1 + 1 + 1 + 1) j (t .keys) (q .keys) (g .1))
     (unfold wordsIn bytesIn in fine-at (omega arith) refl)
 
 module _ (d : ExtendedUserDataAnim) where
@@ -64,25 +60,17 @@ module _ (r : PaneAnimInfo) where
   section-bytes = byte-counts (each textCells (r .textures)) (each contentCells (r .contents))
 
 datum-law : Walks datum datumCells FineDatum
-unfolding datum datumCells
+unfolding datum datumCells testsThen
 datum-law w x i j d q h =
     let vs = map wordCell (d .values) in
     let key = charsCell (d .key) ∷ [] in
-    let h1 = word-next h in
-    let h2 = word-next h1 in
-    let h3 = word-next h2 in
-    let h4 = word-next h3 in
-    let h5 = word-next h4 in
-    let h6 = place-right vs key h5 in
-    rw (
-      word-law (wide 4) (lt-ltb (d .headerSize) (256 ^ 4) (q .headerSize)) h,
-      word-law (wide 2) (lt-ltb (d .unk1) 65536 (q .unk1)) h1,
-      word-law (wide 2) (lt-ltb (d .unk2) 65536 (q .unk2)) h2,
-      word-law (wide 4) (lt-ltb (d .baseCount) (256 ^ 4) (q .baseCount)) h3,
-      word-law (wide 4) (lt-ltb (d .unk3) (256 ^ 4) (q .unk3)) h4,
+    let g = tests-law datumTests datumThen (d .headerSize ∷ d .unk1 ∷ d .unk2 ∷ d .baseCount ∷ d .unk3 ∷ []) (vs ++ key)
+    (lt-ltb (d .headerSize) (256 ^ 4) (q .headerSize), (lt-ltb (d .unk1) 65536 (q .unk1), (lt-ltb (d .unk2) 65536 (q .unk2), (lt-ltb (d .baseCount) (256 ^ 4) (q .baseCount), (lt-ltb (d .unk3) (256 ^ 4) (q .unk3), tt))))) h in
+    g .0
+    ∙ rw (
       ← q .count,
-      values-law w x (i + 1 + 1 + 1 + 1 + 1) j (d .values) (q .values) (place-left vs key h5),
-      text-law (wide 4) (lt-ltb (length (d .key)) (256 ^ 4) (q .key .short)) (q .key) h6,
+      values-law w x (i + 1 + 1 + 1 + 1 + 1) j (d .values) (q .values) (place-left vs key (g .1)),
+      text-law (wide 4) (lt-ltb (length (d .key)) (256 ^ 4) (q .key .short)) (q .key) (place-right vs key (g .1)),
     )
     (fine-at (omega (arith, datum-words d)) (omega (arith, datum-bytes d)))
 
@@ -91,41 +79,27 @@ unfolding lettersFit listings fleu val
 fleu-fits = refl
 
 info-law : Walks info infoCells FineInfo
-unfolding info infoCells
+unfolding info infoCells testsThen
 info-law w x i j (Standard letters ts) q h =
-    let h1 = word-next h in
-    let h2 = word-next h1 in
-    rw (
-      word-law lettersFit (q .letters) h,
-      word-law (wide 1) (lt-ltb (length ts) 256 (q .count)) h1,
-      ne-eqb letters fleu (q .standard),
-      times-law (target letters) targetCells (FineTarget letters) (target-law letters) w x (i + 1 + 1) j ts (q .targets) h2,
-    )
+    let g = tests-law infoTests infoThen (letters ∷ length ts ∷ []) (each targetCells ts) (q .letters, (lt-ltb (length ts) 256 (q .count), tt)) h in
+    g .0
+    ∙ rw (ne-eqb letters fleu (q .standard), times-law (target letters) targetCells (FineTarget letters) (target-law letters) w x (i + 1 + 1) j ts (q .targets) (g .1))
     (unfold wordsIn bytesIn in fine-at (omega arith) refl)
 info-law w x i j (ExtendedUserData ds) q h =
-    let h1 = word-next h in
-    let h2 = word-next h1 in
-    rw (
-      word-law lettersFit fleu-fits h,
-      word-law (wide 1) (lt-ltb (length ds) 256 (q .0)) h1,
-      eq-eqb fleu fleu refl,
-      times-law datum datumCells FineDatum datum-law w x (i + 1 + 1) j ds (q .1) h2,
-    )
+    let g = tests-law infoTests infoThen (fleu ∷ length ds ∷ []) (each datumCells ds) (fleu-fits, (lt-ltb (length ds) 256 (q .0), tt)) h in
+    g .0
+    ∙ rw (eq-eqb fleu fleu refl, times-law datum datumCells FineDatum datum-law w x (i + 1 + 1) j ds (q .1) (g .1))
     (unfold wordsIn bytesIn in fine-at (omega arith) refl)
 
 content-law : Walks content contentCells FineContent
-unfolding content contentCells
+unfolding content contentCells testsThen
 content-law w x i j c q h =
-    let h1 = text-next h in
-    let h2 = word-next h1 in
-    let h3 = word-next h2 in
-    rw (
-      text-law (λ n. leb n 28) (le-leb (length (c .name)) 28 (q .short)) (q .name) h,
-      word-law (λ t. leb t 4) (le-leb (c .type) 4 (omega (arith, q .type))) h1,
-      word-law (wide 1) (lt-ltb (length (c .infos)) 256 (q .count)) h2,
-      times-law info infoCells FineInfo info-law w x (i + 1 + 1 + 1) (j + length (c .name)) (c .infos) (q .infos) h3,
-    )
-    (fine-at (unfold wordsIn in omega arith) (omega (arith, content-bytes c)))
+    let g = tests-law namedTests (namedThen (c .name)) (c .type ∷ length (c .infos) ∷ []) (each infoCells (c .infos))
+    (le-leb (c .type) 4 (omega (arith, q .type)), (lt-ltb (length (c .infos)) 256 (q .count), tt)) (text-next h) in
+    rw (text-law (λ n. leb n 28) (le-leb (length (c .name)) 28 (q .short)) (q .name) h)
+    (g .0
+    ∙ rw (times-law info infoCells FineInfo info-law w x (i + 1 + 1 + 1) (j + length (c .name)) (c .infos) (q .infos) (g .1))
+    (fine-at (unfold wordsIn in omega arith) (omega (arith, content-bytes c))))
 
 content-long : {w x : List ℕ} {i j : ℕ} (c : AnimContent) → leb (length (c .name)) 28 ≡ false → Place w x i j (contentCells c) → content w x i j ≡ badWord i
 unfolding content contentCells
@@ -178,28 +152,24 @@ module _ (most : ℕ) (w x : List ℕ) (i j : ℕ) (r : PaneAnimInfo) (q : FineB
   abbrev names : List Cell
   names = each textCells (r .textures)
 
-  behind-head : Place w x (i + 1 + 1 + 1 + 1) j (names ++ each contentCells (r .contents))
-  unfolding cells
-  behind-head = word-next (word-next (word-next (word-next h)))
+  -- its head, and the place behind it
+  head-law : (pane w x i j ≡ afterHead (r .frames) (r .looping) (length (r .textures)) (length (r .contents)) w x (i + 1 + 1 + 1 + 1) j)
+      × Place w x (i + 1 + 1 + 1 + 1) j (names ++ each contentCells (r .contents))
+  unfolding pane cells afterHead testsThen
+  head-law =
+      tests-law paneTests paneThen (r .frames ∷ r .looping ∷ length (r .textures) ∷ length (r .contents) ∷ []) (names ++ each contentCells (r .contents))
+      (lt-ltb (r .frames) 65536 (q .frames), (le-leb (r .looping) 1 (omega (arith, q .looping)), (lt-ltb (length (r .textures)) 65536 (q .textureCount), (lt-ltb (length (r .contents)) 65536 (q .contentCount), tt)))) h
 
   contents-there : Place w x (i + 1 + 1 + 1 + 1 + wordCount names) (j + byteCount names) (each contentCells (r .contents))
-  contents-there = place-right names (each contentCells (r .contents)) behind-head
+  contents-there = place-right names (each contentCells (r .contents)) (head-law .1)
 
   pane-head : pane w x i j
       ≡ andThen (times (length (r .contents)) content w x (i + 1 + 1 + 1 + 1 + wordCount names) (j + byteCount names))
       (λ cs. ret (record { frames = r .frames; looping = r .looping; textures = r .textures; contents = cs })) w x
-  unfolding pane cells
+  unfolding afterHead
   pane-head =
-      let h1 = word-next h in
-      let h2 = word-next h1 in
-      let h3 = word-next h2 in
-      rw (
-        word-law (wide 2) (lt-ltb (r .frames) 65536 (q .frames)) h,
-        word-law (λ b. leb b 1) (le-leb (r .looping) 1 (omega (arith, q .looping))) h1,
-        word-law (wide 2) (lt-ltb (length (r .textures)) 65536 (q .textureCount)) h2,
-        word-law (wide 2) (lt-ltb (length (r .contents)) 65536 (q .contentCount)) h3,
-        times-law (nextText (wide 4)) textCells FineText one-text-law w x (i + 1 + 1 + 1 + 1) j (r .textures) (q .textures) (place-left names (each contentCells (r .contents)) behind-head),
-      )
+      head-law .0
+      ∙ rw (times-law (nextText (wide 4)) textCells FineText one-text-law w x (i + 1 + 1 + 1 + 1) j (r .textures) (q .textures) (place-left names (each contentCells (r .contents)) (head-law .1)))
 
 pane-law : Walks pane cells Fine
 pane-law w x i j r q h =

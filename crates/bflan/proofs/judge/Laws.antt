@@ -20,6 +20,7 @@ use Rattle.bflan.specs.Judge.{Judged, fine, badWord, badText, J, andThen
 use Rattle.bflan.specs.Layout.{bytes, _⨾_, size, written}
 use Rattle.bflan.specs.Limits.{All, Fits, FineText}
 use Rattle.bflan.specs.Cells.{Cell, word as wordCell, chars as charsCell, wordsIn, bytesIn, textCells, each}
+use Rattle.bflan.proofs.judge.Measures.{testsThen, past}
 use Rattle.bflan.proofs.Layouts.{Stands, stands-left, stands-right}
 
 -- ---- texts
@@ -185,6 +186,23 @@ unfolding nextWord
 word-law {w} {x} {i} {j} {v} test q h =
     let f = word-first h in
     rw (lt-ltb i (length w) (f .0), f .1, q)
+
+-- words with a test each, and the place behind them
+abbrev pub Pass : List (ℕ → Bool) → List ℕ → Type 0
+Pass [] [] = Unit
+Pass [] (v ∷ vs) = ⊥
+Pass (t ∷ ts) [] = ⊥
+Pass (t ∷ ts) (v ∷ vs) = (t v ≡ true) × Pass ts vs
+
+pub tests-law : {A : Type 0} {w x : List ℕ} {i j : ℕ} (ts : List (ℕ → Bool)) (c : List ℕ → J A) (vs : List ℕ) (cs : List Cell) → Pass ts vs → Place w x i j (map wordCell vs ++ cs)
+    → (testsThen ts c w x i j ≡ c vs w x (past ts i) j) × Place w x (past ts i) j cs
+unfolding testsThen
+tests-law [] c [] cs q h = (refl, h)
+tests-law [] c (v ∷ vs) cs q h = absurd q
+tests-law (t ∷ ts) c [] cs q h = absurd q
+tests-law (t ∷ ts) c (v ∷ vs) cs q h =
+    let g = tests-law ts (λ us. c (v ∷ us)) vs cs (q .1) (word-next h) in
+    (rw (word-law t (q .0) h) (g .0), g .1)
 
 pub text-law : {w x : List ℕ} {i j : ℕ} {t : List ℕ} {cs : List Cell} (test : ℕ → Bool) → test (length t) ≡ true → FineText t
     → Place w x i j (charsCell t ∷ cs) → nextText test w x i j ≡ fine t (i + 1) (j + length t)
