@@ -133,12 +133,6 @@ leading [] = 0
 leading (character bs ∷ ps) = length bs + leading ps
 leading (ill bs ∷ ps) = 0
 
--- how many bytes an ill-formed subpart has that comes first; 0 where none does
-unfoldable pub illFirst : List Piece → ℕ
-illFirst [] = 0
-illFirst (character bs ∷ ps) = 0
-illFirst (ill bs ∷ ps) = length bs
-
 unfoldable pub clean : List Piece → Bool
 clean [] = true
 clean (character bs ∷ ps) = clean ps
@@ -150,9 +144,6 @@ decode t = decoded (pieces t)
 -- where the first ill-formed subpart starts, or the length
 unfoldable pub validUpTo : List ℕ → ℕ
 validUpTo t = leading (pieces t)
-
-unfoldable pub illSize : List ℕ → ℕ
-illSize t = illFirst (pieces t)
 
 unfoldable pub wellFormed : List ℕ → Bool
 wellFormed t = clean (pieces t)

@@ -11,7 +11,8 @@ use lib.Dec.{leb, eqb}
 use lib.ListN.{length, getD, take, drop, length-append, take-append-drop, length-drop}
 use lib.Seq.{length-take-le, take-add, take-append-le, drop-append-le, drop-drop, drop-length}
 use Rattle.core.specs.Choice.{pick}
-use Rattle.core.specs.Utf8.{Range, rows, within, classOf, laterOf, matched, more, good, replacement, decode, validUpTo, illSize, wellFormed, clean, pieces, piecesAfter, pieceOf}
+use Rattle.core.specs.Utf8.{Range, rows, within, classOf, laterOf, matched, more, good, replacement, decode, validUpTo, wellFormed, clean, pieces, piecesAfter, pieceOf}
+use Rattle.core.specs.inner.Scan.{illSize}
 use Rattle.core.proofs.utf8.Steps.{matched-le, class-below}
 use Rattle.core.proofs.utf8.Pieces.{more-within, by-pieces, decode-nil, decode-good, decode-bad, valid-nil, valid-good, valid-bad, ill-nil, ill-good, ill-bad, well-nil, well-good, well-bad}
 

@@ -9,7 +9,8 @@ use lib.ListN.{length, take, drop}
 use lib.Seq.{length-take-le}
 use Rattle.core.specs.Choice.{pick}
 use Rattle.core.specs.declared.utf8.step.Step.the-variants.{Good, Bad}
-use Rattle.core.specs.Utf8.{Range, within, classOf, laterOf, matched, more, good, stepOf, Piece, character, ill, pieceOf, piecesAfter, pieces, replacement, shown, decoded, leading, illFirst, clean, decode, validUpTo, illSize, wellFormed}
+use Rattle.core.specs.Utf8.{Range, within, classOf, laterOf, matched, more, good, stepOf, Piece, character, ill, pieceOf, piecesAfter, pieces, replacement, shown, decoded, leading, clean, decode, validUpTo, wellFormed}
+use Rattle.core.specs.inner.Scan.{illFirst, illSize}
 
 -- ---- the first piece
 

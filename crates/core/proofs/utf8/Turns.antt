@@ -13,9 +13,10 @@ use lib.ListN.{length, getD, take, drop, length-append, length-drop, drop-of-len
 use lib.Seq.{sets, slice, slice-empty, length-slice, drop-cons, drop-drop, take-nil}
 use Rattle.core.specs.declared.utf8.step.Step.{Step}
 use Rattle.core.specs.declared.utf8.step.Step.the-variants.{Good, Bad}
-use Rattle.core.specs.Utf8.{rows, classOf, laterOf, matched, more, good, stepOf, replacement, decode, decodedSize, validUpTo, illSize}
+use Rattle.core.specs.Utf8.{rows, classOf, laterOf, matched, more, good, stepOf, replacement, decode, decodedSize, validUpTo}
 use Rattle.core.specs.Choice.{pick}
-use Rattle.core.specs.Text.{beforeZero, firstFault, every, notZero, ascii, plain, asciiSeen, isPlain, plainAt, endedOf}
+use Rattle.core.specs.Text.{beforeZero, firstFault, every, notZero, ascii, plain, isPlain, plainAt, endedOf}
+use Rattle.core.specs.inner.Scan.{illSize, asciiSeen}
 use Rattle.core.specs.declared.text.TextAt.the-variants.{Text}
 use Rattle.core.proofs.Stores.{sets-on}
 use Rattle.core.proofs.Tests.{every-at}
