@@ -138,12 +138,22 @@ clean [] = true
 clean (character bs ∷ ps) = clean ps
 clean (ill bs ∷ ps) = false
 
+-- how many ill-formed subparts there are: each is shown as one U+FFFD
+unfoldable pub illCount : List Piece → ℕ
+illCount [] = 0
+illCount (character bs ∷ ps) = illCount ps
+illCount (ill bs ∷ ps) = suc (illCount ps)
+
 unfoldable pub decode : List ℕ → List ℕ
 decode t = decoded (pieces t)
 
 -- where the first ill-formed subpart starts, or the length
 unfoldable pub validUpTo : List ℕ → ℕ
 validUpTo t = leading (pieces t)
+
+-- how many U+FFFD the decoding puts in; one that the text has itself is a character
+unfoldable pub replacements : List ℕ → ℕ
+replacements t = illCount (pieces t)
 
 unfoldable pub wellFormed : List ℕ → Bool
 wellFormed t = clean (pieces t)
