@@ -36,10 +36,6 @@ plain b = notZero b && ascii b
 unfoldable pub zeroFree : List ℕ → Bool
 zeroFree bs = every notZero bs
 
--- a text that is seen to be ASCII at once: one of 8 to 32 bytes only if it has no zero either
-unfoldable pub asciiSeen : List ℕ → Bool
-asciiSeen t = every (pick (leb 8 (length t) && leb (length t) 32) plain ascii) t
-
 -- a plain text: 8 to 32 bytes from 01 to 7F
 unfoldable pub isPlain : List ℕ → Bool
 isPlain t = (leb 8 (length t) && leb (length t) 32) && every plain t

@@ -133,16 +133,16 @@ leading [] = 0
 leading (character bs ∷ ps) = length bs + leading ps
 leading (ill bs ∷ ps) = 0
 
--- how many bytes an ill-formed subpart has that comes first; 0 where none does
-unfoldable pub illFirst : List Piece → ℕ
-illFirst [] = 0
-illFirst (character bs ∷ ps) = 0
-illFirst (ill bs ∷ ps) = length bs
-
 unfoldable pub clean : List Piece → Bool
 clean [] = true
 clean (character bs ∷ ps) = clean ps
 clean (ill bs ∷ ps) = false
+
+-- how many ill-formed subparts there are: each is shown as one U+FFFD
+unfoldable pub illCount : List Piece → ℕ
+illCount [] = 0
+illCount (character bs ∷ ps) = illCount ps
+illCount (ill bs ∷ ps) = suc (illCount ps)
 
 unfoldable pub decode : List ℕ → List ℕ
 decode t = decoded (pieces t)
@@ -151,8 +151,9 @@ decode t = decoded (pieces t)
 unfoldable pub validUpTo : List ℕ → ℕ
 validUpTo t = leading (pieces t)
 
-unfoldable pub illSize : List ℕ → ℕ
-illSize t = illFirst (pieces t)
+-- how many U+FFFD the decoding puts in; one that the text has itself is a character
+unfoldable pub replacements : List ℕ → ℕ
+replacements t = illCount (pieces t)
 
 unfoldable pub wellFormed : List ℕ → Bool
 wellFormed t = clean (pieces t)

@@ -1,1 +1,2 @@
 pub mod Flow
+pub mod Scan

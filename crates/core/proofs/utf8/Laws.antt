@@ -11,9 +11,10 @@ use lib.Dec.{leb, eqb}
 use lib.ListN.{length, getD, take, drop, length-append, take-append-drop, length-drop}
 use lib.Seq.{length-take-le, take-add, take-append-le, drop-append-le, drop-drop, drop-length}
 use Rattle.core.specs.Choice.{pick}
-use Rattle.core.specs.Utf8.{Range, rows, within, classOf, laterOf, matched, more, good, replacement, decode, validUpTo, illSize, wellFormed, clean, pieces, piecesAfter, pieceOf}
+use Rattle.core.specs.Utf8.{Range, rows, within, classOf, laterOf, matched, more, good, replacement, decode, validUpTo, replacements, wellFormed, clean, pieces, piecesAfter, pieceOf}
+use Rattle.core.specs.inner.Scan.{illSize}
 use Rattle.core.proofs.utf8.Steps.{matched-le, class-below}
-use Rattle.core.proofs.utf8.Pieces.{more-within, by-pieces, decode-nil, decode-good, decode-bad, valid-nil, valid-good, valid-bad, ill-nil, ill-good, ill-bad, well-nil, well-good, well-bad}
+use Rattle.core.proofs.utf8.Pieces.{more-within, by-pieces, decode-nil, decode-good, decode-bad, valid-nil, valid-good, valid-bad, ill-nil, ill-good, ill-bad, count-nil, count-good, count-bad, well-nil, well-good, well-bad}
 
 -- what holds of a text by its first piece, with the two cases apart
 module _ (P : List ℕ → Type 0) (none : P []) (one : (x : ℕ) (xs : List ℕ) → good x xs ≡ true → P (drop (more x xs) xs) → P (x ∷ xs))
@@ -158,6 +159,40 @@ decode-ill =
     by-kind (λ t. 0 < illSize t → decode t ≡ replacement ++ decode (drop (illSize t) t)) (λ q. absurd (omega (arith, ill-nil)))
     (λ x xs e h q. absurd (omega (arith, ill-good x xs e)))
     (λ x xs e h q. decode-bad x xs e ∙ rw (ill-bad x xs e))
+
+-- ---- how many U+FFFD a decoding puts in
+
+-- none for the characters at the front
+pub count-front : (t : List ℕ) → replacements t ≡ replacements (drop (validUpTo t) t)
+count-front =
+    by-kind (λ t. replacements t ≡ replacements (drop (validUpTo t) t)) (rw valid-nil)
+    (λ x xs e h.
+    count-good x xs e
+    ∙ h
+    ∙ ap replacements (drop-drop (validUpTo (drop (more x xs) xs)) (suc (more x xs)) (x ∷ xs))
+    ∙ ap (λ (n : ℕ). replacements (drop n (x ∷ xs))) (sym (valid-good x xs e)))
+    (λ x xs e h. rw (valid-bad x xs e))
+
+-- one for an ill-formed subpart that comes first
+pub count-ill : (t : List ℕ) → 0 < illSize t → replacements t ≡ suc (replacements (drop (illSize t) t))
+count-ill =
+    by-kind (λ t. 0 < illSize t → replacements t ≡ suc (replacements (drop (illSize t) t))) (λ q. absurd (omega (arith, ill-nil)))
+    (λ x xs e h q. absurd (omega (arith, ill-good x xs e)))
+    (λ x xs e h q. count-bad x xs e ∙ rw (ill-bad x xs e))
+
+-- no more than the text has bytes
+pub count-le : (t : List ℕ) → replacements t ≤ length t
+count-le =
+    by-kind (λ t. replacements t ≤ length t) (rw count-nil (omega arith))
+    (λ x xs e h. let d = length-drop (more x xs) xs in rw (count-good x xs e) (omega arith))
+    (λ x xs e h. let d = length-drop (more x xs) xs in rw (count-bad x xs e) (omega arith))
+
+-- none exactly where the text is well-formed
+pub well-count : (t : List ℕ) → wellFormed t ≡ eqb (replacements t) 0
+well-count =
+    by-kind (λ t. wellFormed t ≡ eqb (replacements t) 0) (rw (well-nil, count-nil))
+    (λ x xs e h. well-good x xs e ∙ h ∙ rw (count-good x xs e))
+    (λ x xs e h. well-bad x xs e ∙ sym (ne-eqb (replacements (x ∷ xs)) 0 (λ q. let z = count-bad x xs e in omega arith)))
 
 -- ---- a well-formed text, alone and in front of another
 

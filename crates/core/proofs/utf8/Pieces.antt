@@ -9,7 +9,8 @@ use lib.ListN.{length, take, drop}
 use lib.Seq.{length-take-le}
 use Rattle.core.specs.Choice.{pick}
 use Rattle.core.specs.declared.utf8.step.Step.the-variants.{Good, Bad}
-use Rattle.core.specs.Utf8.{Range, within, classOf, laterOf, matched, more, good, stepOf, Piece, character, ill, pieceOf, piecesAfter, pieces, replacement, shown, decoded, leading, illFirst, clean, decode, validUpTo, illSize, wellFormed}
+use Rattle.core.specs.Utf8.{Range, within, classOf, laterOf, matched, more, good, stepOf, Piece, character, ill, pieceOf, piecesAfter, pieces, replacement, shown, decoded, leading, clean, illCount, decode, validUpTo, replacements, wellFormed}
+use Rattle.core.specs.inner.Scan.{illFirst, illSize}
 
 -- ---- the first piece
 
@@ -76,6 +77,10 @@ pub ill-nil : illSize [] ≡ 0
 unfolding illSize illFirst
 ill-nil = rw pieces-nil
 
+pub count-nil : replacements [] ≡ 0
+unfolding replacements illCount
+count-nil = rw pieces-nil
+
 pub well-nil : wellFormed [] ≡ true
 unfolding wellFormed clean
 well-nil = rw pieces-nil
@@ -93,6 +98,10 @@ module _ (x : ℕ) (xs : List ℕ) (e : good x xs ≡ true) where
   unfolding illSize illFirst
   ill-good = rw (pieces-cons, piece-good x xs e)
 
+  pub count-good : replacements (x ∷ xs) ≡ replacements (drop (more x xs) xs)
+  unfolding replacements illCount
+  count-good = rw (pieces-cons, piece-good x xs e)
+
   pub well-good : wellFormed (x ∷ xs) ≡ wellFormed (drop (more x xs) xs)
   unfolding wellFormed clean
   well-good = rw (pieces-cons, piece-good x xs e)
@@ -109,6 +118,10 @@ module _ (x : ℕ) (xs : List ℕ) (e : good x xs ≡ false) where
   pub ill-bad : illSize (x ∷ xs) ≡ suc (more x xs)
   unfolding illSize illFirst
   ill-bad = rw (pieces-cons, piece-bad x xs e, length-take-le (more x xs) xs (more-within x xs))
+
+  pub count-bad : replacements (x ∷ xs) ≡ suc (replacements (drop (more x xs) xs))
+  unfolding replacements illCount
+  count-bad = rw (pieces-cons, piece-bad x xs e)
 
   pub well-bad : wellFormed (x ∷ xs) ≡ false
   unfolding wellFormed clean

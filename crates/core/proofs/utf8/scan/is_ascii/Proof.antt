@@ -9,7 +9,8 @@ use borrow.Author.Needs.{needs}
 use borrow.Author.Tests.{le-leb, lt-leb}
 use lib.ListN.{length, take, drop}
 use lib.Seq.{take-all}
-use Rattle.core.specs.Text.{every, ascii, plain, asciiSeen}
+use Rattle.core.specs.Text.{every, ascii, plain}
+use Rattle.core.specs.inner.Scan.{asciiSeen}
 use Rattle.core.proofs.utf8.scan.is_ascii.Statement.{statement}
 use Rattle.core.proofs.utf8.scan.is_ascii.Tie as tie
 

@@ -7,7 +7,8 @@ use mathlib.Core.List.{List}
 use borrow.Author.Needs.{needs}
 use borrow.Author.Tests.{le-leb, lt-leb}
 use lib.ListN.{length}
-use Rattle.core.specs.Text.{asciiSeen, isPlain}
+use Rattle.core.specs.Text.{isPlain}
+use Rattle.core.specs.inner.Scan.{asciiSeen}
 use Rattle.core.proofs.utf8.scan.is_plain.Statement.{statement}
 use Rattle.core.proofs.utf8.scan.is_plain.Tie as tie
 

@@ -1,0 +1,22 @@
+-- What the fast scan of a text asks: how long the ill-formed subpart is that stops it, and whether a text is ASCII at first sight.
+use Prim.Native.Nat.{ℕ}
+use mathlib.Core.Bool.{Bool, _&&_}
+use mathlib.Core.List.{List, [], _∷_}
+use lib.Dec.{leb}
+use lib.ListN.{length}
+use Rattle.core.specs.Choice.{pick}
+use Rattle.core.specs.Text.{every, ascii, plain}
+use Rattle.core.specs.Utf8.{Piece, character, ill, pieces}
+
+-- how many bytes an ill-formed subpart has that comes first; 0 where none does
+unfoldable pub illFirst : List Piece → ℕ
+illFirst [] = 0
+illFirst (character bs ∷ ps) = 0
+illFirst (ill bs ∷ ps) = length bs
+
+unfoldable pub illSize : List ℕ → ℕ
+illSize t = illFirst (pieces t)
+
+-- a text that is seen to be ASCII at once: one of 8 to 32 bytes only if it has no zero either
+unfoldable pub asciiSeen : List ℕ → Bool
+asciiSeen t = every (pick (leb 8 (length t) && leb (length t) 32) plain ascii) t
