@@ -26,23 +26,27 @@ use Rattle.bflan.specs.pai1.Calls.{reading}
 use Rattle.bflan.specs.pai1.Letters.{fleu}
 use Rattle.bflan.specs.Layout.{nothing, number, bytes, _⨾_, size, written, zeros, parts, table, ended}
 use Rattle.bflan.specs.pai1.Layout.{keyLay, targetLay, datumLay, infoHead, infoLay, infosOut, tableFrom, infosFrom, userLay, contentBody, contentLay, namesEnd, contentTable, sectionSize, sectionLay}
+use Rattle.bflan.specs.pai1.Places.{total}
 use Rattle.bflan.specs.Limits.{All, Fits, FineText}
 use Rattle.bflan.specs.pai1.Limits.{FineTarget, FineDatum, FineInfo, FineContent, Fine, Within}
 use Rattle.bflan.specs.Reader.{ok, _>>=_, given, here, Item, word, text, many, visit, num, numbers, seekTo, oneEnded}
 use Rattle.bflan.specs.pai1.Reading.{keyOf, keys, target, datum, info, typeOf, infoTable, content, texture, contents, ownBytes, flagOf, section, ownLetters}
-use Rattle.bflan.specs.pai1.Record.{Standard, ExtendedUserData, AnimContent, PaneAnimInfo, keyWidths, targetCells, datumCells, infoCells, contentCells, cells, words, texts}
+use Rattle.bflan.specs.pai1.Record.{AnimTarget, ExtendedUserDataAnim, Standard, ExtendedUserData, AnimContent, PaneAnimInfo, keyWidths, targetCells, datumCells, infoCells, contentCells, cells, words, texts}
 use Rattle.bflan.specs.Cells.{Cell, word as wordCell, chars, each, wordsIn, bytesIn, textCells}
 use Rattle.bflan.specs.Items.{shownAt, wordsOf, textsOf}
 use Rattle.bflan.proofs.read.Answers.{reading-gives}
-use Rattle.bflan.proofs.letters.Codes.{fits-lt, fits-own, fit-lt, letters-own}
+use Rattle.bflan.proofs.letters.Codes.{fleu-lt, fits-lt, fits-own, fit-lt, letters-own}
 use Rattle.bflan.specs.pai1.RecordAt.{nameSize}
 use Rattle.bflan.proofs.reader.ContentParts.{contentRest, content-there, rest-at}
+use Rattle.bflan.proofs.reader.DatumParts.{fieldsIn, datumAfter, widths as datumWidths, datum-there}
 use Rattle.bflan.proofs.reader.Emits.{sought-there, ended-on, shown-part}
+use Rattle.bflan.proofs.reader.InfoParts.{info-extended, info-standard}
 use Rattle.bflan.proofs.reader.KeyRuns.{asNumbers, numbers-run}
+use Rattle.bflan.proofs.reader.Rows.{fieldsAt}
 use Rattle.bflan.proofs.reader.SectionParts.{endAt, headItems, section-body, body-there, contents-on}
-use Rattle.bflan.proofs.Layouts.{Stands, stands-left, stands-right, stands-to, stands-all, stands-num, stands-get, size-table, size-written, offsets, table-reads, user-size, section-sizes, section-size, stands-code}
+use Rattle.bflan.proofs.Layouts.{Stands, stands-left, stands-right, stands-to, stands-all, stands-num, stands-get, size-table, size-written, offsets, table-reads, user-size, section-sizes, section-size, stands-code, fields-stand}
 use Rattle.bflan.proofs.round_trip.ReadBack.{shownIn, Reads, reads-as, reads-none, reads-before, reads-joined, ReadsPart, ReadsAt, many-reads, visit-reads, key-reads, shown-words, words-shown, texts-shown}
-use Rattle.bflan.proofs.reader.TargetParts.{curve-low, count-low}
+use Rattle.bflan.proofs.reader.TargetParts.{targetAfter, widths as targetWidths, target-there, curve-low, count-low}
 use Rattle.bflan.proofs.reader.Walks.{before, joined, put-before}
 
 -- ---- texts
@@ -73,25 +77,26 @@ texture-reads s b i t f h =
 
 -- ---- targets
 
+pub target-head : {s : List ℕ} {letters b : ℕ} (t : AnimTarget) → FineTarget letters t → Stands s b (targetLay t)
+    → (fieldsAt targetWidths s b 0 ≡ t .layer ∷ t .target ∷ t .curve ∷ 0 ∷ length (t .keys) ∷ 0 ∷ 12 ∷ []) × Stands s (b + 12) (parts (keyLay (t .curve)) (t .keys))
+unfolding targetLay total
+target-head {letters = letters} {b = b} t f h =
+    fields-stand targetWidths (t .layer ∷ t .target ∷ t .curve ∷ 0 ∷ length (t .keys) ∷ 0 ∷ 12 ∷ []) (parts (keyLay (t .curve)) (t .keys)) b 0
+    (f .layer, (fits-lt letters (t .target) (f .target), (omega (arith, f .curve), (omega arith, (f .count, (omega arith, (omega arith, tt))))))) h
+
 pub target-reads : (letters : ℕ) (s : List ℕ) → ReadsAt targetLay targetCells (FineTarget letters) s (target letters)
-unfolding target targetLay targetCells size keys shownIn
+unfolding targetCells keys shownIn
 target-reads letters s b i t f h =
-    let h1 = stands-right h in
-    let h2 = stands-right h1 in
-    let h3 = stands-right h2 in
-    let h4 = stands-right h3 in
-    let h5 = stands-right h4 in
-    let h6 = stands-right h5 in
-    let h7 = stands-right h6 in
-    let l : b ≤ length s = omega (arith, h .fits) in
-    let l12 : b + 12 ≤ length s = omega (arith, h .fits) in
-    let c : t .curve < 256 ^ 1 = omega (arith, f .curve) in
+    let g = target-head t f h in
+    let l : b + 12 ≤ length s = omega (arith, g .1 .fits) in
     let low : t .curve ≤ 2 = omega (arith, f .curve) in
-    let k = many-reads (keyLay (t .curve)) (map wordCell) (Fits (keyWidths (t .curve))) s (keyOf (t .curve)) (key-reads (t .curve) (f .curve) s) (b + 12) (t .keys) (f .keys) (stands-to h7 (omega arith)) in
-    let e : target letters b s i ≡ before (word (t .layer) ∷ word (t .target) ∷ word (t .curve) ∷ word (length (t .keys)) ∷ []) (many (length (t .keys)) (keyOf (t .curve)) s (b + 12)) =
-    rw (sought-there s b i l, stands-num (stands-left h) (f .layer), stands-num (stands-left h1) (fits-lt letters (t .target) (f .target)), stands-num (stands-left h2) c, stands-num (stands-left h3) (omega arith), stands-num (stands-left h4) (f .count), stands-num (stands-left h5) (omega arith), stands-num (stands-left h6) (omega arith), sought-there s (b + 12) (b + 1 + 1 + 1 + 1 + 2 + 2 + 4) l12, curve-low (t .curve) (length (t .keys)) low, count-low (t .curve) (length (t .keys)) low, fits-own letters (t .target) (f .target))
-    (put-before (word (t .layer) ∷ word (t .target) ∷ word (t .curve) ∷ word (length (t .keys)) ∷ []) (many (length (t .keys)) (keyOf (t .curve)) s (b + 12)) s) in
-    record { next = b + 12 + size (parts (keyLay (t .curve)) (t .keys)); here = reads-as (sym e) refl refl (reads-before (word (t .layer) ∷ word (t .target) ∷ word (t .curve) ∷ word (length (t .keys)) ∷ []) k) }
+    let ws : List Item = word (t .layer) ∷ word (t .target) ∷ word (t .curve) ∷ word (length (t .keys)) ∷ [] in
+    let k = many-reads (keyLay (t .curve)) (map wordCell) (Fits (keyWidths (t .curve))) s (keyOf (t .curve)) (key-reads (t .curve) (f .curve) s) (b + 12) (t .keys) (f .keys) (g .1) in
+    let e : target letters b s i ≡ before ws (many (length (t .keys)) (keyOf (t .curve)) s (b + 12)) =
+    target-there letters b s i l ∙ ap (λ (vs : List ℕ). targetAfter letters b vs s (b + 12)) (g .0)
+    ∙ rw (sought-there s (b + 12) (b + 12) l, curve-low (t .curve) (length (t .keys)) low, count-low (t .curve) (length (t .keys)) low, fits-own letters (t .target) (f .target))
+    (put-before ws (many (length (t .keys)) (keyOf (t .curve)) s (b + 12)) s) in
+    record { next = b + 12 + size (parts (keyLay (t .curve)) (t .keys)); here = reads-as (sym e) refl refl (reads-before ws k) }
 
 -- ---- extended data
 
@@ -108,60 +113,71 @@ size-ended : (t : List ℕ) → size (ended t) ≡ length t + 1
 unfolding ended size
 size-ended t = refl
 
+pub datum-head : {s : List ℕ} {i : ℕ} (d : ExtendedUserDataAnim) → FineDatum d → Stands s i (datumLay d)
+    → (fieldsAt datumWidths s i 0 ≡ d .headerSize ∷ d .unk1 ∷ d .unk2 ∷ d .baseCount ∷ d .unk3 ∷ []) × Stands s (i + 16) (parts (number 4) (d .values) ⨾ number 4 4 ⨾ ended (d .key))
+unfolding datumLay total
+datum-head {i = i} d f h =
+    fields-stand datumWidths (d .headerSize ∷ d .unk1 ∷ d .unk2 ∷ d .baseCount ∷ d .unk3 ∷ []) (parts (number 4) (d .values) ⨾ number 4 4 ⨾ ended (d .key)) i 0
+    (f .headerSize, (f .unk1, (f .unk2, (f .baseCount, (f .unk3, tt))))) h
+
 pub datum-reads : (s : List ℕ) → ReadsPart datumLay datumCells FineDatum s datum
-unfolding datum datumLay datumCells size shownIn
+unfolding datumCells size shownIn
 datum-reads s i d f h =
-    let h1 = stands-right h in
+    let g = datum-head d f h in
+    let h1 = stands-right (g .1) in
     let h2 = stands-right h1 in
-    let h3 = stands-right h2 in
-    let h4 = stands-right h3 in
-    let h5 = stands-right h4 in
-    let h6 = stands-right h5 in
-    let h7 = stands-right h6 in
-    let j : ℕ = i + 4 + 2 + 2 + 4 + 4 + size (parts (number 4) (d .values)) in
-    let l : j + 4 ≤ length s = omega (arith, h7 .fits) in
+    let j : ℕ = i + 16 + size (parts (number 4) (d .values)) in
+    let l : j + 4 ≤ length s = omega (arith, h2 .fits) in
     let hs : List Item = word (d .headerSize) ∷ word (d .unk1) ∷ word (d .unk2) ∷ word (d .baseCount) ∷ word (d .unk3) ∷ [] in
-    let z = reads-before hs (reads-before (map word (d .values)) (text-reads s (j + 4) (d .key) (f .key) h7)) in
-    let n = size-ended (d .key) in
-    reads-as
-    (rw (stands-num (stands-left h) (f .headerSize), stands-num (stands-left h1) (f .unk1), stands-num (stands-left h2) (f .unk2), stands-num (stands-left h3) (f .baseCount), stands-num (stands-left h4) (f .unk3), ← f .count, values-read s (i + 4 + 2 + 2 + 4 + 4) (d .values) (f .values) (stands-left h5), stands-num (stands-left h6) (omega arith), sought-there s (j + 4) (j + 4) l, ended-reads s (j + 4) (d .key) (f .key) h7))
+    let z = reads-before hs (reads-before (map word (d .values)) (text-reads s (j + 4) (d .key) (f .key) h2)) in
+    let n : j + 4 + length (d .key) + 1 ≡ i + size (datumLay d) = unfold datumLay in omega (arith, size-ended (d .key)) in
+    let e : datum s i ≡ ok (hs ++ (map word (d .values) ++ (text (j + 4) (length (d .key)) ∷ []))) (j + 4 + length (d .key) + 1) =
+    datum-there s i (omega (arith, l)) ∙ ap (λ (vs : List ℕ). datumAfter (fieldsIn vs) s (i + 16)) (g .0)
+    ∙ rw (← f .count, values-read s (i + 16) (d .values) (f .values) (stands-left (g .1)), stands-num (stands-left h1) (omega arith), sought-there s (j + 4) (j + 4) l, ended-reads s (j + 4) (d .key) (f .key) h2) in
+    reads-as (sym e)
     (ap (λ (vs : List Cell). wordCell (d .headerSize) ∷ wordCell (d .unk1) ∷ wordCell (d .unk2) ∷ wordCell (d .baseCount) ∷ wordCell (d .unk3) ∷ (vs ++ (chars (d .key) ∷ []))) (shown-words s (d .values)))
-    (omega (arith, n))
-    z
+    n z
+
+-- a run of numbers that is read is there
+pub record There (n : ℕ) (s : List ℕ) (p : ℕ) (vs : List ℕ) (q : ℕ) : Type 0 where
+  pub next : numbersOf n s p ≡ Next q
+  pub values : numbersAt n s p ≡ vs
+
+pub run-there : (n : ℕ) (s : List ℕ) (p : ℕ) (vs : List ℕ) (q : ℕ) → numbers n s p ≡ ok vs q → There n s p vs q
+run-there n s p vs q e = go (numbersOf n s p) refl (sym (numbers-run n s p) ∙ e)
+  where
+    go : (r : Run) → numbersOf n s p ≡ r → asNumbers r (numbersAt n s p) ≡ ok vs q → There n s p vs q
+    go (Next q′) er k =
+        let eq : q′ ≡ q = cc in
+        let ev : numbersAt n s p ≡ vs = cc in
+        record { next = er ∙ ap Next eq; values = ev }
+    go (Cut o m) er k = let z : _≡_ {A = ℕ} 0 1 = cc in absurd (omega arith)
+
+-- ---- infos
+
+pub info-head : {s : List ℕ} {b letters n : ℕ} → letters < 256 ^ 4 → n < 256 → Stands s b (infoHead letters n) → (get 4 s b ≡ letters) × (get 1 s (b + 4) ≡ n)
+unfolding infoHead size le
+info-head {letters = letters} f k h = (stands-get (stands-code {k = 4} {n = letters} (stands-left h)) f, stands-get (stands-left (stands-right h)) k)
 
 module _ (s : List ℕ) (short : length s ≤ 16777216) where
-  -- ---- infos
-
   pub info-reads : ReadsAt infoLay infoCells FineInfo s info
-  unfolding info infoLay infoHead infoCells size le shownIn fleu val
+  unfolding infoLay infoHead infoCells size le shownIn
   info-reads b i (Standard letters ts) f h =
-      let g = stands-left h in
-      let g1 = stands-right g in
-      let g2 = stands-right g1 in
-      let g3 = stands-right g2 in
+      let g = info-head (fit-lt letters (f .letters)) (f .count) (stands-left h) in
       let h1 = stands-right h in
       let n : ℕ = length ts in
       let lt : size (table targetLay (8 + 4 * n) ts) ≡ 4 * n = size-table targetLay (8 + 4 * n) ts in
-      let l : b ≤ length s = omega (arith, h .fits) in
+      let l : b + 8 ≤ length s = omega (arith, h .fits) in
       let lp : 8 + 4 * n + size (parts targetLay ts) < 256 ^ 4 = omega (arith, h .fits, lt) in
-      let o = table-reads targetLay s (b + 4 + 1 + 1 + 2) (8 + 4 * n) ts lp (stands-to (stands-left h1) (omega arith)) in
-      let v = visit-reads targetLay targetCells (FineTarget letters) s (target letters) (target-reads letters s) b (8 + 4 * n) (b + 4 + 1 + 1 + 2 + 4 * n) ts (f .targets) (stands-to (stands-right h1) (omega (arith, lt))) in
-      let e : info b s i ≡ before (word letters ∷ word n ∷ []) (visit b (target letters) (offsets targetLay (8 + 4 * n) ts) s (b + 4 + 1 + 1 + 2 + 4 * n)) =
-      rw (sought-there s b i l, stands-num (stands-code {k = 4} {n = letters} (stands-left g)) (fit-lt letters (f .letters)), stands-num (stands-left g1) (f .count), stands-num (stands-left g2) (omega arith), stands-num g3 (omega arith), ne-eqb letters fleu (f .standard), o, letters-own letters (f .letters))
-      (put-before (word letters ∷ word n ∷ []) (visit b (target letters) (offsets targetLay (8 + 4 * n) ts) s (b + 4 + 1 + 1 + 2 + 4 * n)) s) in
-      record { next = v .next; here = reads-as (sym e) refl refl (reads-before (word letters ∷ word n ∷ []) (v .here)) }
+      let o = run-there n s (b + 8) _ _ (table-reads targetLay s (b + 8) (8 + 4 * n) ts lp (stands-left h1)) in
+      let v = visit-reads targetLay targetCells (FineTarget letters) s (target letters) (target-reads letters s) b (8 + 4 * n) (b + 8 + 4 * n) ts (f .targets) (stands-to (stands-right h1) (omega (arith, lt))) in
+      let e = info-standard b s i letters n (b + 8 + 4 * n) l (sym (g .0)) (f .standard) (sym (g .1)) (o .next) in
+      record { next = v .next; here = reads-as (sym (e ∙ rw (o .values, letters-own letters (f .letters)))) refl refl (reads-before (word letters ∷ word n ∷ []) (v .here)) }
   info-reads b i (ExtendedUserData ds) f h =
-      let g = stands-left h in
-      let g1 = stands-right g in
-      let g2 = stands-right g1 in
-      let g3 = stands-right g2 in
-      let n : ℕ = length ds in
-      let l : b ≤ length s = omega (arith, h .fits) in
-      let m = many-reads datumLay datumCells FineDatum s datum (datum-reads s) (b + 4 + 1 + 1 + 2) ds (f .1) (stands-to (stands-right h) (omega arith)) in
-      let e : info b s i ≡ before (word fleu ∷ word n ∷ []) (many n datum s (b + 4 + 1 + 1 + 2)) =
-      rw (sought-there s b i l, stands-num (stands-code {k = 4} {n = fleu} (stands-left g)) (omega arith), stands-num (stands-left g1) (f .0), stands-num (stands-left g2) (omega arith), stands-num g3 (omega arith))
-      (put-before (word fleu ∷ word n ∷ []) (many n datum s (b + 4 + 1 + 1 + 2)) s) in
-      record { next = b + 4 + 1 + 1 + 2 + size (parts datumLay ds); here = reads-as (sym e) refl refl (reads-before (word fleu ∷ word n ∷ []) m) }
+      let g = info-head fleu-lt (f .0) (stands-left h) in
+      let m = many-reads datumLay datumCells FineDatum s datum (datum-reads s) (b + 8) ds (f .1) (stands-right h) in
+      let e = info-extended b s i (length ds) (omega (arith, h .fits)) (g .0) (sym (g .1)) in
+      record { next = b + 8 + size (parts datumLay ds); here = reads-as (sym e) refl refl (reads-before (word fleu ∷ word (length ds) ∷ []) m) }
 
   -- ---- contents
 
@@ -250,21 +266,6 @@ module _ (s : List ℕ) (short : length s ≤ 16777216) where
         next = v .next;
         here = reads-as (sym e) (ap (λ (t : List ℕ). chars t ∷ wordCell (c .type) ∷ wordCell n ∷ each infoCells (c .infos)) (shown-there s b (c .name) (f .name) (g .name))) refl (reads-before ws (v .here));
       }
-
--- a run of numbers that is read is there
-pub record There (n : ℕ) (s : List ℕ) (p : ℕ) (vs : List ℕ) (q : ℕ) : Type 0 where
-  pub next : numbersOf n s p ≡ Next q
-  pub values : numbersAt n s p ≡ vs
-
-pub run-there : (n : ℕ) (s : List ℕ) (p : ℕ) (vs : List ℕ) (q : ℕ) → numbers n s p ≡ ok vs q → There n s p vs q
-run-there n s p vs q e = go (numbersOf n s p) refl (sym (numbers-run n s p) ∙ e)
-  where
-    go : (r : Run) → numbersOf n s p ≡ r → asNumbers r (numbersAt n s p) ≡ ok vs q → There n s p vs q
-    go (Next q′) er k =
-        let eq : q′ ≡ q = cc in
-        let ev : numbersAt n s p ≡ vs = cc in
-        record { next = er ∙ ap Next eq; values = ev }
-    go (Cut o m) er k = let z : _≡_ {A = ℕ} 0 1 = cc in absurd (omega arith)
 
 -- ---- the section
 
