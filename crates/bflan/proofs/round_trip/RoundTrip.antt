@@ -6,9 +6,9 @@ use mathlib.Core.Bool.{Bool, true, false}
 use mathlib.Core.List.{List, [], _∷_, _++_, map, append-assoc, append-nil}
 use native.Mathlib.Nat.{add-zero}
 use native.Mathlib.Omega.{arith}
-use borrow.Author.Tests.{ne-eqb, le-leb}
+use borrow.Author.Tests.{le-leb}
 use lib.Dec.{eqb}
-use lib.ListN.{length, take, drop, replicate, length-replicate, take-append-drop}
+use lib.ListN.{length, getD, take, drop, replicate, length-replicate, take-append-drop}
 use lib.Seq.{slice, take-add, drop-drop}
 use Rattle.core.specs.Choice.{pick}
 use Rattle.core.specs.Number.{le, get, val}
@@ -37,7 +37,7 @@ use Rattle.bflan.specs.Items.{shownAt, wordsOf, textsOf}
 use Rattle.bflan.proofs.read.Answers.{reading-gives}
 use Rattle.bflan.proofs.letters.Codes.{fleu-lt, fits-lt, fits-own, fit-lt, letters-own}
 use Rattle.bflan.specs.pai1.RecordAt.{nameSize}
-use Rattle.bflan.proofs.reader.ContentParts.{contentRest, content-there, rest-at}
+use Rattle.bflan.proofs.reader.ContentParts.{widths as contentWidths, contentRest, content-there, rest-at}
 use Rattle.bflan.proofs.reader.DatumParts.{fieldsIn, datumAfter, widths as datumWidths, datum-there}
 use Rattle.bflan.proofs.reader.Emits.{sought-there, ended-on, shown-part}
 use Rattle.bflan.proofs.reader.InfoParts.{info-extended, info-standard}
@@ -210,56 +210,50 @@ module _ (s : List ℕ) (short : length s ≤ 16777216) where
   pub record StandsContent (b : ℕ) (c : AnimContent) : Type 0 where
     pub name : Stands s b (bytes (c .name))
     pub fill : Stands s (b + length (c .name)) (zeros (28 - length (c .name)))
-    pub count : Stands s (b + 28) (number 1 (length (c .infos)))
-    pub type : Stands s (b + 29) (number 1 (c .type))
+    pub count : get 1 s (b + 28) ≡ length (c .infos)
+    pub type : get 1 s (b + 29) ≡ c .type
     pub user : Stands s (b + 32) (userLay (c .type) (infosFrom c + size (parts infoLay (c .infos)) - infosOut (c .infos)))
     pub offsets : Stands s (b + tableFrom (c .type)) (table infoLay (infosFrom c) (c .infos))
     pub infos : Stands s (b + infosFrom c) (parts infoLay (c .infos))
 
-  pub content-stands : (b : ℕ) (c : AnimContent) → length (c .name) ≤ 28 → Stands s b (contentLay c) → StandsContent b c
-  unfolding contentLay contentBody infosFrom size
-  content-stands b c sh h0 =
-      let h = stands-left h0 in
-      let h1 = stands-right h in
-      let h2 = stands-right h1 in
-      let h3 = stands-right h2 in
-      let h4 = stands-right h3 in
-      let h5 = stands-right h4 in
-      let h6 = stands-right h5 in
-      let h7 = stands-right h6 in
+  pub content-stands : (b : ℕ) (c : AnimContent) → FineContent c → Stands s b (contentLay c) → StandsContent b c
+  unfolding contentLay contentBody infosFrom size total fieldsAt
+  content-stands b c f h =
       let from : ℕ = tableFrom (c .type) + 4 * length (c .infos) in
-      let total : ℕ = from + size (parts infoLay (c .infos)) - infosOut (c .infos) in
+      let all : ℕ = from + size (parts infoLay (c .infos)) - infosOut (c .infos) in
       let z : length (replicate {A = ℕ} (28 - length (c .name)) 0) ≡ 28 - length (c .name) = length-replicate (28 - length (c .name)) 0 in
-      let u : 32 + size (userLay (c .type) total) ≡ tableFrom (c .type) = user-size (c .type) total in
+      let u : 32 + size (userLay (c .type) all) ≡ tableFrom (c .type) = user-size (c .type) all in
       let lt : size (table infoLay from (c .infos)) ≡ 4 * length (c .infos) = size-table infoLay from (c .infos) in
+      let h1 = stands-right (stands-left h) in
+      let g = fields-stand contentWidths (length (c .infos) ∷ c .type ∷ 0 ∷ []) (userLay (c .type) all ⨾ table infoLay from (c .infos) ⨾ parts infoLay (c .infos)) b 28
+      (f .count, (omega (arith, f .type), (omega arith, tt))) (stands-to (stands-right h1) (omega (arith, z, f .short))) in
+      let h2 = stands-right (g .1) in
       record {
-        name = stands-left h;
+        name = stands-left (stands-left h);
         fill = stands-left h1;
-        count = stands-to (stands-left h2) (omega (arith, z, sh));
-        type = stands-to (stands-left h3) (omega (arith, z, sh));
-        user = stands-to (stands-left h5) (omega (arith, z, sh));
-        offsets = stands-to (stands-left h6) (omega (arith, z, sh, u));
-        infos = stands-to h7 (omega (arith, z, sh, u, lt));
+        count = ap (λ (vs : List ℕ). getD vs 0 0) (g .0);
+        type = ap (λ (vs : List ℕ). getD vs 1 0) (g .0);
+        user = stands-left (g .1);
+        offsets = stands-to (stands-left h2) (omega (arith, u));
+        infos = stands-to (stands-right h2) (omega (arith, u, lt));
       }
 
   pub content-reads : ReadsAt contentLay contentCells FineContent s content
   unfolding contentCells infosFrom size shownIn
   content-reads b i c f h =
-      let g : StandsContent b c = content-stands b c (f .short) h in
+      let g : StandsContent b c = content-stands b c f h in
       let n : ℕ = length (c .infos) in
       let from : ℕ = tableFrom (c .type) + 4 * n in
       let total : ℕ = from + size (parts infoLay (c .infos)) - infosOut (c .infos) in
       let big : b + 32 ≤ length s = omega (arith, g .user .fits) in
       let lp : from + size (parts infoLay (c .infos)) < 256 ^ 4 = omega (arith, g .infos .fits) in
-      let e2 : get 1 s (b + 28) ≡ n = stands-get (g .count) (f .count) in
-      let e3 : get 1 s (b + 29) ≡ c .type = stands-get (g .type) (omega (arith, f .type)) in
       let o = table-reads infoLay s (b + tableFrom (c .type)) from (c .infos) lp (g .offsets) in
       let v = visit-reads infoLay infoCells FineInfo s info info-reads b from (b + tableFrom (c .type) + 4 * n) (c .infos) (f .infos) (g .infos) in
       let ns : nameSize s b ≡ length (c .name) = name-size b (c .name) (f .name) (f .short) (g .name) (g .fill) in
       let ty : typeOf (c .type) ≡ c .type = unfold typeOf in rw (le-leb (c .type) 4 (omega (arith, f .type))) in
       let ws : List Item = text b (length (c .name)) ∷ word (c .type) ∷ word n ∷ [] in
       let e : content b s i ≡ before ws (visit b info (offsets infoLay from (c .infos)) s (b + tableFrom (c .type) + 4 * n)) =
-      content-there b s i big ∙ ap₂ (λ (m k : ℕ). contentRest b s i m k) e2 e3
+      content-there b s i big ∙ ap₂ (λ (m k : ℕ). contentRest b s i m k) (g .count) (g .type)
       ∙ rest-at b s i n (c .type) (b + tableFrom (c .type)) (user-reads (c .type) total b (g .user .fits) (g .user))
       ∙ rw (o, ns, ty) (put-before ws (visit b info (offsets infoLay from (c .infos)) s (b + tableFrom (c .type) + 4 * n)) s) in
       record {
@@ -277,57 +271,50 @@ flag-own (suc (suc b)) h = absurd (omega arith)
 
 -- a section that stands: each of its fields, at its place
 pub record StandsSection (s : List ℕ) (r : PaneAnimInfo) : Type 0 where
-  pub letters : Stands s 0 (bytes ownBytes)
-  pub whole : Stands s 4 (number 4 (sectionSize r))
-  pub frames : Stands s 8 (number 2 (r .frames))
-  pub looping : Stands s 10 (number 1 (r .looping))
-  pub textureCount : Stands s 12 (number 2 (length (r .textures)))
-  pub contentCount : Stands s 14 (number 2 (length (r .contents)))
-  pub start : Stands s 16 (number 4 (contentTable r))
+  pub letters : get 4 s 0 ≡ ownLetters
+  pub whole : get 4 s 4 ≡ sectionSize r
+  pub frames : get 2 s 8 ≡ r .frames
+  pub looping : get 1 s 10 ≡ r .looping
+  pub textureCount : get 2 s 12 ≡ length (r .textures)
+  pub contentCount : get 2 s 14 ≡ length (r .contents)
+  pub start : get 4 s 16 ≡ contentTable r
   pub nameOffsets : Stands s 20 (table ended (4 * length (r .textures)) (r .textures))
   pub names : Stands s (20 + 4 * length (r .textures)) (parts ended (r .textures))
   pub offsets : Stands s (contentTable r) (table contentLay (contentTable r + 4 * length (r .contents)) (r .contents))
   pub contents : Stands s (contentTable r + 4 * length (r .contents)) (parts contentLay (r .contents))
 
-pub section-stands : (s : List ℕ) (r : PaneAnimInfo) → Stands s 0 (sectionLay r) → StandsSection s r
-unfolding sectionLay contentTable sectionSize namesEnd size
-section-stands s r h =
-    let h1 = stands-right h in
-    let h2 = stands-right h1 in
-    let h3 = stands-right h2 in
-    let h4 = stands-right h3 in
-    let h5 = stands-right h4 in
-    let h6 = stands-right h5 in
-    let h7 = stands-right h6 in
-    let h8 = stands-right h7 in
-    let h9 = stands-right h8 in
-    let h10 = stands-right h9 in
-    let h11 = stands-right h10 in
-    let h12 = stands-right h11 in
-    let z = section-sizes r in
-    record {
-      letters = stands-left h;
-      whole = stands-left h1;
-      frames = stands-left h2;
-      looping = stands-left h3;
-      textureCount = stands-left h5;
-      contentCount = stands-left h6;
-      start = stands-left h7;
-      nameOffsets = stands-left h8;
-      names = stands-to (stands-left h9) (omega (arith, z .offsets));
-      offsets = stands-to (stands-left h11) (omega (arith, z .offsets, z .fill));
-      contents = stands-to h12 (omega (arith, z .offsets, z .fill, z .contentOffsets));
-    }
-
 letters-get : (s : List ℕ) → Stands s 0 (bytes ownBytes) → get 4 s 0 ≡ ownLetters
 unfolding le ownLetters val
 letters-get s h = stands-get (stands-code {k = 4} {n = ownLetters} h) (omega arith)
 
+pub section-stands : (s : List ℕ) (r : PaneAnimInfo) → Fine r → length s ≤ 16777216 → Stands s 0 (sectionLay r) → StandsSection s r
+unfolding sectionLay contentTable sectionSize namesEnd size total fieldsAt
+section-stands s r f short h =
+    let z = section-sizes r in
+    let g = fields-stand (4 ∷ 2 ∷ 1 ∷ 1 ∷ 2 ∷ 2 ∷ 4 ∷ []) (sectionSize r ∷ r .frames ∷ r .looping ∷ 0 ∷ length (r .textures) ∷ length (r .contents) ∷ contentTable r ∷ [])
+    _ 4 0 (omega (arith, z .offsets, z .fill, z .contentOffsets, h .fits), (f .frames, (omega (arith, f .looping), (omega arith, (f .textureCount, (f .contentCount, (omega (arith, z .offsets, z .fill, h .fits), tt))))))) (stands-right h) in
+    let at : (k : ℕ) → _ = λ k. ap (λ (vs : List ℕ). getD vs k 0) (g .0) in
+    let h1 = stands-right (g .1) in
+    let h2 = stands-right (stands-right h1) in
+    record {
+      letters = letters-get s (stands-left h);
+      whole = at 0;
+      frames = at 1;
+      looping = at 2;
+      textureCount = at 4;
+      contentCount = at 5;
+      start = at 6;
+      nameOffsets = stands-left (g .1);
+      names = stands-to (stands-left h1) (omega (arith, z .offsets));
+      offsets = stands-to (stands-left h2) (omega (arith, z .offsets, z .fill));
+      contents = stands-to (stands-right h2) (omega (arith, z .offsets, z .fill, z .contentOffsets));
+    }
+
 pub section-reads : (s : List ℕ) (r : PaneAnimInfo) → Within r → Stands s 0 (sectionLay r) → length s ≤ 16777216 → Reads s (section s 0) (cells r) (size (sectionLay r))
 unfolding sectionLay cells size contentTable sectionSize namesEnd shownIn
 section-reads s r w h short =
-    let g = section-stands s r h in
     let f : Fine r = w .fine in
+    let g = section-stands s r f short h in
     let nt : ℕ = length (r .textures) in
     let nc : ℕ = length (r .contents) in
     let at : ℕ = contentTable r in
@@ -336,18 +323,15 @@ section-reads s r w h short =
     let end : all ≤ length s = omega (arith, g .contents .fits) in
     let b8 : 8 ≤ length s = omega (arith, g .offsets .fits) in
     let b20 : 20 ≤ length s = omega (arith, g .offsets .fits) in
-    let el : get 4 s 0 ≡ ownLetters = letters-get s (g .letters) in
-    let es : get 4 s 4 ≡ all = stands-get (g .whole) (omega (arith, end)) in
-    let ef : get 2 s 8 ≡ r .frames = stands-get (g .frames) (f .frames) in
-    let eb : get 1 s 10 ≡ r .looping = stands-get (g .looping) (omega (arith, f .looping)) in
-    let et : get 2 s 12 ≡ nt = stands-get (g .textureCount) (f .textureCount) in
-    let ec : get 2 s 14 ≡ nc = stands-get (g .contentCount) (f .contentCount) in
-    let ea : get 4 s 16 ≡ at = stands-get (g .start) (omega (arith, end)) in
+    let es : get 4 s 4 ≡ all = g .whole in
+    let et : get 2 s 12 ≡ nt = g .textureCount in
+    let ec : get 2 s 14 ≡ nc = g .contentCount in
+    let ea : get 4 s 16 ≡ at = g .start in
     let to = run-there nt s 20 _ _ (table-reads ended s 20 (4 * nt) (r .textures) (omega (arith, g .names .fits)) (g .nameOffsets)) in
     let co = run-there nc s at _ _ (table-reads contentLay s at (at + 4 * nc) (r .contents) (omega (arith, g .contents .fits)) (g .offsets)) in
     let tv = visit-reads ended textCells FineText s texture (texture-reads s) 20 (4 * nt) (20 + 4 * nt) (r .textures) (f .textures) (g .names) in
     let cv = visit-reads contentLay contentCells FineContent s content (content-reads s short) 0 (at + 4 * nc) (at + 4 * nc) (r .contents) (f .contents) g12 in
-    let lo : flagOf (get 1 s 10) ≡ r .looping = ap flagOf eb ∙ flag-own (r .looping) (f .looping) in
+    let lo : flagOf (get 1 s 10) ≡ r .looping = ap flagOf (g .looping) ∙ flag-own (r .looping) (f .looping) in
     let size4 : ℕ = get 4 s 4 in
     let last : (k : ℕ) → Reads s (endAt (seekTo size4 s k)) [] all =
     λ k. reads-as (sym (ap endAt (ap (λ (m : ℕ). seekTo m s k) es ∙ sought-there s all k end))) refl refl (reads-none all) in
@@ -359,7 +343,7 @@ section-reads s r w h short =
     reads-joined (λ j. joined (contents (get 4 s 16) (get 2 s 14) s j) (λ k. endAt (seekTo size4 s k))) (reads-as (sym tex) refl refl (tv .here))
     (reads-joined (λ k. endAt (seekTo size4 s k)) (reads-as (sym (cont (tv .next))) refl refl (cv .here)) (last (cv .next))) in
     let nx : numbersOf (get 2 s 12) s 20 ≡ Next (20 + 4 * nt) = ap (λ (n : ℕ). numbersOf n s 20) et ∙ to .next in
-    reads-as (sym (section-body s b8 el ∙ body-there s size4 b20 (20 + 4 * nt) nx)) (rw (ef, lo, et, ec, append-nil)) (sym (section-size r)) (reads-before (headItems s size4) tail)
+    reads-as (sym (section-body s b8 (g .letters) ∙ body-there s size4 b20 (20 + 4 * nt) nx)) (rw (g .frames, lo, et, ec, append-nil)) (sym (section-size r)) (reads-before (headItems s size4) tail)
 
 -- the record that was written, read again: its words, its texts, and the end
 pub record ReadsBack (s : List ℕ) (r : PaneAnimInfo) : Type 0 where
