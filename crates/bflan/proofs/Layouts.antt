@@ -1,7 +1,7 @@
 -- Layouts: their sizes, and what it means that one stands somewhere among bytes.
 -- Assumes nothing.
 use Prim.Native.Nat.{ℕ, _+_, _*_, _^_, _≤_, _<_}
-use mathlib.Core.Path.{_≡_, refl, ap, sym, subst, _∙_}
+use mathlib.Core.Path.{_≡_, refl, ap, ap₂, sym, subst, _∙_}
 use mathlib.Core.Bool.{Bool, true, false}
 use mathlib.Core.List.{List, [], _∷_, _++_}
 use native.Mathlib.Nat.{add-zero}
@@ -16,9 +16,11 @@ use Rattle.core.proofs.Numbers.{length-le, val-le}
 use Rattle.bflan.specs.Layout.{Layout, nothing, number, bytes, _⨾_, size, written, zeros, row, parts, table, ended}
 use Rattle.bflan.specs.pai1.Layout.{tableFrom, userLay, contentLay, namesEnd, contentTable, sectionSize, sectionLay}
 use Rattle.bflan.specs.pai1.Places.{total}
-use Rattle.bflan.specs.Reader.{ok, num, numbers}
+use Rattle.bflan.specs.Limits.{Fits}
+use Rattle.bflan.specs.Reader.{ok, P, num, numbers}
 use Rattle.bflan.specs.pai1.Record.{PaneAnimInfo}
 use Rattle.bflan.proofs.reader.KeyRuns.{num-there}
+use Rattle.bflan.proofs.reader.Rows.{rowThen, offsetBy, offset-is, fieldsAt, row-there}
 
 pub size-written : (l : Layout) → length (written l) ≡ size l
 unfolding size written
@@ -83,6 +85,36 @@ module _ {s : List ℕ} {i k n : ℕ} (h : Stands s i (number k n)) (l : n < 256
 pub stands-code : {s : List ℕ} {i k n : ℕ} → Stands s i (bytes (le k n)) → Stands s i (number k n)
 unfolding size written
 stands-code {k = k} {n = n} h = record { fits = rw (length-le k n) at (h .fits); same = rw (length-le k n) at (h .same) }
+
+-- ---- a row of numbers, and what is behind it
+
+abbrev pub rowBefore : List ℕ → List ℕ → Layout → Layout
+rowBefore [] vs l = l
+rowBefore (k ∷ ks) [] l = number k 0 ⨾ rowBefore ks [] l
+rowBefore (k ∷ ks) (v ∷ vs) l = number k v ⨾ rowBefore ks vs l
+
+row-before : (ks vs : List ℕ) → row ks vs ≡ rowBefore ks vs nothing
+unfolding row
+row-before [] vs = refl
+row-before (k ∷ ks) [] = ap (λ (l : Layout). number k 0 ⨾ l) (row-before ks [])
+row-before (k ∷ ks) (v ∷ vs) = ap (λ (l : Layout). number k v ⨾ l) (row-before ks vs)
+
+module _ {s : List ℕ} where
+  -- its first number stands o behind b
+  pub fields-stand : (ks vs : List ℕ) (l : Layout) (b o : ℕ) → Fits ks vs → Stands s (offsetBy b o) (rowBefore ks vs l)
+      → (fieldsAt ks s b o ≡ vs) × Stands s (b + (o + total ks)) l
+  unfolding fieldsAt total size
+  fields-stand [] [] l b o q h = (refl, stands-to h (omega (arith, offset-is b o)))
+  fields-stand [] (v ∷ vs) l b o q h = absurd q
+  fields-stand (k ∷ ks) [] l b o q h = absurd q
+  fields-stand (k ∷ ks) (v ∷ vs) l b o q h =
+      let g = fields-stand ks vs l b (o + k) (q .1) (stands-to (stands-right h) (omega (arith, offset-is b o, offset-is b (o + k)))) in
+      (ap₂ (λ (u : ℕ) (us : List ℕ). u ∷ us) (stands-get (stands-left h) (q .0)) (g .0), stands-to (g .1) (omega arith))
+
+  pub row-stands : {A : Type 0} (ks vs : List ℕ) (c : List ℕ → P A) (i : ℕ) → Fits ks vs → Stands s i (row ks vs) → rowThen ks c s i ≡ c vs s (i + (0 + total ks))
+  row-stands ks vs c i q h =
+      row-there s ks c i 0 (omega (arith, h .fits, size-row ks vs))
+      ∙ ap (λ (us : List ℕ). c us s (i + (0 + total ks))) (fields-stand ks vs nothing i 0 q (rw (row-before ks vs) at h) .0)
 
 -- ---- parts and their table
 

@@ -1,3 +1,4 @@
 pub mod LayoutParts
 pub mod Pens
+pub mod Stored
 pub mod WriteAnswers

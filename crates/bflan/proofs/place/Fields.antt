@@ -8,7 +8,7 @@ use native.Mathlib.Nat.{add-zero, zero-add, add-assoc}
 use native.Mathlib.Omega.{arith}
 use borrow.Author.Tests.{ltb-true, ltb-false, leb-true, eq-eqb, ne-eqb}
 use lib.Dec.{eqb, ltb}
-use lib.ListN.{length, take, replicate, length-replicate}
+use lib.ListN.{length, getD, take, replicate, length-replicate}
 use lib.Seq.{sets}
 use Rattle.core.specs.Choice.{pick}
 use Rattle.core.specs.Number.{get, le}
@@ -27,10 +27,11 @@ use Rattle.bflan.specs.pai1.Reading.{datum}
 use Rattle.bflan.specs.pai1.Record.{AnimTarget, ExtendedUserDataAnim, AnimInfo, Standard, ExtendedUserData, AnimContent, PaneAnimInfo, keyWidths, datumCells}
 use Rattle.bflan.specs.Cells.{Cell, each}
 use Rattle.bflan.proofs.letters.Codes.{fleu-lt, fit-lt, letters-own}
-use Rattle.bflan.proofs.Layouts.{size-written, size-row, Stands, stands-left, stands-right, stands-to, stands-all, stands-get, size-table, user-size, section-sizes, stands-code}
+use Rattle.bflan.proofs.Layouts.{size-written, size-row, Stands, stands-left, stands-right, stands-to, stands-all, stands-get, size-table, user-size, section-sizes}
+use Rattle.bflan.proofs.reader.Rows.{fieldsAt}
 use Rattle.bflan.proofs.round_trip.ReadBack.{Reads, reads-as, reads-none, reads-joined, ReadsPart}
 use Rattle.bflan.proofs.place.Replacing.{Replaces, replaces-to, replaces-left, replaces-right, replaces-whole, replaces-number, length-row, length-changed, no-element, ahead, ahead-even, table-entry, Element, element}
-use Rattle.bflan.proofs.round_trip.RoundTrip.{datum-reads, content-stands, section-stands}
+use Rattle.bflan.proofs.round_trip.RoundTrip.{target-head, datum-head, datum-reads, info-head, StandsContent, content-stands, StandsSection, section-stands}
 use Rattle.bflan.proofs.reader.TargetParts.{curve-low, count-low}
 use Rattle.bflan.proofs.reader.Walks.{many-suc}
 
@@ -119,18 +120,13 @@ replaces-key curve old vs = replaces-left _ (replaces-whole (row (keyWidths curv
 
 key-found : (s : List ℕ) (letters b k : ℕ) (y : AnimTarget) → FineTarget letters y → Stands s b (targetLay y)
     → keyIn s b k ≡ pick (ltb k (length (y .keys))) (spot (b + 12 + k * stride (y .curve)) (keyField (y .curve))) nowhere
-unfolding targetLay size keyIn
+unfolding keyIn fieldsAt
 key-found s letters b k y f h =
-    let h1 = stands-right h in
-    let h2 = stands-right h1 in
-    let h3 = stands-right h2 in
-    let h4 = stands-right h3 in
-    let h5 = stands-right h4 in
-    let h6 = stands-right h5 in
+    let e = target-head y f h .0 in
     let low : y .curve ≤ 2 = omega (arith, f .curve) in
-    let ec : get 1 s (b + 2) ≡ y .curve = stands-get (stands-to (stands-left h2) (omega arith)) (omega (arith, f .curve)) in
-    let en : get 2 s (b + 4) ≡ length (y .keys) = stands-get (stands-to (stands-left h4) (omega arith)) (f .count) in
-    let eo : get 4 s (b + 8) ≡ 12 = stands-get (stands-to (stands-left h6) (omega arith)) (omega arith) in
+    let ec : get 1 s (b + 2) ≡ y .curve = ap (λ (vs : List ℕ). getD vs 2 0) e in
+    let en : get 2 s (b + 4) ≡ length (y .keys) = ap (λ (vs : List ℕ). getD vs 4 0) e in
+    let eo : get 4 s (b + 8) ≡ 12 = ap (λ (vs : List ℕ). getD vs 6 0) e in
     rw (ec, en, eo, curve-low (y .curve) (length (y .keys)) low, count-low (y .curve) (length (y .keys)) low)
 
 key-inside : (s : List ℕ) (letters b k : ℕ) (y : AnimTarget) → FineTarget letters y → Stands s b (targetLay y)
@@ -172,10 +168,10 @@ valued l v vs z =
 value-inside : (s : List ℕ) (b l v : ℕ) (y : ExtendedUserDataAnim) → FineDatum y → Stands s b (datumLay y)
     → Inside datumLay FineDatum b y (valued l v) (valueIn s b l v) (pick (ltb l 3 && ltb v (y .baseCount)) (found valueField) missing)
 unfolding datumLay size widths valueIn
-value-inside s b l v y f h = rw (stands-get (stands-to (stands-left (stands-right (stands-right (stands-right h)))) at8) (f .baseCount)) (go (ltb l 3 && ltb v (y .baseCount)) refl)
+value-inside s b l v y f h = rw base (go (ltb l 3 && ltb v (y .baseCount)) refl)
   where
-    at8 : b + 4 + 2 + 2 ≡ b + 8
-    at8 = omega arith
+    base : get 4 s (b + 8) ≡ y .baseCount
+    base = unfold fieldsAt in ap (λ (vs : List ℕ). getD vs 3 0) (datum-head y f h .0)
 
     n : ℕ
     n = l * y .baseCount + v
@@ -229,18 +225,14 @@ module _ (s : List ℕ) (short : length s ≤ 16777216) where
         → Inside infoLay FineInfo b x (λ vs. onTarget t (up vs)) (targetIn s b t look) (atTarget missing x t say)
     unfolding infoLay infoHead size le targetIn atTarget onTarget
     target-inside b (ExtendedUserData ds) f h law =
-        let e : get 4 s b ≡ fleu = stands-get (stands-code {k = 4} {n = fleu} (stands-left (stands-left h))) fleu-lt in
-        gone refl (rw (e, eq-eqb fleu fleu refl))
-    target-inside b (Standard letters ts) f h law = rw (e, ne-eqb letters fleu (f .standard), en) (go (ltb t n) refl)
+        gone refl (rw (info-head fleu-lt (f .0) (stands-left h) .0, eq-eqb fleu fleu refl))
+    target-inside b (Standard letters ts) f h law = rw (e .0, ne-eqb letters fleu (f .standard), e .1) (go (ltb t n) refl)
       where
-        e : get 4 s b ≡ letters
-        e = stands-get (stands-code {k = 4} {n = letters} (stands-left (stands-left h))) (fit-lt letters (f .letters))
-
         n : ℕ
         n = length ts
 
-        en : get 1 s (b + 4) ≡ n
-        en = stands-get (stands-left (stands-right (stands-left h))) (f .count)
+        e : (get 4 s b ≡ letters) × (get 1 s (b + 4) ≡ n)
+        e = info-head (fit-lt letters (f .letters)) (f .count) (stands-left h)
 
         go : (u : Bool) → ltb t n ≡ u
             → Inside infoLay FineInfo b (Standard letters ts) (λ vs. onTarget t (up vs)) (pick u (look (b + get 4 s (b + 8 + 4 * t))) nowhere) (ofElement ts t missing (say letters))
@@ -258,25 +250,21 @@ module _ (s : List ℕ) (short : length s ≤ 16777216) where
             rw (to, el .says (say letters))
             (lift infoLay FineInfo (8 + 4 * n + ahead targetLay ts t) b (Standard letters ts) (λ vs. onTarget t (up vs)) re
             (λ vs q. record { letters = f .letters; standard = f .standard; count = rw length-changed (f .count); targets = el .every (up vs) q (f .targets) })
-            (law letters (b + (8 + 4 * n + ahead targetLay ts t)) (el .part) (ap lettersOf e ∙ letters-own letters (f .letters)) (el .fine (f .targets)) (stands-to (el .stands s (b + (8 + 4 * n)) hp) (omega arith))))
+            (law letters (b + (8 + 4 * n + ahead targetLay ts t)) (el .part) (ap lettersOf (e .0) ∙ letters-own letters (f .letters)) (el .fine (f .targets)) (stands-to (el .stands s (b + (8 + 4 * n)) hp) (omega arith))))
 
   module _ (d : ℕ) (look : ℕ → Spot) (say : ExtendedUserDataAnim → Found) (up : List ℕ → ExtendedUserDataAnim → ExtendedUserDataAnim)
       (law : (a : ℕ) (y : ExtendedUserDataAnim) → FineDatum y → Stands s a (datumLay y) → Inside datumLay FineDatum a y up (look a) (say y)) where
     datum-inside : (b : ℕ) (x : AnimInfo) → FineInfo x → Stands s b (infoLay x) → Inside infoLay FineInfo b x (λ vs. onDatum d (up vs)) (datumIn s b d look) (atDatum missing x d say)
     unfolding infoLay infoHead size le datumIn atDatum onDatum
     datum-inside b (Standard letters ts) f h =
-        let e : get 4 s b ≡ letters = stands-get (stands-code {k = 4} {n = letters} (stands-left (stands-left h))) (fit-lt letters (f .letters)) in
-        gone refl (rw (e, ne-eqb letters fleu (f .standard)))
-    datum-inside b (ExtendedUserData ds) f h = rw (e, eq-eqb fleu fleu refl, en) (go (ltb d n) refl)
+        gone refl (rw (info-head (fit-lt letters (f .letters)) (f .count) (stands-left h) .0, ne-eqb letters fleu (f .standard)))
+    datum-inside b (ExtendedUserData ds) f h = rw (e .0, eq-eqb fleu fleu refl, e .1) (go (ltb d n) refl)
       where
-        e : get 4 s b ≡ fleu
-        e = stands-get (stands-code {k = 4} {n = fleu} (stands-left (stands-left h))) fleu-lt
-
         n : ℕ
         n = length ds
 
-        en : get 1 s (b + 4) ≡ n
-        en = stands-get (stands-left (stands-right (stands-left h))) (f .0)
+        e : (get 4 s b ≡ fleu) × (get 1 s (b + 4) ≡ n)
+        e = info-head fleu-lt (f .0) (stands-left h)
 
         go : (u : Bool) → ltb d n ≡ u
             → Inside infoLay FineInfo b (ExtendedUserData ds) (λ vs. onDatum d (up vs)) (pick u (after (many d datum s (b + 8)) look) nowhere) (ofElement ds d missing say)
@@ -320,23 +308,6 @@ module _ (s : List ℕ) (short : length s ≤ 16777216) where
       go true h = ap (λ (n : ℕ). b + n) (stands-get (stands-left h) (omega arith))
       go false h = refl
 
-  -- what a content's head says, and where its infos stand
-  record Content (b : ℕ) (c : AnimContent) : Type 0 where
-    count : get 1 s (b + 28) ≡ length (c .infos)
-    start : infoTableIn s b ≡ b + tableFrom (c .type)
-    offsets : Stands s (b + tableFrom (c .type)) (table infoLay (infosFrom c) (c .infos))
-    infos : Stands s (b + infosFrom c) (parts infoLay (c .infos))
-
-  content-there : (b : ℕ) (c : AnimContent) → FineContent c → Stands s b (contentLay c) → Content b c
-  content-there b c f h =
-      let g = content-stands s short b c (f .short) h in
-      record {
-        count = stands-get (g .count) (f .count);
-        start = table-in b (c .type) _ (stands-get (g .type) (omega (arith, f .type))) (g .user);
-        offsets = g .offsets;
-        infos = g .infos;
-      }
-
   -- what the total size of a User content leaves out stays
   abbrev Quiet : ℕ → (List ℕ → AnimInfo → AnimInfo) → Type 0
   Quiet i up = (vs : List ℕ) (is : List AnimInfo) → infosOut (changed is i (up vs)) ≡ infosOut is
@@ -346,10 +317,10 @@ module _ (s : List ℕ) (short : length s ≤ 16777216) where
     info-inside : (b : ℕ) (c : AnimContent) → FineContent c → Stands s b (contentLay c)
         → Inside contentLay FineContent b c (λ vs. onContent i (up vs)) (infoIn s b i look) (ofElement (c .infos) i missing say)
     unfolding infoIn
-    info-inside b c f h = rw (t .count, t .start) (go (ltb i n) refl)
+    info-inside b c f h = rw (t .count, table-in b (c .type) _ (t .type) (t .user)) (go (ltb i n) refl)
       where
-        t : Content b c
-        t = content-there b c f h
+        t : StandsContent s short b c
+        t = content-stands s short b c f h
 
         n : ℕ
         n = length (c .infos)
@@ -383,24 +354,7 @@ section-replaces r c g el bs o q =
     (replaces-to (replaces-right _ (replaces-right _ (replaces-right _ (replaces-right _ (replaces-right _ (replaces-right _ (replaces-right _ (replaces-right _ (replaces-right _ (replaces-right _ (replaces-right _ (replaces-right _ p))))))))))))
     (omega (arith, z .offsets, z .fill, z .contentOffsets)))
 
--- what a section's head says, and where its contents stand
-record Section (s : List ℕ) (r : PaneAnimInfo) : Type 0 where
-  count : get 2 s 14 ≡ length (r .contents)
-  start : get 4 s 16 ≡ contentTable r
-  offsets : Stands s (contentTable r) (table contentLay (contentTable r + 4 * length (r .contents)) (r .contents))
-  contents : Stands s (contentTable r + 4 * length (r .contents)) (parts contentLay (r .contents))
-
 module _ (s : List ℕ) (short : length s ≤ 16777216) (r : PaneAnimInfo) (f : Fine r) where
-  section-there : Stands s 0 (sectionLay r) → Section s r
-  section-there h =
-      let g = section-stands s r h in
-      record {
-        count = stands-get (g .contentCount) (f .contentCount);
-        start = stands-get (g .start) (omega (arith, g .offsets .fits));
-        offsets = g .offsets;
-        contents = g .contents;
-      }
-
   module _ (c : ℕ) (look : ℕ → Spot) (say : AnimContent → Found) (up : List ℕ → AnimContent → AnimContent)
       (law : (b : ℕ) (x : AnimContent) → FineContent x → Stands s b (contentLay x) → Inside contentLay FineContent b x up (look b) (say x)) where
     abbrev withContent : List ℕ → PaneAnimInfo → PaneAnimInfo
@@ -408,10 +362,10 @@ module _ (s : List ℕ) (short : length s ≤ 16777216) (r : PaneAnimInfo) (f : 
 
     content-inside : Stands s 0 (sectionLay r) → Inside sectionLay Fine 0 r withContent (contentIn s c look) (ofElement (r .contents) c missing say)
     unfolding contentIn
-    content-inside h = rw (t .count, t .start) (go (ltb c n) refl)
+    content-inside h = rw (t .contentCount, t .start) (go (ltb c n) refl)
       where
-        t : Section s r
-        t = section-there h
+        t : StandsSection s r
+        t = section-stands s r f short h
 
         n : ℕ
         n = length (r .contents)

@@ -114,6 +114,11 @@ module _ (s : List ℕ) (p : ℕ) where
   unfolding datum rowThen
   datum-row = refl
 
+  -- with all of them there it goes on with its values
+  pub datum-there : p + 16 ≤ length s → datum s p ≡ datumAfter (fieldsIn (fieldsAt widths s p 0)) s (p + 16)
+  unfolding total
+  datum-there h = datum-row ∙ row-there s widths (λ vs. datumAfter (fieldsIn vs)) p 0 h
+
   datum-head : datum s p ≡ andThen (head s p) datumAfter s
   datum-head = datum-row ∙ sym (row-bind widths (λ vs. ret (fieldsIn vs)) datumAfter s p) ∙ ap (λ (r : Res Fields). andThen r datumAfter s) (sym (head-row s p))
 

@@ -52,7 +52,7 @@ module _ (letters base : ℕ) (s : List ℕ) (i : ℕ) where
   target-short h e = rw e (target-seek ∙ sought-short s widths (targetAfter letters base) base i h)
 
   -- with all of them there it goes on with its keys, where its offset is in the section
-  target-there : base + 12 ≤ length s → target letters base s i ≡ targetAfter letters base (fieldsAt widths s base 0) s (base + 12)
+  pub target-there : base + 12 ≤ length s → target letters base s i ≡ targetAfter letters base (fieldsAt widths s base 0) s (base + 12)
   unfolding total
   target-there h = target-seek ∙ sought-row s widths (targetAfter letters base) base i h
 

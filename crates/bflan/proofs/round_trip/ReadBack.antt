@@ -5,15 +5,17 @@ use mathlib.Core.Path.{_≡_, refl, ap, ap₂, sym, _∙_}
 use mathlib.Core.List.{List, [], _∷_, _++_, map}
 use native.Mathlib.Omega.{arith}
 use lib.ListN.{length}
-use Rattle.bflan.specs.Layout.{Layout, size, row, parts}
+use Rattle.bflan.specs.Layout.{Layout, size, parts}
 use Rattle.bflan.specs.pai1.Layout.{keySkip, keyLay}
+use Rattle.bflan.specs.pai1.Places.{total}
 use Rattle.bflan.specs.Limits.{All, Fits}
-use Rattle.bflan.specs.Reader.{Res, ok, P, Item, word, text, many, visit, skip}
+use Rattle.bflan.specs.Reader.{Res, ok, P, _>>=_, ret, Item, word, text, many, visit, skip}
 use Rattle.bflan.specs.pai1.Reading.{keyOf}
 use Rattle.bflan.specs.Cells.{Cell, word as wordCell, chars, wordsIn, bytesIn, each}
 use Rattle.bflan.specs.pai1.Record.{keyWidths}
 use Rattle.bflan.specs.Items.{shownAt, wordsOf, textsOf}
-use Rattle.bflan.proofs.Layouts.{Stands, stands-left, stands-right, stands-to, stands-num, offsets}
+use Rattle.bflan.proofs.Layouts.{Stands, stands-left, stands-right, stands-to, size-row, row-stands, offsets}
+use Rattle.bflan.proofs.reader.Rows.{rowThen}
 use Rattle.bflan.proofs.reader.Walks.{before, joined, many-suc, visit-cons, visit-nil}
 
 -- ---- items as cells
@@ -116,34 +118,13 @@ module _ {X : Type 0} (lay : X → Layout) (cells : X → List Cell) (Q : X → 
 
 -- ---- keys
 
-key-constant : (s : List ℕ) (i : ℕ) (k : List ℕ) → Fits (keyWidths 0) k → Stands s i (keyLay 0 k) → Reads s (keyOf 0 s i) (map wordCell k) (i + size (keyLay 0 k))
-unfolding keyWidths keyLay row keySkip size
-key-constant s i [] f h = absurd f
-key-constant s i (v ∷ []) f h = reads-as (rw (stands-num (stands-left (stands-left h)) (f .0))) refl (omega arith) (reads-words (v ∷ []) (i + 4))
-key-constant s i (v ∷ w ∷ vs) f h = absurd (f .1)
-
-key-step : (s : List ℕ) (i : ℕ) (k : List ℕ) → Fits (keyWidths 1) k → Stands s i (keyLay 1 k) → Reads s (keyOf 1 s i) (map wordCell k) (i + size (keyLay 1 k))
-unfolding keyWidths keyLay row keySkip size skip
-key-step s i [] f h = absurd f
-key-step s i (v ∷ []) f h = absurd (f .1)
-key-step s i (v ∷ w ∷ []) f h =
-    reads-as (rw (stands-num (stands-left (stands-left h)) (f .0), stands-num (stands-left (stands-right (stands-left h))) (f .1 .0))) refl (omega arith) (reads-words (v ∷ w ∷ []) (i + 4 + 2 + 2))
-key-step s i (v ∷ w ∷ u ∷ vs) f h = absurd (f .1 .1)
-
-key-hermite : (s : List ℕ) (i : ℕ) (k : List ℕ) → Fits (keyWidths 2) k → Stands s i (keyLay 2 k) → Reads s (keyOf 2 s i) (map wordCell k) (i + size (keyLay 2 k))
-unfolding keyWidths keyLay row keySkip size
-key-hermite s i [] f h = absurd f
-key-hermite s i (v ∷ []) f h = absurd (f .1)
-key-hermite s i (v ∷ w ∷ []) f h = absurd (f .1 .1)
-key-hermite s i (v ∷ w ∷ u ∷ []) f h =
-    let g = stands-left h in
-    let g1 = stands-right g in
-    let g2 = stands-right g1 in
-    reads-as (rw (stands-num (stands-left g) (f .0), stands-num (stands-left g1) (f .1 .0), stands-num (stands-left g2) (f .1 .1 .0))) refl (omega arith) (reads-words (v ∷ w ∷ u ∷ []) (i + 4 + 4 + 4))
-key-hermite s i (v ∷ w ∷ u ∷ x ∷ vs) f h = absurd (f .1 .1 .1)
-
+-- a key is a row, and the bytes behind it that are skipped
 pub key-reads : (curve : ℕ) → curve < 3 → (s : List ℕ) → ReadsPart (keyLay curve) (map wordCell) (Fits (keyWidths curve)) s (keyOf curve)
-key-reads zero l s i k f h = key-constant s i k f h
-key-reads (suc zero) l s i k f h = key-step s i k f h
-key-reads (suc (suc zero)) l s i k f h = key-hermite s i k f h
+unfolding keyWidths keyLay keySkip size skip rowThen total
+key-reads zero l s i k f h =
+    reads-as (sym (row-stands (keyWidths 0) k (λ vs. ret (map word vs)) i f (stands-left h))) refl (omega (arith, size-row (keyWidths 0) k)) (reads-words k (i + 4))
+key-reads (suc zero) l s i k f h =
+    reads-as (sym (row-stands (keyWidths 1) k (λ vs. _>>=_ (skip 2) (λ n. ret (map word vs))) i f (stands-left h))) refl (omega (arith, size-row (keyWidths 1) k)) (reads-words k (i + 6 + 2))
+key-reads (suc (suc zero)) l s i k f h =
+    reads-as (sym (row-stands (keyWidths 2) k (λ vs. ret (map word vs)) i f (stands-left h))) refl (omega (arith, size-row (keyWidths 2) k)) (reads-words k (i + 12))
 key-reads (suc (suc (suc c))) l s i k f h = absurd (omega arith)

@@ -2,7 +2,7 @@
 -- Assumes nothing.
 use native.Mathlib.Omega.{arith}
 use Rattle.bflan.specs.inner.LayoutParts.{datumHead}
-use Rattle.bflan.proofs.writer.LayoutParts.{puts-none, puts-more, row-stored}
+use Rattle.bflan.proofs.writer.Stored.{puts-none, puts-more, row-stored}
 use borrow.Author.Needs.{needs}
 use Rattle.bflan.proofs.writer.datum.put_head.Statement.{statement}
 use Rattle.bflan.proofs.writer.datum.put_head.Tie as tie

@@ -1,7 +1,7 @@
 -- `writer::field::put_chars` meets its contract.
 -- Assumes nothing.
 use denote.Ref.{now}
-use Rattle.bflan.proofs.writer.LayoutParts.{chars-stored}
+use Rattle.bflan.proofs.writer.Stored.{chars-stored}
 use borrow.Author.Needs.{needs}
 use Rattle.bflan.proofs.writer.field.put_chars.Statement.{statement}
 use Rattle.bflan.proofs.writer.field.put_chars.Tie as tie

@@ -3,7 +3,7 @@
 use mathlib.Core.Path.{refl}
 use native.Mathlib.Omega.{arith}
 use denote.Ref.{now}
-use Rattle.bflan.proofs.writer.LayoutParts.{ended-fits, ended-done}
+use Rattle.bflan.proofs.writer.Stored.{ended-fits, ended-done}
 use borrow.Author.Needs.{needs}
 use Rattle.bflan.proofs.writer.field.put_ended.Statement.{statement}
 use Rattle.bflan.proofs.writer.field.put_ended.Tie as tie

@@ -2,7 +2,7 @@
 -- Assumes nothing.
 use Prim.Native.Nat.{_-_}
 use denote.Ref.{now}
-use Rattle.bflan.proofs.writer.LayoutParts.{offset-stored}
+use Rattle.bflan.proofs.writer.Stored.{offset-stored}
 use borrow.Author.Needs.{needs}
 use Rattle.bflan.proofs.writer.field.put_offset.Statement.{statement}
 use Rattle.bflan.proofs.writer.field.put_offset.Tie as tie

@@ -6,7 +6,7 @@ use Rattle.core.specs.Number.{le, val}
 use Rattle.bflan.specs.Layout.{row, written}
 use Rattle.bflan.specs.inner.LayoutParts.{frameLay}
 use Rattle.bflan.specs.pai1.Reading.{ownLetters}
-use Rattle.bflan.proofs.writer.LayoutParts.{puts-none, puts-more, row-stored}
+use Rattle.bflan.proofs.writer.Stored.{puts-none, puts-more, row-stored}
 use borrow.Author.Needs.{needs}
 use Rattle.bflan.proofs.writer.section.put_start.Statement.{statement}
 use Rattle.bflan.proofs.writer.section.put_start.Tie as tie

@@ -4,7 +4,7 @@ use Prim.Native.Nat.{_+_, _-_}
 use mathlib.Core.Path.{_≡_, refl}
 use native.Mathlib.Omega.{arith}
 use Rattle.bflan.specs.inner.LayoutParts.{targetHead}
-use Rattle.bflan.proofs.writer.LayoutParts.{puts-none, puts-more, row-stored}
+use Rattle.bflan.proofs.writer.Stored.{puts-none, puts-more, row-stored}
 use borrow.Author.Needs.{needs}
 use Rattle.bflan.proofs.writer.target.put_head.Statement.{statement}
 use Rattle.bflan.proofs.writer.target.put_head.Tie as tie
