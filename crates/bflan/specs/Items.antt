@@ -3,7 +3,7 @@ use Prim.Native.Nat.{ℕ, _+_}
 use mathlib.Core.List.{List, [], _∷_, _++_}
 use lib.ListN.{length}
 use lib.Seq.{slice}
-use Rattle.core.specs.Utf8.{decode}
+use Rattle.core.specs.Utf8.{decode, replacements}
 use Rattle.bflan.specs.Reader.{Item, word, text}
 
 -- the texts' starts and lengths, in the record's order
@@ -25,3 +25,9 @@ unfoldable pub textsOf : List ℕ → List Item → List ℕ
 textsOf s [] = []
 textsOf s (word v ∷ is) = textsOf s is
 textsOf s (text a n ∷ is) = shownAt s a n ++ textsOf s is
+
+-- how many U+FFFD the decodings of the texts put in
+unfoldable pub replacementsOf : List ℕ → List Item → ℕ
+replacementsOf s [] = 0
+replacementsOf s (word v ∷ is) = replacementsOf s is
+replacementsOf s (text a n ∷ is) = replacements (slice a (a + n) s) + replacementsOf s is

@@ -13,7 +13,7 @@ use Rattle.bflan.specs.Reader.{Res, ok, P, _>>=_, ret, Item, word, text,
 use Rattle.bflan.specs.pai1.Reading.{keyOf}
 use Rattle.bflan.specs.Cells.{Cell, word as wordCell, chars, wordsIn, bytesIn, each}
 use Rattle.bflan.specs.pai1.Record.{keyWidths}
-use Rattle.bflan.specs.Items.{shownAt, wordsOf, textsOf}
+use Rattle.bflan.specs.Items.{shownAt, wordsOf, textsOf, replacementsOf}
 use Rattle.bflan.proofs.Layouts.{Stands, stands-left, stands-right, stands-to, size-row, row-stands, offsets}
 use Rattle.bflan.proofs.reader.Rows.{rowThen}
 use Rattle.bflan.proofs.reader.Walks.{before, joined, many-suc, visit-cons, visit-nil}
@@ -50,12 +50,25 @@ module _ (s : List ℕ) where
   texts-shown (word v ∷ is) = texts-shown is
   texts-shown (text a n ∷ is) = ap (λ (l : List ℕ). shownAt s a n ++ l) (texts-shown is)
 
--- ---- a reading that gives these cells, and the position after them
+  -- what the decodings put in
+  pub count-append : (is js : List Item) → replacementsOf s (is ++ js) ≡ replacementsOf s is + replacementsOf s js
+  unfolding replacementsOf
+  count-append [] js = omega arith
+  count-append (word v ∷ is) js = count-append is js
+  count-append (text a n ∷ is) js = omega (arith, count-append is js)
+
+  pub count-words : (vs : List ℕ) → replacementsOf s (map word vs) ≡ 0
+  unfolding replacementsOf
+  count-words [] = refl
+  count-words (v ∷ vs) = count-words vs
+
+-- ---- a reading that gives these cells, each text as it stands, and the position after them
 
 pub record Reads (s : List ℕ) (r : Res (List Item)) (cs : List Cell) (q : ℕ) : Type 0 where
   pub items : List Item
   pub reads : r ≡ ok items q
   pub shows : shownIn s items ≡ cs
+  pub none : replacementsOf s items ≡ 0
 
 -- wherever it ends
 pub record ReadsOn (s : List ℕ) (r : Res (List Item)) (cs : List Cell) : Type 0 where
@@ -64,18 +77,19 @@ pub record ReadsOn (s : List ℕ) (r : Res (List Item)) (cs : List Cell) : Type 
 
 module _ {s : List ℕ} where
   pub reads-as : {r r′ : Res (List Item)} {cs cs′ : List Cell} {q q′ : ℕ} → r ≡ r′ → cs ≡ cs′ → q ≡ q′ → Reads s r cs q → Reads s r′ cs′ q′
-  reads-as er ec eq h = record { items = h .items; reads = sym er ∙ h .reads ∙ ap (ok (h .items)) eq; shows = h .shows ∙ ec }
+  reads-as er ec eq h = record { items = h .items; reads = sym er ∙ h .reads ∙ ap (ok (h .items)) eq; shows = h .shows ∙ ec; none = h .none }
 
   pub reads-none : (q : ℕ) → Reads s (ok [] q) [] q
-  unfolding shownIn
-  reads-none q = record { items = []; reads = refl; shows = refl }
+  unfolding shownIn replacementsOf
+  reads-none q = record { items = []; reads = refl; shows = refl; none = refl }
 
-  pub reads-before : (is : List Item) {r : Res (List Item)} {cs : List Cell} {q : ℕ} → Reads s r cs q → Reads s (before is r) (shownIn s is ++ cs) q
-  reads-before is h =
+  pub reads-before : (is : List Item) → replacementsOf s is ≡ 0 → {r : Res (List Item)} {cs : List Cell} {q : ℕ} → Reads s r cs q → Reads s (before is r) (shownIn s is ++ cs) q
+  reads-before is z h =
       record {
         items = is ++ h .items;
         reads = ap (before is) (h .reads);
         shows = shown-append s is (h .items) ∙ ap (λ (l : List Cell). shownIn s is ++ l) (h .shows);
+        none = let a = count-append s is (h .items) in omega (arith, a, z, h .none);
       }
 
   pub reads-joined : {r : Res (List Item)} (g : ℕ → Res (List Item)) {cs ds : List Cell} {p q : ℕ} → Reads s r cs p → Reads s (g p) ds q → Reads s (joined r g) (cs ++ ds) q
@@ -84,10 +98,11 @@ module _ {s : List ℕ} where
         items = h .items ++ k .items;
         reads = ap (λ (z : Res (List Item)). joined z g) (h .reads) ∙ ap (before (h .items)) (k .reads);
         shows = shown-append s (h .items) (k .items) ∙ ap₂ (λ (a b : List Cell). a ++ b) (h .shows) (k .shows);
+        none = let a = count-append s (h .items) (k .items) in omega (arith, a, h .none, k .none);
       }
 
   pub reads-words : (vs : List ℕ) (q : ℕ) → Reads s (ok (map word vs) q) (map wordCell vs) q
-  reads-words vs q = record { items = map word vs; reads = refl; shows = shown-words s vs }
+  reads-words vs q = record { items = map word vs; reads = refl; shows = shown-words s vs; none = count-words s vs }
 
 -- ---- parts one after another, and parts at offsets
 

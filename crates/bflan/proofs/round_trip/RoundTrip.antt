@@ -16,10 +16,10 @@ use Rattle.core.specs.Run.{numbersAt, numbersOf}
 use Rattle.core.specs.declared.run.Run.{Run}
 use Rattle.core.specs.declared.run.Run.the-variants.{Next, Cut}
 use Rattle.core.specs.Text.{beforeZero, zeroFree}
-use Rattle.core.specs.Utf8.{wellFormed}
+use Rattle.core.specs.Utf8.{wellFormed, replacements}
 use Rattle.core.proofs.Seeks.{seek-there}
 use Rattle.core.proofs.Zeros.{none-free, ended-there, before-free}
-use Rattle.core.proofs.utf8.Laws.{decode-well}
+use Rattle.core.proofs.utf8.Laws.{decode-well, well-none}
 use lib.Seq.{sets}
 use Rattle.core.specs.Outcome.{accepted}
 use Rattle.bflan.specs.pai1.Calls.{reading}
@@ -33,7 +33,7 @@ use Rattle.bflan.specs.Reader.{ok, _>>=_, given, here, Item, word, text,
 use Rattle.bflan.specs.pai1.Reading.{keyOf, keys, target, datum, info, typeOf, infoTable, content, texture, contents, ownBytes, flagOf, section, ownLetters}
 use Rattle.bflan.specs.pai1.Record.{AnimTarget, ExtendedUserDataAnim, Standard, ExtendedUserData, AnimContent, PaneAnimInfo, keyWidths, targetCells, datumCells, infoCells, contentCells, cells, words, texts}
 use Rattle.bflan.specs.Cells.{Cell, word as wordCell, chars, each, wordsIn, bytesIn, textCells}
-use Rattle.bflan.specs.Items.{shownAt, wordsOf, textsOf}
+use Rattle.bflan.specs.Items.{shownAt, wordsOf, textsOf, replacementsOf}
 use Rattle.bflan.proofs.read.Answers.{reading-gives}
 use Rattle.bflan.proofs.letters.Codes.{fleu-lt, fits-lt, fits-own, fit-lt, letters-own}
 use Rattle.bflan.specs.pai1.RecordAt.{nameSize}
@@ -45,19 +45,25 @@ use Rattle.bflan.proofs.reader.KeyRuns.{asNumbers, numbers-run}
 use Rattle.bflan.proofs.reader.Rows.{fieldsAt}
 use Rattle.bflan.proofs.reader.SectionParts.{endAt, headItems, section-body, body-there, contents-on}
 use Rattle.bflan.proofs.Layouts.{Stands, stands-left, stands-right, stands-to, stands-all, stands-num, stands-get, size-table, size-written, offsets, table-reads, user-size, section-sizes, section-size, stands-code, fields-stand}
-use Rattle.bflan.proofs.round_trip.ReadBack.{shownIn, Reads, reads-as, reads-none, reads-before, reads-joined, ReadsPart, ReadsAt, many-reads, visit-reads, key-reads, shown-words, words-shown, texts-shown}
+use Rattle.bflan.proofs.round_trip.ReadBack.{shownIn, Reads, reads-as, reads-none, reads-before, reads-joined, ReadsPart, ReadsAt, many-reads, visit-reads, key-reads, shown-words, count-words, words-shown, texts-shown}
 use Rattle.bflan.proofs.reader.TargetParts.{targetAfter, widths as targetWidths, target-there, curve-low, count-low}
 use Rattle.bflan.proofs.reader.Walks.{before, joined, put-before}
 
 -- ---- texts
 
--- a text that stands is shown as it is
-pub shown-there : (s : List ℕ) (i : ℕ) (t : List ℕ) → FineText t → Stands s i (bytes t) → shownAt s i (length t) ≡ t
+-- a text that stands
+text-there : (s : List ℕ) (i : ℕ) (t : List ℕ) → Stands s i (bytes t) → slice i (i + length t) s ≡ t
 unfolding size written
-shown-there s i t f h =
-    let n : i + length t - i ≡ length t = omega arith in
-    let e : slice i (i + length t) s ≡ t = sym (shown-part s i (length t)) ∙ rw n (h .same) in
-    rw e (decode-well t (f .wellFormed))
+text-there s i t h = let n : i + length t - i ≡ length t = omega arith in sym (shown-part s i (length t)) ∙ rw n (h .same)
+
+-- is shown as it is
+pub shown-there : (s : List ℕ) (i : ℕ) (t : List ℕ) → FineText t → Stands s i (bytes t) → shownAt s i (length t) ≡ t
+shown-there s i t f h = rw (text-there s i t h) (decode-well t (f .wellFormed))
+
+-- with nothing put in
+none-there : (s : List ℕ) (i : ℕ) (t : List ℕ) → FineText t → Stands s i (bytes t) → (is : List Item) → replacementsOf s is ≡ 0 → replacementsOf s (text i (length t) ∷ is) ≡ 0
+unfolding replacementsOf
+none-there s i t f h is z = let e = ap replacements (text-there s i t h) in let n = well-none t (f .wellFormed) in omega (arith, e, n, z)
 
 pub ended-reads : (s : List ℕ) (i : ℕ) (t : List ℕ) → FineText t → Stands s i (ended t) → oneEnded s i ≡ ok (text i (length t) ∷ []) (i + length t + 1)
 unfolding ended size written le
@@ -67,12 +73,12 @@ ended-reads s i t f h =
     ended-on s i (length t) (i + length t + 1) (ended-there s i t (drop (length t + 1) (drop i s)) d (none-free t (f .zeroFree)))
 
 pub texture-reads : (s : List ℕ) → ReadsAt ended textCells FineText s texture
-unfolding texture textCells shownIn
+unfolding texture textCells shownIn replacementsOf
 texture-reads s b i t f h =
     let l : b ≤ length s = omega (arith, h .fits) in
     record {
       next = b + length t + 1;
-      here = record { items = text b (length t) ∷ []; reads = rw (sought-there s b i l) (ended-reads s b t f h); shows = ap (λ (z : List ℕ). chars z ∷ []) (shown-there s b t f (unfold ended in stands-left h)) };
+      here = record { items = text b (length t) ∷ []; reads = rw (sought-there s b i l) (ended-reads s b t f h); shows = ap (λ (z : List ℕ). chars z ∷ []) (shown-there s b t f (unfold ended in stands-left h)); none = none-there s b t f (unfold ended in stands-left h) [] refl };
     }
 
 -- ---- targets
@@ -85,7 +91,7 @@ target-head {letters = letters} {b = b} t f h =
     (f .layer, (fits-lt letters (t .target) (f .target), (omega (arith, f .curve), (omega arith, (f .count, (omega arith, (omega arith, tt))))))) h
 
 pub target-reads : (letters : ℕ) (s : List ℕ) → ReadsAt targetLay targetCells (FineTarget letters) s (target letters)
-unfolding targetCells keys shownIn
+unfolding targetCells keys shownIn replacementsOf
 target-reads letters s b i t f h =
     let g = target-head t f h in
     let l : b + 12 ≤ length s = omega (arith, g .1 .fits) in
@@ -96,7 +102,7 @@ target-reads letters s b i t f h =
     target-there letters b s i l ∙ ap (λ (vs : List ℕ). targetAfter letters b vs s (b + 12)) (g .0)
     ∙ rw (sought-there s (b + 12) (b + 12) l, curve-low (t .curve) (length (t .keys)) low, count-low (t .curve) (length (t .keys)) low, fits-own letters (t .target) (f .target))
     (put-before ws (many (length (t .keys)) (keyOf (t .curve)) s (b + 12)) s) in
-    record { next = b + 12 + size (parts (keyLay (t .curve)) (t .keys)); here = reads-as (sym e) refl refl (reads-before ws k) }
+    record { next = b + 12 + size (parts (keyLay (t .curve)) (t .keys)); here = reads-as (sym e) refl refl (reads-before ws refl k) }
 
 -- ---- extended data
 
@@ -106,8 +112,8 @@ values-read s i [] q h = rw add-zero
 values-read s i (v ∷ vs) q h = rw (stands-num (stands-left h) (q .0), values-read s (i + 4) vs (q .1) (stands-right h)) (ap (ok (v ∷ vs)) (omega arith))
 
 text-reads : (s : List ℕ) (k : ℕ) (t : List ℕ) → FineText t → Stands s k (ended t) → Reads s (ok (text k (length t) ∷ []) (k + length t + 1)) (chars t ∷ []) (k + length t + 1)
-unfolding shownIn ended
-text-reads s k t f h = record { items = text k (length t) ∷ []; reads = refl; shows = ap (λ (z : List ℕ). chars z ∷ []) (shown-there s k t f (stands-left h)) }
+unfolding shownIn replacementsOf ended
+text-reads s k t f h = record { items = text k (length t) ∷ []; reads = refl; shows = ap (λ (z : List ℕ). chars z ∷ []) (shown-there s k t f (stands-left h)); none = none-there s k t f (stands-left h) [] refl }
 
 size-ended : (t : List ℕ) → size (ended t) ≡ length t + 1
 unfolding ended size
@@ -121,7 +127,7 @@ datum-head {i = i} d f h =
     (f .headerSize, (f .unk1, (f .unk2, (f .baseCount, (f .unk3, tt))))) h
 
 pub datum-reads : (s : List ℕ) → ReadsPart datumLay datumCells FineDatum s datum
-unfolding datumCells size shownIn
+unfolding datumCells size shownIn replacementsOf
 datum-reads s i d f h =
     let g = datum-head d f h in
     let h1 = stands-right (g .1) in
@@ -129,7 +135,7 @@ datum-reads s i d f h =
     let j : ℕ = i + 16 + size (parts (number 4) (d .values)) in
     let l : j + 4 ≤ length s = omega (arith, h2 .fits) in
     let hs : List Item = word (d .headerSize) ∷ word (d .unk1) ∷ word (d .unk2) ∷ word (d .baseCount) ∷ word (d .unk3) ∷ [] in
-    let z = reads-before hs (reads-before (map word (d .values)) (text-reads s (j + 4) (d .key) (f .key) h2)) in
+    let z = reads-before hs refl (reads-before (map word (d .values)) (count-words s (d .values)) (text-reads s (j + 4) (d .key) (f .key) h2)) in
     let n : j + 4 + length (d .key) + 1 ≡ i + size (datumLay d) = unfold datumLay in omega (arith, size-ended (d .key)) in
     let e : datum s i ≡ ok (hs ++ (map word (d .values) ++ (text (j + 4) (length (d .key)) ∷ []))) (j + 4 + length (d .key) + 1) =
     datum-there s i (omega (arith, l)) ∙ ap (λ (vs : List ℕ). datumAfter (fieldsIn vs) s (i + 16)) (g .0)
@@ -161,7 +167,7 @@ info-head {letters = letters} f k h = (stands-get (stands-code {k = 4} {n = lett
 
 module _ (s : List ℕ) (short : length s ≤ 16777216) where
   pub info-reads : ReadsAt infoLay infoCells FineInfo s info
-  unfolding infoLay infoHead infoCells size le shownIn
+  unfolding infoLay infoHead infoCells size le shownIn replacementsOf
   info-reads b i (Standard letters ts) f h =
       let g = info-head (fit-lt letters (f .letters)) (f .count) (stands-left h) in
       let h1 = stands-right h in
@@ -172,12 +178,12 @@ module _ (s : List ℕ) (short : length s ≤ 16777216) where
       let o = run-there n s (b + 8) _ _ (table-reads targetLay s (b + 8) (8 + 4 * n) ts lp (stands-left h1)) in
       let v = visit-reads targetLay targetCells (FineTarget letters) s (target letters) (target-reads letters s) b (8 + 4 * n) (b + 8 + 4 * n) ts (f .targets) (stands-to (stands-right h1) (omega (arith, lt))) in
       let e = info-standard b s i letters n (b + 8 + 4 * n) l (sym (g .0)) (f .standard) (sym (g .1)) (o .next) in
-      record { next = v .next; here = reads-as (sym (e ∙ rw (o .values, letters-own letters (f .letters)))) refl refl (reads-before (word letters ∷ word n ∷ []) (v .here)) }
+      record { next = v .next; here = reads-as (sym (e ∙ rw (o .values, letters-own letters (f .letters)))) refl refl (reads-before (word letters ∷ word n ∷ []) refl (v .here)) }
   info-reads b i (ExtendedUserData ds) f h =
       let g = info-head fleu-lt (f .0) (stands-left h) in
       let m = many-reads datumLay datumCells FineDatum s datum (datum-reads s) (b + 8) ds (f .1) (stands-right h) in
       let e = info-extended b s i (length ds) (omega (arith, h .fits)) (g .0) (sym (g .1)) in
-      record { next = b + 8 + size (parts datumLay ds); here = reads-as (sym e) refl refl (reads-before (word fleu ∷ word (length ds) ∷ []) m) }
+      record { next = b + 8 + size (parts datumLay ds); here = reads-as (sym e) refl refl (reads-before (word fleu ∷ word (length ds) ∷ []) refl m) }
 
   -- ---- contents
 
@@ -239,7 +245,7 @@ module _ (s : List ℕ) (short : length s ≤ 16777216) where
       }
 
   pub content-reads : ReadsAt contentLay contentCells FineContent s content
-  unfolding contentCells infosFrom size shownIn
+  unfolding contentCells infosFrom size shownIn replacementsOf
   content-reads b i c f h =
       let g : StandsContent b c = content-stands b c f h in
       let n : ℕ = length (c .infos) in
@@ -258,7 +264,7 @@ module _ (s : List ℕ) (short : length s ≤ 16777216) where
       ∙ rw (o, ns, ty) (put-before ws (visit b info (offsets infoLay from (c .infos)) s (b + tableFrom (c .type) + 4 * n)) s) in
       record {
         next = v .next;
-        here = reads-as (sym e) (ap (λ (t : List ℕ). chars t ∷ wordCell (c .type) ∷ wordCell n ∷ each infoCells (c .infos)) (shown-there s b (c .name) (f .name) (g .name))) refl (reads-before ws (v .here));
+        here = reads-as (sym e) (ap (λ (t : List ℕ). chars t ∷ wordCell (c .type) ∷ wordCell n ∷ each infoCells (c .infos)) (shown-there s b (c .name) (f .name) (g .name))) refl (reads-before ws (none-there s b (c .name) (f .name) (g .name) (word (c .type) ∷ word n ∷ []) refl) (v .here));
       }
 
 -- ---- the section
@@ -311,7 +317,7 @@ section-stands s r f short h =
     }
 
 pub section-reads : (s : List ℕ) (r : PaneAnimInfo) → Within r → Stands s 0 (sectionLay r) → length s ≤ 16777216 → Reads s (section s 0) (cells r) (size (sectionLay r))
-unfolding sectionLay cells size contentTable sectionSize namesEnd shownIn
+unfolding sectionLay cells size contentTable sectionSize namesEnd shownIn replacementsOf
 section-reads s r w h short =
     let f : Fine r = w .fine in
     let g = section-stands s r f short h in
@@ -343,21 +349,22 @@ section-reads s r w h short =
     reads-joined (λ j. joined (contents (get 4 s 16) (get 2 s 14) s j) (λ k. endAt (seekTo size4 s k))) (reads-as (sym tex) refl refl (tv .here))
     (reads-joined (λ k. endAt (seekTo size4 s k)) (reads-as (sym (cont (tv .next))) refl refl (cv .here)) (last (cv .next))) in
     let nx : numbersOf (get 2 s 12) s 20 ≡ Next (20 + 4 * nt) = ap (λ (n : ℕ). numbersOf n s 20) et ∙ to .next in
-    reads-as (sym (section-body s b8 (g .letters) ∙ body-there s size4 b20 (20 + 4 * nt) nx)) (rw (g .frames, lo, et, ec, append-nil)) (sym (section-size r)) (reads-before (headItems s size4) tail)
+    reads-as (sym (section-body s b8 (g .letters) ∙ body-there s size4 b20 (20 + 4 * nt) nx)) (rw (g .frames, lo, et, ec, append-nil)) (sym (section-size r)) (reads-before (headItems s size4) refl tail)
 
--- the record that was written, read again: its words, its texts, and the end
+-- the record that was written, read again: its words, its texts, as they stand, and the end
 pub record ReadsBack (s : List ℕ) (r : PaneAnimInfo) : Type 0 where
   pub items : List Item
   pub reads : section s 0 ≡ ok items (size (sectionLay r))
   pub words : wordsOf s items ≡ words r
   pub texts : textsOf s items ≡ texts r
+  pub none : replacementsOf s items ≡ 0
 
 pub reads-back : (r : PaneAnimInfo) → Within r → ReadsBack (written (sectionLay r)) r
 reads-back r w =
     let s : List ℕ = written (sectionLay r) in
     let short : length s ≤ 16777216 = omega (arith, size-written (sectionLay r), w .short) in
     let h = section-reads s r w (stands-all (sectionLay r)) short in
-    record { items = h .items; reads = h .reads; words = words-shown s (h .items) ∙ ap wordsIn (h .shows); texts = texts-shown s (h .items) ∙ ap bytesIn (h .shows) }
+    record { items = h .items; reads = h .reads; words = words-shown s (h .items) ∙ ap wordsIn (h .shows); texts = texts-shown s (h .items) ∙ ap bytesIn (h .shows); none = h .none }
 
 -- the same of the call: with long enough tables it is accepted, and fills them with the record
 pub read-written : (r : PaneAnimInfo) → Within r → (w x : List ℕ) → length (words r) ≤ length w → length (texts r) ≤ length x

@@ -194,6 +194,9 @@ well-count =
     (λ x xs e h. well-good x xs e ∙ h ∙ rw (count-good x xs e))
     (λ x xs e h. well-bad x xs e ∙ sym (ne-eqb (replacements (x ∷ xs)) 0 (λ q. let z = count-bad x xs e in omega arith)))
 
+pub well-none : (t : List ℕ) → wellFormed t ≡ true → 0 ≡ replacements t
+well-none t w = sym (eqb-true _ _ (sym (well-count t) ∙ w))
+
 -- ---- a well-formed text, alone and in front of another
 
 matched-append : (rs : List Range) (xs b : List ℕ) → matched rs xs ≡ length rs → matched rs (xs ++ b) ≡ length rs

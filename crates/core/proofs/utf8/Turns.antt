@@ -13,7 +13,7 @@ use lib.ListN.{length, getD, take, drop, length-append, length-drop, drop-of-len
 use lib.Seq.{sets, slice, slice-empty, length-slice, drop-cons, drop-drop, take-nil}
 use Rattle.core.specs.declared.utf8.step.Step.{Step}
 use Rattle.core.specs.declared.utf8.step.Step.the-variants.{Good, Bad}
-use Rattle.core.specs.Utf8.{rows, classOf, laterOf, matched, more, good, stepOf, replacement, decode, decodedSize, validUpTo, replacements, wellFormed}
+use Rattle.core.specs.Utf8.{rows, classOf, laterOf, matched, more, good, stepOf, replacement, decode, decodedSize, validUpTo, replacements}
 use Rattle.core.specs.Choice.{pick}
 use Rattle.core.specs.Text.{beforeZero, firstFault, every, notZero, ascii, plain, isPlain, plainAt, endedOf}
 use Rattle.core.specs.inner.Scan.{illSize, asciiSeen}
@@ -23,7 +23,7 @@ use Rattle.core.proofs.Tests.{every-at}
 use Rattle.core.proofs.Zeros.{byte-some, free-of, ended-there}
 use Rattle.core.proofs.utf8.Steps.{matched-none, ascii-class, step-none}
 use Rattle.core.proofs.utf8.Pieces.{more-within, step-good, step-bad, decode-nil, decode-good, valid-nil, valid-good, valid-bad, ill-nil, ill-bad, count-nil, count-good}
-use Rattle.core.proofs.utf8.Laws.{both-true, good-from, whole-well, decode-well, valid-le, decode-front, ill-short, ill-within, ill-or-end, decode-ill, count-front, count-ill, count-le, well-count}
+use Rattle.core.proofs.utf8.Laws.{both-true, good-from, whole-well, decode-well, valid-le, decode-front, ill-short, ill-within, ill-or-end, decode-ill, count-front, count-ill, count-le}
 
 -- ---- parts of a list
 
@@ -162,9 +162,6 @@ plain-fault s e =
 
 pub ascii-decode : (s : List ℕ) → ((j : ℕ) → j < length s → getD s j 0 < 128) → decode s ≡ s
 ascii-decode s f = decode-well s (whole-well s (ascii-valid s f))
-
-pub well-none : (s : List ℕ) → wellFormed s ≡ true → 0 ≡ replacements s
-well-none s w = sym (eqb-true _ _ (sym (well-count s) ∙ w))
 
 pub ascii-size : (s : List ℕ) → length s < 18446744073709551616 → ((j : ℕ) → j < length s → getD s j 0 < 128) → length s ≡ decodedSize s
 unfolding decodedSize

@@ -8,8 +8,7 @@ use native.Mathlib.Omega.{arith}
 use denote.Ref.{now}
 use lib.Seq.{sets}
 use Rattle.core.specs.Utf8.{decodedSize}
-use Rattle.core.proofs.utf8.Laws.{whole-well, decode-well}
-use Rattle.core.proofs.utf8.Turns.{well-none}
+use Rattle.core.proofs.utf8.Laws.{whole-well, well-none, decode-well}
 
 returns : tie.Need-returns
 unfolding decodedSize
