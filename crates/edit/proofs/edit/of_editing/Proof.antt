@@ -8,27 +8,6 @@ use Rattle.core.specs.Outcome.{flat}
 use Rattle.edit.specs.declared.edit.EditAnswer.{EditAnswer}
 use Rattle.edit.specs.Editing.{ofEditing}
 
-enum-known-a : tie.Need-enum-known-a
-enum-known-a c = search needs
-
-enum-known-a-2 : tie.Need-enum-known-a-2
-enum-known-a-2 c = search needs
-
-enum-known-a-3 : tie.Need-enum-known-a-3
-enum-known-a-3 c = search needs
-
-of-fault-requires : tie.Need-of-fault-requires
-of-fault-requires c κs = search needs
-
-enum-told : tie.Need-enum-told
-enum-told c = search needs
-
-enum-told-2 : tie.Need-enum-told-2
-enum-told-2 c = search needs
-
-enum-known-a-4 : tie.Need-enum-known-a-4
-enum-known-a-4 c = search needs
-
 returns : tie.Need-returns
 unfolding flat ofEditing
 returns c = ap (λ (z : EditAnswer). flat 5 (ofEditing z)) (sym (c .before .a .given .1))
@@ -56,17 +35,5 @@ returns-6 c = ap (λ (z : EditAnswer). flat 5 (ofEditing z)) (sym (c .before .a4
 pub of-editing-spec : {M : Type 1} → statement M
 of-editing-spec =
     tie.close
-    (tie.spec
-    enum-known-a
-    enum-known-a-2
-    enum-known-a-3
-    of-fault-requires
-    enum-told
-    enum-told-2
-    enum-known-a-4
-    returns
-    returns-2
-    returns-3
-    returns-4
-    returns-5
-    returns-6)
+    (tie.spec (search needs) (search needs) (search needs) (search needs) (search needs) (search needs) (search needs) returns
+    returns-2 returns-3 returns-4 returns-5 returns-6)

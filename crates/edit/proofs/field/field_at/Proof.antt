@@ -13,27 +13,6 @@ use Rattle.edit.specs.FieldAt.{atLocated}
 use Rattle.edit.specs.inner.Packing.{locatedAs}
 use Rattle.edit.proofs.FieldAt.{field-by}
 
-way-of-requires : tie.Need-way-of-requires
-way-of-requires c κs = search needs
-
-spot-at-requires : tie.Need-spot-at-requires
-spot-at-requires c κs = search needs
-
-enum-known-size : tie.Need-enum-known-size
-enum-known-size c = search needs
-
-enum-known-f : tie.Need-enum-known-f
-enum-known-f c = search needs
-
-enum-told : tie.Need-enum-told
-enum-told c = search needs
-
-enum-known-at : tie.Need-enum-known-at
-enum-known-at c = search needs
-
-field-as-requires : tie.Need-field-as-requires
-field-as-requires c κs = search needs
-
 value-at-requires : tie.Need-value-at-requires
 unfolding locatedAs
 value-at-requires c κs = spotted _ _ _ _ (sym (c .before .before .before .before .spot-at .ensures ∙ ap (locating (now (c .before .before .before .before .before .before .before .args .section))) (sym (c .before .before .before .before .before .way-of .ensures))) ∙ ap locatedAs (c .before .before .at .given .1) ∙ ap (At (c .before .before .at .given .0 .0)) (sym (c .field-as .ensures))) .inside
@@ -57,16 +36,5 @@ returns-4 c = ap Is (c .value-at .ensures) ∙ field-by _ _ (c .before .before .
 pub field-at-spec : {M : Type 1} → statement M
 field-at-spec =
     tie.close
-    (tie.spec
-    way-of-requires
-    spot-at-requires
-    enum-known-size
-    enum-known-f
-    enum-told
-    enum-known-at
-    field-as-requires
-    value-at-requires
-    returns
-    returns-2
-    returns-3
-    returns-4)
+    (tie.spec (search needs) (search needs) (search needs) (search needs) (search needs) (search needs) (search needs)
+    value-at-requires returns returns-2 returns-3 returns-4)

@@ -7,27 +7,6 @@ use mathlib.Core.Path.{sym, ap, _∙_}
 use Rattle.edit.specs.FieldAt.{ofValue}
 use Rattle.edit.specs.inner.Packing.{valuesIn}
 
-enum-known-v : tie.Need-enum-known-v
-enum-known-v c = search needs
-
-enum-known-v-2 : tie.Need-enum-known-v-2
-enum-known-v-2 c = search needs
-
-enum-known-v-3 : tie.Need-enum-known-v-3
-enum-known-v-3 c = search needs
-
-enum-known-v-4 : tie.Need-enum-known-v-4
-enum-known-v-4 c = search needs
-
-enum-known-v-5 : tie.Need-enum-known-v-5
-enum-known-v-5 c = search needs
-
-key-values-requires : tie.Need-key-values-requires
-key-values-requires c κs = search needs
-
-enum-known-v-6 : tie.Need-enum-known-v-6
-enum-known-v-6 c = search needs
-
 returns : tie.Need-returns
 unfolding valuesIn ofValue
 returns c = sym (ap ofValue (c .before .v .given .1))
@@ -55,17 +34,5 @@ returns-6 c = sym (ap ofValue (c .before .v6 .given .1))
 pub field-values-spec : {M : Type 1} → statement M
 field-values-spec =
     tie.close
-    (tie.spec
-    enum-known-v
-    enum-known-v-2
-    enum-known-v-3
-    enum-known-v-4
-    enum-known-v-5
-    key-values-requires
-    enum-known-v-6
-    returns
-    returns-2
-    returns-3
-    returns-4
-    returns-5
-    returns-6)
+    (tie.spec (search needs) (search needs) (search needs) (search needs) (search needs) (search needs) (search needs) returns
+    returns-2 returns-3 returns-4 returns-5 returns-6)

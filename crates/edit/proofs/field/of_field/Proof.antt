@@ -11,27 +11,6 @@ use Rattle.edit.specs.FieldAt.{ofField}
 use Rattle.edit.specs.declared.field.FieldAnswer.{FieldAnswer}
 use Rattle.edit.proofs.FieldAt.{counted-fault}
 
-enum-known-a : tie.Need-enum-known-a
-enum-known-a c = search needs
-
-enum-known-a-2 : tie.Need-enum-known-a-2
-enum-known-a-2 c = search needs
-
-of-fault-requires : tie.Need-of-fault-requires
-of-fault-requires c κs = search needs
-
-enum-told : tie.Need-enum-told
-enum-told c = search needs
-
-enum-known-a-3 : tie.Need-enum-known-a-3
-enum-known-a-3 c = search needs
-
-field-values-requires : tie.Need-field-values-requires
-field-values-requires c κs = search needs
-
-of-values-requires : tie.Need-of-values-requires
-of-values-requires c κs = search needs
-
 returns : tie.Need-returns
 unfolding flat counted ofField
 returns c = ap (λ (z : FieldAnswer). flat 5 (counted (ofField z))) (sym (c .before .a .given .1))
@@ -51,15 +30,5 @@ returns-4 c = c .of-values .ensures ∙ ap (λ (vs : List ℕ). flat 5 (counted 
 pub of-field-spec : {M : Type 1} → statement M
 of-field-spec =
     tie.close
-    (tie.spec
-    enum-known-a
-    enum-known-a-2
-    of-fault-requires
-    enum-told
-    enum-known-a-3
-    field-values-requires
-    of-values-requires
-    returns
-    returns-2
-    returns-3
-    returns-4)
+    (tie.spec (search needs) (search needs) (search needs) (search needs) (search needs) (search needs) (search needs) returns
+    returns-2 returns-3 returns-4)

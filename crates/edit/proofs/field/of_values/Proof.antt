@@ -8,33 +8,6 @@ use Rattle.core.specs.Outcome.{flat, accepted, counted}
 use Rattle.edit.specs.inner.Packing.{valuesIn}
 use Rattle.edit.specs.declared.values.Values.{Values}
 
-enum-known-v : tie.Need-enum-known-v
-enum-known-v c = search needs
-
-cast-t9 : tie.Need-cast-t9
-cast-t9 c = search needs
-
-enum-known-v-2 : tie.Need-enum-known-v-2
-enum-known-v-2 c = search needs
-
-cast-t10 : tie.Need-cast-t10
-cast-t10 c = search needs
-
-cast-t11 : tie.Need-cast-t11
-cast-t11 c = search needs
-
-enum-known-v-3 : tie.Need-enum-known-v-3
-enum-known-v-3 c = search needs
-
-cast-t12 : tie.Need-cast-t12
-cast-t12 c = search needs
-
-cast-t13 : tie.Need-cast-t13
-cast-t13 c = search needs
-
-cast-t14 : tie.Need-cast-t14
-cast-t14 c = search needs
-
 returns : tie.Need-returns
 unfolding flat counted valuesIn
 returns c = ap (λ (z : Values). flat 5 (counted (accepted (valuesIn z)))) (sym (c .before .v .given .1))
@@ -50,16 +23,5 @@ returns-3 c = ap (λ (z : Values). flat 5 (counted (accepted (valuesIn z)))) (sy
 pub of-values-spec : {M : Type 1} → statement M
 of-values-spec =
     tie.close
-    (tie.spec
-    enum-known-v
-    cast-t9
-    enum-known-v-2
-    cast-t10
-    cast-t11
-    enum-known-v-3
-    cast-t12
-    cast-t13
-    cast-t14
-    returns
-    returns-2
-    returns-3)
+    (tie.spec (search needs) (search needs) (search needs) (search needs) (search needs) (search needs) (search needs)
+    (search needs) (search needs) returns returns-2 returns-3)

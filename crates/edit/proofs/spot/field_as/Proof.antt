@@ -7,24 +7,6 @@ use mathlib.Core.Path.{sym, ap}
 use Rattle.edit.specs.inner.Packing.{fieldAs}
 use Rattle.edit.specs.declared.spot.Kind.{Kind}
 
-enum-told : tie.Need-enum-told
-enum-told c = search needs
-
-enum-told-2 : tie.Need-enum-told-2
-enum-told-2 c = search needs
-
-enum-told-3 : tie.Need-enum-told-3
-enum-told-3 c = search needs
-
-enum-told-4 : tie.Need-enum-told-4
-enum-told-4 c = search needs
-
-enum-told-5 : tie.Need-enum-told-5
-enum-told-5 c = search needs
-
-enum-told-6 : tie.Need-enum-told-6
-enum-told-6 c = search needs
-
 returns : tie.Need-returns
 unfolding fieldAs
 returns c = sym (ap (λ (z : Kind). fieldAs z (c .before .before .args .n)) (c .enum-told .given .1))
@@ -52,16 +34,5 @@ returns-6 c = sym (ap (λ (z : Kind). fieldAs z (c .before .before .args .n)) (c
 pub field-as-spec : {M : Type 1} → statement M
 field-as-spec =
     tie.close
-    (tie.spec
-    enum-told
-    enum-told-2
-    enum-told-3
-    enum-told-4
-    enum-told-5
-    enum-told-6
-    returns
-    returns-2
-    returns-3
-    returns-4
-    returns-5
-    returns-6)
+    (tie.spec (search needs) (search needs) (search needs) (search needs) (search needs) (search needs) returns returns-2
+    returns-3 returns-4 returns-5 returns-6)

@@ -8,27 +8,6 @@ use denote.Ref.{now}
 use Rattle.bflan.specs.pai1.Locating.{locating}
 use Rattle.edit.specs.inner.Packing.{locatedAs}
 
-place-as-requires : tie.Need-place-as-requires
-place-as-requires c κs = search needs
-
-locate-requires : tie.Need-locate-requires
-locate-requires c κs = search needs
-
-enum-known-size : tie.Need-enum-known-size
-enum-known-size c = search needs
-
-enum-known-f : tie.Need-enum-known-f
-enum-known-f c = search needs
-
-enum-told : tie.Need-enum-told
-enum-told c = search needs
-
-enum-known-at : tie.Need-enum-known-at
-enum-known-at c = search needs
-
-there-requires : tie.Need-there-requires
-there-requires c κs = search needs
-
 returns : tie.Need-returns
 unfolding locatedAs
 returns c = sym (c .before .size .given .1) ∙ c .before .before .before .locate .ensures ∙ ap (locating (now (c .before .before .before .before .before .before .args .section))) (c .before .before .before .before .place-as .ensures)
@@ -47,15 +26,5 @@ returns-4 c = c .there .ensures ∙ sym (c .before .before .at .given .1) ∙ c 
 pub spot-at-spec : {M : Type 1} → statement M
 spot-at-spec =
     tie.close
-    (tie.spec
-    place-as-requires
-    locate-requires
-    enum-known-size
-    enum-known-f
-    enum-told
-    enum-known-at
-    there-requires
-    returns
-    returns-2
-    returns-3
-    returns-4)
+    (tie.spec (search needs) (search needs) (search needs) (search needs) (search needs) (search needs) (search needs) returns
+    returns-2 returns-3 returns-4)

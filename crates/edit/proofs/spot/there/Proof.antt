@@ -7,24 +7,6 @@ use mathlib.Core.Path.{sym, ap}
 use Rattle.bflan.specs.declared.place.Located.the-variants.{At}
 use Rattle.edit.specs.inner.Packing.{fieldAs, locatedAs}
 
-enum-told : tie.Need-enum-told
-enum-told c = search needs
-
-enum-told-2 : tie.Need-enum-told-2
-enum-told-2 c = search needs
-
-enum-told-3 : tie.Need-enum-told-3
-enum-told-3 c = search needs
-
-enum-known-f : tie.Need-enum-known-f
-enum-known-f c = search needs
-
-enum-known-f-2 : tie.Need-enum-known-f-2
-enum-known-f-2 c = search needs
-
-enum-told-4 : tie.Need-enum-told-4
-enum-told-4 c = search needs
-
 returns : tie.Need-returns
 unfolding fieldAs locatedAs
 returns c = sym (ap (At (c .before .before .args .at)) (c .enum-told .given .1))
@@ -52,16 +34,5 @@ returns-6 c = sym (ap (At (c .before .before .args .at)) (c .enum-told4 .given .
 pub there-spec : {M : Type 1} → statement M
 there-spec =
     tie.close
-    (tie.spec
-    enum-told
-    enum-told-2
-    enum-told-3
-    enum-known-f
-    enum-known-f-2
-    enum-told-4
-    returns
-    returns-2
-    returns-3
-    returns-4
-    returns-5
-    returns-6)
+    (tie.spec (search needs) (search needs) (search needs) (search needs) (search needs) (search needs) returns returns-2
+    returns-3 returns-4 returns-5 returns-6)

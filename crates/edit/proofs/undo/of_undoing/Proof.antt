@@ -8,18 +8,6 @@ use Rattle.core.specs.Outcome.{flat}
 use Rattle.edit.specs.declared.undo.UndoAnswer.{UndoAnswer}
 use Rattle.edit.specs.Editing.{ofUndoing}
 
-enum-known-a : tie.Need-enum-known-a
-enum-known-a c = search needs
-
-enum-known-a-2 : tie.Need-enum-known-a-2
-enum-known-a-2 c = search needs
-
-enum-told : tie.Need-enum-told
-enum-told c = search needs
-
-enum-known-a-3 : tie.Need-enum-known-a-3
-enum-known-a-3 c = search needs
-
 returns : tie.Need-returns
 unfolding flat ofUndoing
 returns c = ap (λ (z : UndoAnswer). flat 5 (ofUndoing z)) (sym (c .before .a .given .1))
@@ -39,12 +27,4 @@ returns-4 c = ap (λ (z : UndoAnswer). flat 5 (ofUndoing z)) (sym (c .before .a3
 pub of-undoing-spec : {M : Type 1} → statement M
 of-undoing-spec =
     tie.close
-    (tie.spec
-    enum-known-a
-    enum-known-a-2
-    enum-told
-    enum-known-a-3
-    returns
-    returns-2
-    returns-3
-    returns-4)
+    (tie.spec (search needs) (search needs) (search needs) (search needs) returns returns-2 returns-3 returns-4)

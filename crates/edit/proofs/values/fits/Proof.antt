@@ -9,42 +9,6 @@ use Rattle.bflan.specs.declared.place.Field.{Field}
 use Rattle.edit.specs.inner.Packing.{valuesIn}
 use Rattle.edit.proofs.Changes.{fit-frames, fit-looping, fit-layer, fit-value}
 
-enum-told : tie.Need-enum-told
-enum-told c = search needs
-
-one-most-requires : tie.Need-one-most-requires
-one-most-requires c κs = search needs
-
-enum-told-2 : tie.Need-enum-told-2
-enum-told-2 c = search needs
-
-one-most-requires-2 : tie.Need-one-most-requires-2
-one-most-requires-2 c κs = search needs
-
-enum-told-3 : tie.Need-enum-told-3
-enum-told-3 c = search needs
-
-one-most-requires-3 : tie.Need-one-most-requires-3
-one-most-requires-3 c κs = search needs
-
-enum-known-f : tie.Need-enum-known-f
-enum-known-f c = search needs
-
-fits-target-requires : tie.Need-fits-target-requires
-fits-target-requires c κs = search needs
-
-enum-known-f-2 : tie.Need-enum-known-f-2
-enum-known-f-2 c = search needs
-
-fits-key-requires : tie.Need-fits-key-requires
-fits-key-requires c κs = search needs
-
-enum-told-4 : tie.Need-enum-told-4
-enum-told-4 c = search needs
-
-one-most-requires-4 : tie.Need-one-most-requires-4
-one-most-requires-4 c κs = search needs
-
 returns : tie.Need-returns
 returns c = c .one-most .ensures ∙ fit-frames _ ∙ sym (ap (λ (x : Field). fit x (valuesIn (c .before .before .before .args .v))) (c .before .enum-told .given .1))
 
@@ -66,22 +30,6 @@ returns-6 c = c .one-most4 .ensures ∙ fit-value _ ∙ sym (ap (λ (x : Field).
 pub fits-spec : {M : Type 1} → statement M
 fits-spec =
     tie.close
-    (tie.spec
-    enum-told
-    one-most-requires
-    enum-told-2
-    one-most-requires-2
-    enum-told-3
-    one-most-requires-3
-    enum-known-f
-    fits-target-requires
-    enum-known-f-2
-    fits-key-requires
-    enum-told-4
-    one-most-requires-4
-    returns
-    returns-2
-    returns-3
-    returns-4
-    returns-5
+    (tie.spec (search needs) (search needs) (search needs) (search needs) (search needs) (search needs) (search needs)
+    (search needs) (search needs) (search needs) (search needs) (search needs) returns returns-2 returns-3 returns-4 returns-5
     returns-6)

@@ -11,15 +11,6 @@ use Rattle.edit.specs.declared.values.Values.{Values}
 use Rattle.edit.specs.inner.Packing.{valuesIn}
 use Rattle.edit.proofs.Changes.{step-one, step-two, step-three}
 
-enum-known-v : tie.Need-enum-known-v
-enum-known-v c = search needs
-
-enum-known-v-2 : tie.Need-enum-known-v-2
-enum-known-v-2 c = search needs
-
-enum-known-v-3 : tie.Need-enum-known-v-3
-enum-known-v-3 c = search needs
-
 returns : tie.Need-returns
 returns c = step-one _ ∙ sym (ap (λ (x : Values). fitWidths (4 ∷ 2 ∷ []) (valuesIn x)) (c .before .v .given .1))
 
@@ -30,5 +21,4 @@ returns-3 : tie.Need-returns-3
 returns-3 c = step-three _ _ _ ∙ sym (ap (λ (x : Values). fitWidths (4 ∷ 2 ∷ []) (valuesIn x)) (c .before .v3 .given .1))
 
 pub fits-step-spec : {M : Type 1} → statement M
-fits-step-spec =
-    tie.close (tie.spec enum-known-v enum-known-v-2 enum-known-v-3 returns returns-2 returns-3)
+fits-step-spec = tie.close (tie.spec (search needs) (search needs) (search needs) returns returns-2 returns-3)

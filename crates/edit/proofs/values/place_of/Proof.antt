@@ -6,24 +6,6 @@ use Rattle.edit.proofs.values.place_of.Tie as tie
 use mathlib.Core.Path.{sym, ap}
 use Rattle.edit.specs.Editing.{placeOf}
 
-enum-known-change : tie.Need-enum-known-change
-enum-known-change c = search needs
-
-enum-known-change-2 : tie.Need-enum-known-change-2
-enum-known-change-2 c = search needs
-
-enum-known-change-3 : tie.Need-enum-known-change-3
-enum-known-change-3 c = search needs
-
-enum-known-change-4 : tie.Need-enum-known-change-4
-enum-known-change-4 c = search needs
-
-enum-known-change-5 : tie.Need-enum-known-change-5
-enum-known-change-5 c = search needs
-
-enum-known-change-6 : tie.Need-enum-known-change-6
-enum-known-change-6 c = search needs
-
 returns : tie.Need-returns
 unfolding placeOf
 returns c = sym (ap placeOf (c .before .change .given .1))
@@ -51,16 +33,5 @@ returns-6 c = sym (ap placeOf (c .before .change6 .given .1))
 pub place-of-spec : {M : Type 1} → statement M
 place-of-spec =
     tie.close
-    (tie.spec
-    enum-known-change
-    enum-known-change-2
-    enum-known-change-3
-    enum-known-change-4
-    enum-known-change-5
-    enum-known-change-6
-    returns
-    returns-2
-    returns-3
-    returns-4
-    returns-5
-    returns-6)
+    (tie.spec (search needs) (search needs) (search needs) (search needs) (search needs) (search needs) returns returns-2
+    returns-3 returns-4 returns-5 returns-6)

@@ -10,24 +10,6 @@ use Rattle.bflan.specs.pai1.Places.{widths, total}
 use Rattle.bflan.specs.pai1.Record.{keyWidths}
 use Rattle.edit.proofs.Changes.{size-rest}
 
-enum-told : tie.Need-enum-told
-enum-told c = search needs
-
-enum-told-2 : tie.Need-enum-told-2
-enum-told-2 c = search needs
-
-enum-told-3 : tie.Need-enum-told-3
-enum-told-3 c = search needs
-
-enum-known-f : tie.Need-enum-known-f
-enum-known-f c = search needs
-
-enum-known-f-2 : tie.Need-enum-known-f-2
-enum-known-f-2 c = search needs
-
-enum-told-4 : tie.Need-enum-told-4
-enum-told-4 c = search needs
-
 returns : tie.Need-returns
 unfolding widths total
 returns c = sym (ap (λ (x : Field). total (widths x)) (c .enum-told .given .1))
@@ -63,18 +45,5 @@ returns-8 c = sym (ap (λ (x : Field). total (widths x)) (c .enum-told4 .given .
 pub size-of-spec : {M : Type 1} → statement M
 size-of-spec =
     tie.close
-    (tie.spec
-    enum-told
-    enum-told-2
-    enum-told-3
-    enum-known-f
-    enum-known-f-2
-    enum-told-4
-    returns
-    returns-2
-    returns-3
-    returns-4
-    returns-5
-    returns-6
-    returns-7
-    returns-8)
+    (tie.spec (search needs) (search needs) (search needs) (search needs) (search needs) (search needs) returns returns-2
+    returns-3 returns-4 returns-5 returns-6 returns-7 returns-8)

@@ -7,27 +7,6 @@ use mathlib.Core.Path.{sym, ap, _∙_}
 use Rattle.edit.specs.Editing.{valuesOf}
 use Rattle.edit.specs.inner.Packing.{valuesIn}
 
-enum-known-change : tie.Need-enum-known-change
-enum-known-change c = search needs
-
-enum-known-change-2 : tie.Need-enum-known-change-2
-enum-known-change-2 c = search needs
-
-enum-known-change-3 : tie.Need-enum-known-change-3
-enum-known-change-3 c = search needs
-
-enum-known-change-4 : tie.Need-enum-known-change-4
-enum-known-change-4 c = search needs
-
-enum-known-change-5 : tie.Need-enum-known-change-5
-enum-known-change-5 c = search needs
-
-key-values-requires : tie.Need-key-values-requires
-key-values-requires c κs = search needs
-
-enum-known-change-6 : tie.Need-enum-known-change-6
-enum-known-change-6 c = search needs
-
 returns : tie.Need-returns
 unfolding valuesIn valuesOf
 returns c = sym (ap valuesOf (c .before .change .given .1))
@@ -55,17 +34,5 @@ returns-6 c = sym (ap valuesOf (c .before .change6 .given .1))
 pub values-of-spec : {M : Type 1} → statement M
 values-of-spec =
     tie.close
-    (tie.spec
-    enum-known-change
-    enum-known-change-2
-    enum-known-change-3
-    enum-known-change-4
-    enum-known-change-5
-    key-values-requires
-    enum-known-change-6
-    returns
-    returns-2
-    returns-3
-    returns-4
-    returns-5
-    returns-6)
+    (tie.spec (search needs) (search needs) (search needs) (search needs) (search needs) (search needs) (search needs) returns
+    returns-2 returns-3 returns-4 returns-5 returns-6)
