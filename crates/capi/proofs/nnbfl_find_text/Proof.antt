@@ -13,21 +13,6 @@ use lib.Seq.{sets}
 use Rattle.core.specs.Outcome.{Outcome, flat}
 use Rattle.core.proofs.Outcomes.{flat-first}
 
-find-text-requires : tie.Need-find-text-requires
-find-text-requires c κs = search needs
-
-of-finding-requires : tie.Need-of-finding-requires
-of-finding-requires c κs = search needs
-
-put4-requires : tie.Need-put4-requires
-put4-requires c κs = search needs
-
-same-length : tie.Need-same-length
-same-length c = search needs
-
-same-length-2 : tie.Need-same-length-2
-same-length-2 c = search needs
-
 returns : tie.Need-returns
 returns c =
     let e = c .before .before .before .before .before .before .before .find-text .ensures in (
@@ -36,12 +21,4 @@ returns c =
     )
 
 pub nnbfl-find-text-spec : {M : Type 1} → statement M
-nnbfl-find-text-spec =
-    tie.close
-    (tie.spec
-    find-text-requires
-    of-finding-requires
-    put4-requires
-    same-length
-    same-length-2
-    returns)
+nnbfl-find-text-spec = tie.close (tie.spec (search needs) (search needs) (search needs) (search needs) (search needs) returns)

@@ -13,24 +13,6 @@ use lib.Seq.{sets}
 use Rattle.core.specs.Outcome.{Outcome, flat}
 use Rattle.core.proofs.Outcomes.{flat-first}
 
-read-requires : tie.Need-read-requires
-read-requires c κs = search needs
-
-of-reading-requires : tie.Need-of-reading-requires
-of-reading-requires c κs = search needs
-
-put3-requires : tie.Need-put3-requires
-put3-requires c κs = search needs
-
-same-length : tie.Need-same-length
-same-length c = search needs
-
-same-length-2 : tie.Need-same-length-2
-same-length-2 c = search needs
-
-same-length-3 : tie.Need-same-length-3
-same-length-3 c = search needs
-
 returns : tie.Need-returns
 returns c =
     let e = c .before .before .before .before .before .before .before .before .before .read .ensures in (
@@ -42,11 +24,4 @@ returns c =
 pub nnbfl-read-spec : {M : Type 1} → statement M
 nnbfl-read-spec =
     tie.close
-    (tie.spec
-    read-requires
-    of-reading-requires
-    put3-requires
-    same-length
-    same-length-2
-    same-length-3
-    returns)
+    (tie.spec (search needs) (search needs) (search needs) (search needs) (search needs) (search needs) returns)

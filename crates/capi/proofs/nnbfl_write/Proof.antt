@@ -13,21 +13,6 @@ use lib.Seq.{sets}
 use Rattle.core.specs.Outcome.{Outcome, flat}
 use Rattle.core.proofs.Outcomes.{flat-first}
 
-write-requires : tie.Need-write-requires
-write-requires c κs = search needs
-
-of-writing-requires : tie.Need-of-writing-requires
-of-writing-requires c κs = search needs
-
-put3-requires : tie.Need-put3-requires
-put3-requires c κs = search needs
-
-same-length : tie.Need-same-length
-same-length c = search needs
-
-same-length-2 : tie.Need-same-length-2
-same-length-2 c = search needs
-
 returns : tie.Need-returns
 returns c =
     let e = c .before .before .before .before .before .before .before .write .ensures in (
@@ -36,6 +21,4 @@ returns c =
     )
 
 pub nnbfl-write-spec : {M : Type 1} → statement M
-nnbfl-write-spec =
-    tie.close
-    (tie.spec write-requires of-writing-requires put3-requires same-length same-length-2 returns)
+nnbfl-write-spec = tie.close (tie.spec (search needs) (search needs) (search needs) (search needs) (search needs) returns)

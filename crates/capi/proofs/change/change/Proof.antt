@@ -13,27 +13,6 @@ use Rattle.edit.specs.Editing.{valuesOf, editing}
 use Rattle.edit.specs.Format.{pai1}
 use Rattle.capi.specs.Changed.{changed}
 
-change-of-requires : tie.Need-change-of-requires
-change-of-requires c κs = search needs
-
-edit-requires : tie.Need-edit-requires
-edit-requires c κs = search needs
-
-of-editing-requires : tie.Need-of-editing-requires
-of-editing-requires c κs = search needs
-
-put3-requires : tie.Need-put3-requires
-put3-requires c κs = search needs
-
-same-length : tie.Need-same-length
-same-length c = search needs
-
-same-length-2 : tie.Need-same-length-2
-same-length-2 c = search needs
-
-same-length-3 : tie.Need-same-length-3
-same-length-3 c = search needs
-
 returns : tie.Need-returns
 unfolding changed
 returns c =
@@ -44,12 +23,4 @@ returns c =
 pub change-spec : {M : Type 1} → statement M
 change-spec =
     tie.close
-    (tie.spec
-    change-of-requires
-    edit-requires
-    of-editing-requires
-    put3-requires
-    same-length
-    same-length-2
-    same-length-3
-    returns)
+    (tie.spec (search needs) (search needs) (search needs) (search needs) (search needs) (search needs) (search needs) returns)

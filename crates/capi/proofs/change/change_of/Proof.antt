@@ -11,33 +11,6 @@ use Rattle.edit.specs.Editing.{placeOf, valuesOf}
 use Rattle.capi.specs.inner.NewValues.{newKeyValues, newValues}
 use Rattle.capi.proofs.Keys.{constant-said, step-said, hermite-said, three-said}
 
-enum-told : tie.Need-enum-told
-enum-told c = search needs
-
-enum-told-2 : tie.Need-enum-told-2
-enum-told-2 c = search needs
-
-enum-known-place : tie.Need-enum-known-place
-enum-known-place c = search needs
-
-enum-known-place-2 : tie.Need-enum-known-place-2
-enum-known-place-2 c = search needs
-
-enum-known-place-3 : tie.Need-enum-known-place-3
-enum-known-place-3 c = search needs
-
-from-bits-requires : tie.Need-from-bits-requires
-from-bits-requires c κs = search needs
-
-from-bits-requires-2 : tie.Need-from-bits-requires-2
-from-bits-requires-2 c κs = search needs
-
-hermite-from-bits-requires : tie.Need-hermite-from-bits-requires
-hermite-from-bits-requires c κs = search needs
-
-enum-known-place-4 : tie.Need-enum-known-place-4
-enum-known-place-4 c = search needs
-
 returns : tie.Need-returns
 unfolding placeOf valuesOf newValues
 returns c = (sym (c .enum-told .given .1), sym (ap (λ (p : Place). newValues p (c .before .before .args .n) (c .before .before .args .x) (c .before .before .args .y) (c .before .before .args .z)) (c .enum-told .given .1)))
@@ -73,21 +46,5 @@ returns-8 c = (sym (c .before .place4 .given .1), sym (ap (λ (p : Place). newVa
 pub change-of-spec : {M : Type 1} → statement M
 change-of-spec =
     tie.close
-    (tie.spec
-    enum-told
-    enum-told-2
-    enum-known-place
-    enum-known-place-2
-    enum-known-place-3
-    from-bits-requires
-    from-bits-requires-2
-    hermite-from-bits-requires
-    enum-known-place-4
-    returns
-    returns-2
-    returns-3
-    returns-4
-    returns-5
-    returns-6
-    returns-7
-    returns-8)
+    (tie.spec (search needs) (search needs) (search needs) (search needs) (search needs) (search needs) (search needs)
+    (search needs) (search needs) returns returns-2 returns-3 returns-4 returns-5 returns-6 returns-7 returns-8)
