@@ -10,26 +10,13 @@ use denote.Ref.{now}
 use Rattle.round_trip.specs.Trip.{ofTrip, repliedWith, replied}
 use Rattle.round_trip.specs.declared.Trip.{Trip}
 
-enum-known-t : tie.Need-enum-known-t
-enum-known-t c = search needs
-
-enum-known-t-2 : tie.Need-enum-known-t-2
-enum-known-t-2 c = search needs
-
-refuse-requires : tie.Need-refuse-requires
-refuse-requires c κs = search needs
-
 returns : tie.Need-returns
 unfolding ofTrip replied repliedWith
 returns c = ap (λ (z : Trip). replied (ofTrip z, now (c .before .before .before .before .args .out))) (sym (c .before .t .given .1))
-
-same-length : tie.Need-same-length
-same-length c = search needs
 
 returns-2 : tie.Need-returns-2
 unfolding ofTrip replied repliedWith
 returns-2 c = ap₂ (λ (n : ℕ) (l : List ℕ). (n, l)) (c .before .before .refuse .ensures .0) (c .before .before .refuse .ensures .1) ∙ ap (λ (z : Trip). replied (ofTrip z, now (c .before .before .before .before .before .before .before .before .args .out))) (sym (c .before .before .before .before .before .t2 .given .1))
 
 pub reply-spec : {M : Type 1} → statement M
-reply-spec =
-    tie.close (tie.spec enum-known-t enum-known-t-2 refuse-requires returns same-length returns-2)
+reply-spec = tie.close (tie.spec (search needs) (search needs) (search needs) returns (search needs) returns-2)
