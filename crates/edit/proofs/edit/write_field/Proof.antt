@@ -5,10 +5,7 @@ use Rattle.edit.proofs.edit.write_field.Statement.{statement}
 use Rattle.edit.proofs.edit.write_field.Tie as tie
 use mathlib.Core.Path.{sym, ap, _∙_}
 use native.Mathlib.Omega.{arith}
-use denote.Ref.{now}
-use lib.Seq.{sets}
-use Rattle.bflan.specs.Layout.{written, row}
-use Rattle.bflan.specs.pai1.Places.{widths, fit}
+use Rattle.bflan.specs.pai1.Places.{fit}
 use Rattle.edit.specs.inner.Packing.{valuesIn}
 use Rattle.edit.specs.declared.values.Values.{Values}
 use Rattle.edit.proofs.Changes.{step-put, hermite-put, float-put, patterns-put}
@@ -19,7 +16,7 @@ put-one-requires c κs = (c .before .before .before .before .before .pre .0, ap 
 
 returns : tie.Need-returns
 unfolding valuesIn
-returns c = c .before .before .put-one .ensures ∙ ap (λ (z : Values). sets (now (c .before .before .before .before .before .before .before .before .args .section)) (c .before .before .before .before .before .before .before .before .args .at) (written (row (widths (c .before .before .before .before .before .before .before .before .args .f)) (valuesIn z)))) (sym (c .before .before .before .before .before .v .given .1))
+returns c = rw (c .before .before .before .before .before .v .given .1) (c .before .before .put-one .ensures)
 
 returns-2 : tie.Need-returns-2
 returns-2 c = step-put _ _ _ _ (c .before .before .before .before .before .before .before .before .before .before .before .before .before .pre .1) _ _ (c .before .before .before .before .before .before .before .before .before .before .v2 .given .1) (float-put _ _ (c .before .before .before .before .before .before .before .before .before .before .v2 .given .0 .0) _ (omega arith) (c .before .before .before .before .before .before .before .from-bits .ensures) (c .before .before .before .before .before .before .write-f32 .ensures)) (c .before .before .write-u16 .ensures)

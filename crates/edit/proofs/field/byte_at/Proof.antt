@@ -5,8 +5,5 @@ use Rattle.edit.proofs.field.byte_at.Statement.{statement}
 use Rattle.edit.proofs.field.byte_at.Tie as tie
 use Rattle.edit.proofs.FieldAt.{byte-there}
 
-returns : tie.Need-returns
-returns c = byte-there _ _
-
 pub byte-at-spec : {M : Type 1} → statement M
-byte-at-spec = tie.close (tie.spec (search needs) returns)
+byte-at-spec = tie.close (tie.spec (search needs) (λ c. byte-there _ _))

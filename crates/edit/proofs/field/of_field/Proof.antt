@@ -8,24 +8,23 @@ use mathlib.Core.Path.{ap, sym, _∙_}
 use mathlib.Core.List.{List}
 use Rattle.core.specs.Outcome.{flat, accepted, counted}
 use Rattle.edit.specs.FieldAt.{ofField}
-use Rattle.edit.specs.declared.field.FieldAnswer.{FieldAnswer}
 use Rattle.edit.proofs.FieldAt.{counted-fault}
 
 returns : tie.Need-returns
 unfolding flat counted ofField
-returns c = ap (λ (z : FieldAnswer). flat 5 (counted (ofField z))) (sym (c .before .a .given .1))
+returns c = rw (c .before .a .given .1)
 
 returns-2 : tie.Need-returns-2
 unfolding ofField
-returns-2 c = c .of-fault .ensures ∙ ap (flat 5) (sym (counted-fault _)) ∙ ap (λ (z : FieldAnswer). flat 5 (counted (ofField z))) (sym (c .before .before .a2 .given .1))
+returns-2 c = rw (c .before .before .a2 .given .1) (c .of-fault .ensures ∙ ap (flat 5) (sym (counted-fault _)))
 
 returns-3 : tie.Need-returns-3
 unfolding flat counted ofField
-returns-3 c = ap (λ (z : FieldAnswer). flat 5 (counted (ofField z))) (sym (c .enum-told .given .1))
+returns-3 c = rw (c .enum-told .given .1)
 
 returns-4 : tie.Need-returns-4
 unfolding ofField
-returns-4 c = c .of-values .ensures ∙ ap (λ (vs : List ℕ). flat 5 (counted (accepted vs))) (c .before .field-values .ensures) ∙ ap (λ (z : FieldAnswer). flat 5 (counted (ofField z))) (sym (c .before .before .before .a3 .given .1))
+returns-4 c = rw (c .before .before .before .a3 .given .1) (c .of-values .ensures ∙ ap (λ (vs : List ℕ). flat 5 (counted (accepted vs))) (c .before .field-values .ensures))
 
 pub of-field-spec : {M : Type 1} → statement M
 of-field-spec =

@@ -12,11 +12,11 @@ use Rattle.edit.proofs.Changes.{size-rest}
 
 returns : tie.Need-returns
 unfolding widths total
-returns c = sym (ap (λ (x : Field). total (widths x)) (c .enum-told .given .1))
+returns c = rw (c .enum-told .given .1)
 
 returns-2 : tie.Need-returns-2
 unfolding widths total
-returns-2 c = sym (ap (λ (x : Field). total (widths x)) (c .enum-told2 .given .1))
+returns-2 c = rw (c .enum-told2 .given .1)
 
 returns-3 : tie.Need-returns-3
 unfolding widths total
@@ -24,7 +24,7 @@ returns-3 c = sym (ap (λ (x : Field). total (widths x)) (c .enum-told3 .given .
 
 returns-4 : tie.Need-returns-4
 unfolding widths total
-returns-4 c = sym (ap (λ (x : Field). total (widths x)) (c .before .f .given .1))
+returns-4 c = rw (c .before .f .given .1)
 
 returns-5 : tie.Need-returns-5
 unfolding widths total keyWidths
@@ -36,11 +36,11 @@ returns-6 c = sym (ap (λ (x : Field). total (widths x)) (c .before .before .f2 
 
 returns-7 : tie.Need-returns-7
 unfolding widths
-returns-7 c = size-rest _ (c .match2 .rest .0 .1) (c .match2 .rest .1) ∙ sym (ap (λ (x : Field). total (widths x)) (c .before .before .f2 .given .1))
+returns-7 c = rw (c .before .before .f2 .given .1) (size-rest _ (c .match2 .rest .0 .1) (c .match2 .rest .1))
 
 returns-8 : tie.Need-returns-8
 unfolding widths total
-returns-8 c = sym (ap (λ (x : Field). total (widths x)) (c .enum-told4 .given .1))
+returns-8 c = rw (c .enum-told4 .given .1)
 
 pub size-of-spec : {M : Type 1} → statement M
 size-of-spec =
