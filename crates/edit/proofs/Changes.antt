@@ -37,10 +37,9 @@ use Rattle.bflan.specs.declared.place.Located.the-variants.{TooLong, Refused, N
 use Rattle.bflan.specs.declared.place.Place.{Place}
 use Rattle.edit.specs.declared.edit.EditAnswer.the-variants.{Edited, TooLong as EditTooLong, Refused as EditRefused, NoSuchPlace as NoPlace, Unfit, JournalFull}
 use Rattle.edit.specs.declared.journal.Packed.{Packed}
-use Rattle.edit.specs.declared.key.NewKey.the-variants.{Step}
 use Rattle.edit.specs.declared.values.Values.{Values}
 use Rattle.edit.specs.declared.values.Values.the-variants.{One, Two, Three}
-use Rattle.edit.specs.Editing.{ofEditing, keyWords, oldAt, atSpot, onReading, editing}
+use Rattle.edit.specs.Editing.{ofEditing, oldAt, atSpot, onReading, editing}
 use Rattle.edit.specs.Format.{pai1}
 use Rattle.edit.specs.Journal.{entryWords, capacity, padded, entryOf, fieldSize}
 use Rattle.edit.specs.inner.Packing.{packed, entryList, readValue, valuesIn, oneMost}
@@ -156,10 +155,6 @@ hermite-two a b = sym (ap (λ (t : Bool). ltb a 4294967296 && t) (and-false (ltb
 pub hermite-three : (a b c : ℕ) → a < 4294967296 → b < 4294967296 → c < 4294967296 → true ≡ fitWidths (4 ∷ 4 ∷ 4 ∷ []) (valuesIn (Three a b c))
 unfolding fitWidths valuesIn
 hermite-three a b c ha hb hc = rw (lt-ltb a 4294967296 ha, lt-ltb b 4294967296 hb, lt-ltb c 4294967296 hc)
-
-pub step-words : (frame : Binary32) (value a : ℕ) → a ≡ patternOf frame → valuesIn (Two a value) ≡ keyWords (Step frame value)
-unfolding valuesIn keyWords
-step-words frame value a e = ap (λ (b : ℕ). b ∷ value ∷ []) e
 
 -- the size of a key
 pub size-rest : (c : ℕ) → (c ≡ 0 → ⊥) → (c ≡ 1 → ⊥) → 12 ≡ total (keyWidths c)
