@@ -5,9 +5,9 @@ use Rattle.capi.proofs.nnbfl_edit_constant_key.Statement.{statement}
 use Rattle.capi.proofs.nnbfl_edit_constant_key.Tie as tie
 use Rattle.capi.specs.inner.NewValues.{newKeyValues, newValues}
 
-returns : tie.Need-returns
-unfolding newKeyValues newValues
-returns c = c .before .before .before .before .before .before .change .ensures
-
 pub nnbfl-edit-constant-key-spec : {M : Type 1} → statement M
-nnbfl-edit-constant-key-spec = tie.close (tie.spec (search needs) (search needs) (search needs) (search needs) returns)
+unfolding newKeyValues newValues
+nnbfl-edit-constant-key-spec =
+    tie.close
+    (tie.spec (search needs) (search needs) (search needs) (search needs)
+    (λ c. c .before .before .before .before .before .before .change .ensures))

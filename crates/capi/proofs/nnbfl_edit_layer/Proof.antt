@@ -5,9 +5,9 @@ use Rattle.capi.proofs.nnbfl_edit_layer.Statement.{statement}
 use Rattle.capi.proofs.nnbfl_edit_layer.Tie as tie
 use Rattle.capi.specs.inner.NewValues.{newValues}
 
-returns : tie.Need-returns
-unfolding newValues
-returns c = c .before .before .before .before .before .before .change .ensures
-
 pub nnbfl-edit-layer-spec : {M : Type 1} → statement M
-nnbfl-edit-layer-spec = tie.close (tie.spec (search needs) (search needs) (search needs) (search needs) returns)
+unfolding newValues
+nnbfl-edit-layer-spec =
+    tie.close
+    (tie.spec (search needs) (search needs) (search needs) (search needs)
+    (λ c. c .before .before .before .before .before .before .change .ensures))

@@ -5,9 +5,9 @@ use Rattle.capi.proofs.nnbfl_edit_target.Statement.{statement}
 use Rattle.capi.proofs.nnbfl_edit_target.Tie as tie
 use Rattle.capi.specs.inner.NewValues.{newValues}
 
-returns : tie.Need-returns
-unfolding newValues
-returns c = c .before .before .before .before .before .before .change .ensures
-
 pub nnbfl-edit-target-spec : {M : Type 1} → statement M
-nnbfl-edit-target-spec = tie.close (tie.spec (search needs) (search needs) (search needs) (search needs) returns)
+unfolding newValues
+nnbfl-edit-target-spec =
+    tie.close
+    (tie.spec (search needs) (search needs) (search needs) (search needs)
+    (λ c. c .before .before .before .before .before .before .change .ensures))
