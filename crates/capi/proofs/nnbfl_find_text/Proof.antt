@@ -11,7 +11,7 @@ use Rattle.core.proofs.Outcomes.{flat-first}
 returns : tie.Need-returns
 returns c =
     rw (sym (c .before .before .before .before .before .before .before .find-text .ensures))
-    (refl, rw (c .before .before .put4 .ensures, sym (ap (take 4) (c .before .before .before .of-finding .ensures) ∙ flat-first 4 _ (omega arith))))
+    (refl, rw (c .before .before .put4 .ensures, flat-first 4 _ (omega arith) (c .before .before .before .of-finding .ensures)))
 
 pub nnbfl-find-text-spec : {M : Type 1} → statement M
 nnbfl-find-text-spec = tie.close (tie.spec (search needs) (search needs) (search needs) (search needs) (search needs) returns)

@@ -11,7 +11,7 @@ use Rattle.core.proofs.Outcomes.{flat-first}
 returns : tie.Need-returns
 returns c =
     rw (sym (c .before .before .before .before .before .before .before .write .ensures))
-    (refl, rw (c .before .before .put3 .ensures, sym (ap (take 3) (c .before .before .before .of-writing .ensures) ∙ flat-first 3 _ (omega arith))))
+    (refl, rw (c .before .before .put3 .ensures, flat-first 3 _ (omega arith) (c .before .before .before .of-writing .ensures)))
 
 pub nnbfl-write-spec : {M : Type 1} → statement M
 nnbfl-write-spec = tie.close (tie.spec (search needs) (search needs) (search needs) (search needs) (search needs) returns)

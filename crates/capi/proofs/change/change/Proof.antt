@@ -13,7 +13,7 @@ returns : tie.Need-returns
 unfolding changed
 returns c =
     let m = c .before .before .before .before .before .before .before .before .before .before .before .before .change-of .ensures in
-    rw (sym (m .1), sym (m .0), sym (c .before .before .before .before .before .before .before .before .before .edit .ensures), c .before .before .put3 .ensures, sym (ap (take 3) (c .before .before .before .of-editing .ensures) ∙ flat-first 3 _ (omega arith)))
+    rw (sym (m .1), sym (m .0), sym (c .before .before .before .before .before .before .before .before .before .edit .ensures), c .before .before .put3 .ensures, flat-first 3 _ (omega arith) (c .before .before .before .of-editing .ensures))
 
 pub change-spec : {M : Type 1} → statement M
 change-spec =
