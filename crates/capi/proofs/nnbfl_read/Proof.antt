@@ -3,9 +3,8 @@
 use borrow.Author.Needs.{needs}
 use Rattle.capi.proofs.nnbfl_read.Statement.{statement}
 use Rattle.capi.proofs.nnbfl_read.Tie as tie
-use mathlib.Core.Path.{refl, sym, ap, _∙_}
+use mathlib.Core.Path.{refl, sym}
 use native.Mathlib.Omega.{arith}
-use lib.ListN.{take}
 use Rattle.core.proofs.Outcomes.{flat-first}
 
 returns : tie.Need-returns

@@ -3,9 +3,8 @@
 use borrow.Author.Needs.{needs}
 use Rattle.capi.proofs.change.change.Statement.{statement}
 use Rattle.capi.proofs.change.change.Tie as tie
-use mathlib.Core.Path.{ap, sym, _∙_}
+use mathlib.Core.Path.{sym}
 use native.Mathlib.Omega.{arith}
-use lib.ListN.{take}
 use Rattle.core.proofs.Outcomes.{flat-first}
 use Rattle.capi.specs.Changed.{changed}
 
