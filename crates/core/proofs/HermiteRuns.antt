@@ -2,11 +2,11 @@
 -- a Hermite key is read from bytes with its bits unchanged).
 -- Assumes nothing.
 use Prim.Native.Nat.{ℕ, zero, suc, _+_, _*_, _≤_}
-use mathlib.Core.Path.{_≡_, refl, ap, sym, _∙_}
+use mathlib.Core.Path.{_≡_, refl, ap, _∙_}
 use mathlib.Core.List.{List, [], _∷_, _++_}
 use native.Mathlib.Omega.{arith}
 use lib.ListN.{length}
-use Rattle.core.specs.Float.{hermiteOf, patternsOf, patternsAt, readHermiteOf}
+use Rattle.core.specs.Float.{patternsOf, patternsAt, readHermiteOf}
 use Rattle.core.specs.Number.{get}
 use Rattle.core.specs.Run.{numbersAt}
 use Rattle.core.specs.declared.float.HermiteBits.{HermiteBits}

@@ -1,14 +1,14 @@
 -- What the calls answer, in document 01's numbers and values (the refusals' table: 3 with the offset and the bytes requested, 4 with the
 -- text's start). Assumes nothing.
 use Prim.Native.Nat.{ℕ, zero, suc, min, _+_, _-_, _*_, _/_, _≤_}
-use mathlib.Core.Path.{_≡_, refl, ap, _∙_}
+use mathlib.Core.Path.{_≡_, refl, sym, ap}
 use mathlib.Core.Bool.{Bool, true, false}
 use mathlib.Core.List.{List, [], _∷_, _++_}
 use native.Mathlib.Omega.{arith}
 use lib.Dec.{leb, ltb}
 use lib.ListN.{length, take, drop, replicate}
 use Rattle.core.specs.Choice.{pick}
-use Rattle.core.specs.Float.{floatOf, patternOf, hermiteOf, patternsOf, patternsAt, readFloatOf, readHermiteOf}
+use Rattle.core.specs.Float.{patternsAt, readFloatOf, readHermiteOf}
 use Rattle.core.specs.Number.{get, readOf}
 use Rattle.core.specs.Outcome.{Outcome, flat, accepted, ofRead, ofSought, ofText, ofRun, ofFloat, ofHermite}
 use Rattle.core.specs.Run.{numbersOf}
@@ -27,9 +27,9 @@ first-of (suc n) (suc m) zero q [] hm hp hq = absurd (omega arith)
 first-of (suc n) (suc m) (suc p) zero [] hm hp hq = absurd (omega arith)
 first-of (suc n) (suc m) (suc p) (suc q) [] hm hp hq = ap (λ (l : List ℕ). 0 ∷ l) (first-of n m p q [] (omega arith) (omega arith) (omega arith))
 
-pub flat-first : (n : ℕ) (o : Outcome) → n ≤ 5 → take n (flat 5 o) ≡ flat n o
+pub flat-first : (n : ℕ) (o : Outcome) {l : List ℕ} → n ≤ 5 → l ≡ flat 5 o → flat n o ≡ take n l
 unfolding flat
-flat-first n o h = first-of n 5 5 n (o .number ∷ o .values) h h (omega arith)
+flat-first n o h e = rw e (sym (first-of n 5 5 n (o .number ∷ o .values) h h (omega arith)))
 
 -- ---- the answers
 

@@ -2,7 +2,7 @@
 -- Assumes nothing.
 use Prim.Native.Nat.{ℕ, zero, suc, _+_, _-_, _*_, _/_, _%_, _^_, _<_, _≤_, min}
 use mathlib.Core.Path.{_≡_, refl, sym, ap, _∙_}
-use mathlib.Core.Bool.{Bool, true, false, _&&_}
+use mathlib.Core.Bool.{Bool, true, false, _&&_, and-true, and-false}
 use mathlib.Core.List.{List, [], _∷_, _++_, append-nil}
 use native.Mathlib.Nat.{add-zero}
 use native.Mathlib.Omega.{arith}
@@ -29,18 +29,16 @@ use Rattle.bflan.specs.Reader.{Res, ok, stop, Item}
 use Rattle.bflan.specs.pai1.Reading.{section}
 use Rattle.bflan.specs.pai1.Record.{keyWidths}
 use Rattle.bflan.proofs.place.Fields.{unlike, and-left}
-use Rattle.bflan.specs.declared.fault.Fault.{Fault}
 use Rattle.bflan.specs.declared.place.Field.{Field}
 use Rattle.bflan.specs.declared.place.Field.the-variants.{FrameCount, Looping, Layer, Target, Key, Value}
 use Rattle.bflan.specs.declared.place.Located.{Located}
 use Rattle.bflan.specs.declared.place.Located.the-variants.{TooLong, Refused, NoSuchPlace, At}
 use Rattle.bflan.specs.declared.place.Place.{Place}
-use Rattle.edit.specs.declared.edit.EditAnswer.the-variants.{Edited, TooLong as EditTooLong, Refused as EditRefused, NoSuchPlace as NoPlace, Unfit, JournalFull}
+use Rattle.edit.specs.declared.edit.EditAnswer.the-variants.{Edited, Unfit, JournalFull}
 use Rattle.edit.specs.declared.journal.Packed.{Packed}
-use Rattle.edit.specs.declared.key.NewKey.the-variants.{Step}
 use Rattle.edit.specs.declared.values.Values.{Values}
 use Rattle.edit.specs.declared.values.Values.the-variants.{One, Two, Three}
-use Rattle.edit.specs.Editing.{ofEditing, keyWords, oldAt, atSpot, onReading, editing}
+use Rattle.edit.specs.Editing.{ofEditing, oldAt, atSpot, onReading, editing}
 use Rattle.edit.specs.Format.{pai1}
 use Rattle.edit.specs.Journal.{entryWords, capacity, padded, entryOf, fieldSize}
 use Rattle.edit.specs.inner.Packing.{packed, entryList, readValue, valuesIn, oneMost}
@@ -48,14 +46,6 @@ use Rattle.edit.proofs.Calls.{size-some, le-one, le-two, put-at, behind
 use Rattle.edit.proofs.Entries.{field-size}
 
 -- ---- which values a field takes
-
-and-true : (t : Bool) → t && true ≡ t
-and-true true = refl
-and-true false = refl
-
-and-false : (t : Bool) → t && false ≡ false
-and-false true = refl
-and-false false = refl
 
 most-below : (a m n : ℕ) → n ≡ m + 1 → leb a m ≡ ltb a n
 most-below a m n e = go (leb a m) refl
@@ -156,10 +146,6 @@ hermite-two a b = sym (ap (λ (t : Bool). ltb a 4294967296 && t) (and-false (ltb
 pub hermite-three : (a b c : ℕ) → a < 4294967296 → b < 4294967296 → c < 4294967296 → true ≡ fitWidths (4 ∷ 4 ∷ 4 ∷ []) (valuesIn (Three a b c))
 unfolding fitWidths valuesIn
 hermite-three a b c ha hb hc = rw (lt-ltb a 4294967296 ha, lt-ltb b 4294967296 hb, lt-ltb c 4294967296 hc)
-
-pub step-words : (frame : Binary32) (value a : ℕ) → a ≡ patternOf frame → valuesIn (Two a value) ≡ keyWords (Step frame value)
-unfolding valuesIn keyWords
-step-words frame value a e = ap (λ (b : ℕ). b ∷ value ∷ []) e
 
 -- the size of a key
 pub size-rest : (c : ℕ) → (c ≡ 0 → ⊥) → (c ≡ 1 → ⊥) → 12 ≡ total (keyWidths c)
@@ -380,7 +366,7 @@ module _ (s j : List ℕ) (count at : ℕ) (f : Field) (vs : List ℕ) (t : Bool
 
 module _ (s j : List ℕ) (count : ℕ) (p : Place) (vs : List ℕ) where
   -- where locating refuses, so does the edit
-  abbrev byLocated : Located → Outcome × List ℕ × List ℕ
+  abbrev pub byLocated : Located → Outcome × List ℕ × List ℕ
   byLocated (TooLong size) = (ofLocated (TooLong size), s, j)
   byLocated (Refused f) = (ofLocated (Refused f), s, j)
   byLocated NoSuchPlace = (ofLocated NoSuchPlace, s, j)
@@ -399,21 +385,5 @@ module _ (s j : List ℕ) (count : ℕ) (p : Place) (vs : List ℕ) where
       go true (stop f) = refl
       go false r = refl
 
-  module _ (l : Located) (el : l ≡ locating s p) where
-    by : (x : Located) → l ≡ x → byLocated x ≡ editing pai1 s j count p vs
-    by x e = sym (editing-by ∙ ap byLocated (sym el ∙ e))
-
-    pub edit-long : (size : ℕ) → l ≡ TooLong size → (ofEditing (EditTooLong size), s, j) ≡ editing pai1 s j count p vs
-    unfolding ofEditing ofLocated
-    edit-long size e = by (TooLong size) e
-
-    pub edit-refused : (f : Fault) → l ≡ Refused f → (ofEditing (EditRefused f), s, j) ≡ editing pai1 s j count p vs
-    unfolding ofEditing ofLocated
-    edit-refused f e = by (Refused f) e
-
-    pub edit-nowhere : l ≡ NoSuchPlace → (ofEditing NoPlace, s, j) ≡ editing pai1 s j count p vs
-    unfolding ofEditing ofLocated
-    edit-nowhere e = by NoSuchPlace e
-
-    pub edit-there : (at : ℕ) (f : Field) → l ≡ At at f → (r : Outcome × List ℕ × List ℕ) → r ≡ atSpot s j count vs (spot at f) → r ≡ editing pai1 s j count p vs
-    edit-there at f e r d = d ∙ by (At at f) e
+  pub edit-by : {x : Located} → x ≡ locating s p → byLocated x ≡ editing pai1 s j count p vs
+  edit-by e = ap byLocated e ∙ sym editing-by

@@ -2,8 +2,7 @@
 -- Assumes nothing.
 use Prim.Native.Nat.{ℕ, zero, suc, _+_, _<_, _≤_}
 use mathlib.Core.Path.{_≡_, refl, ap, sym, _∙_}
-use mathlib.Core.Bool.{Bool, true, false}
-use mathlib.Core.List.{List, [], _∷_}
+use mathlib.Core.List.{List}
 use native.Mathlib.Omega.{arith}
 use borrow.Author.Tests.{le-leb, lt-ltb, le-ltb}
 use lib.Dec.{ltb}
@@ -117,9 +116,9 @@ number-above l raw {n} e h = let p : pick (ltb raw n) raw 0 ≡ 0 = rw (le-ltb r
 
 -- ---- the answer, by where the field is
 
-pub field-by : (s : List ℕ) (p : Place) {l x : Located} → l ≡ locating s p → l ≡ x → atLocated s x ≡ fieldAt s p
+pub field-by : (s : List ℕ) (p : Place) {x : Located} → x ≡ locating s p → atLocated s x ≡ fieldAt s p
 unfolding fieldAt
-field-by s p el e = ap (atLocated s) (sym e ∙ el)
+field-by s p e = ap (atLocated s) e
 
 -- ---- the law: of every section that reads, and the record that it reads as, the answer is the record's own field with its values there
 

@@ -31,12 +31,12 @@ use Rattle.bflan.specs.pai1.Record.{PaneAnimInfo, words, texts}
 use Rattle.bflan.specs.Items.{wordsOf, textsOf}
 use Rattle.bflan.specs.Writing.{intoOutput, judged, writingBy}
 use Rattle.bflan.proofs.Layouts.{size-written}
+use Rattle.bflan.proofs.read.Answers.{Filled, accepted-filled}
 use Rattle.bflan.proofs.round_trip.RoundTrip.{read-written}
 use Rattle.bflan.proofs.round_trip.Pai1.{judges, texts-size}
 use Rattle.bflan.proofs.round_trip.Verdicts.{written-there, accepted-within}
 use Rattle.round_trip.specs.Trip.{said, most, writtenAgain, afterReading, trip, refusal, repliedWith, replied, printed}
 use Rattle.round_trip.proofs.Decimals.{decimal-one}
-use Rattle.round_trip.proofs.Trips.{Filled, accepted-fills}
 
 -- ---- a section that was written from a record within the limits
 
@@ -217,20 +217,22 @@ short-first s w x out true z = refl
 short-first s w x out false z = absurd (omega arith)
 
 -- what was filled is what is written
-after-filled : (s w x out : List ℕ) (f : Filled s w x) → afterReading (reading s w x) out ≡ writtenAgain (f .words) (f .texts) out
+after-filled : (s w x out : List ℕ) (f : Filled section s w x) → afterReading (reading s w x) out ≡ writtenAgain (wordsOf s (f .items)) (textsOf s (f .items)) out
 unfolding afterReading
 after-filled s w x out f =
-    rw (f .answer, sets-read w 0 (f .words) (omega (arith, f .words-fit)), sets-read x 0 (f .texts) (omega (arith, f .texts-fit)))
+    rw (f .answer, sets-read w 0 (wordsOf s (f .items)) (omega (arith, f .roomWords)), sets-read x 0 (textsOf s (f .items)) (omega (arith, f .roomTexts)))
 
 pub trip-accepted : (s w x out : List ℕ) → trip s w x out .0 .number ≡ 0 → Again s w x out
 unfolding said writtenAgain trip repliedWith replied printed
 trip-accepted s w x out z =
     let b : leb (length s) most ≡ true = short-first s w x out (leb (length s) most) z in
     let e : trip s w x out ≡ afterReading (reading s w x) out = rw b in
-    let f : Filled s w x = accepted-fills s w x (read-first (reading s w x) out (sym (ap (λ (r : Outcome × List ℕ). r .0 .number) e) ∙ z)) in
-    let g : trip s w x out ≡ writtenAgain (f .words) (f .texts) out = e ∙ after-filled s w x out f in
-    let y : writing (f .words) (f .texts) out .0 .number ≡ 0 = sym (again-number (f .words) (f .texts) out) ∙ sym (ap (λ (r : Outcome × List ℕ). r .0 .number) g) ∙ z in
-    let a = accepted-within judges sectionLay (f .words) (f .texts) out y in
+    let f = accepted-filled section s w x (read-first (reading s w x) out (sym (ap (λ (r : Outcome × List ℕ). r .0 .number) e) ∙ z)) in
+    let ws = wordsOf s (f .items) in
+    let xs = textsOf s (f .items) in
+    let g : trip s w x out ≡ writtenAgain ws xs out = e ∙ after-filled s w x out f in
+    let y : writing ws xs out .0 .number ≡ 0 = sym (again-number ws xs out) ∙ sym (ap (λ (r : Outcome × List ℕ). r .0 .number) g) ∙ z in
+    let a = accepted-within judges sectionLay ws xs out y in
     let n : length (written (sectionLay (a .tree))) ≡ size (sectionLay (a .tree)) = size-written (sectionLay (a .tree)) in
     let fits : length (written (sectionLay (a .tree))) ≤ length out = omega (arith, n, a .room) in
     let h : trip s w x out ≡ (accepted (size (sectionLay (a .tree)) ∷ []), sets out 0 (written (sectionLay (a .tree)))) =

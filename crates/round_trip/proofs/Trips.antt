@@ -2,18 +2,15 @@
 -- Assumes nothing.
 use Prim.Native.Nat.{ℕ, _-_, _<_, _≤_}
 use mathlib.Core.Path.{_≡_, refl, ap, sym, _∙_}
-use mathlib.Core.Bool.{Bool, true, false, _&&_}
 use mathlib.Core.List.{List, [], _∷_}
 use native.Mathlib.Nat.{sub-zero}
 use native.Mathlib.Omega.{arith}
-use borrow.Author.Tests.{leb-true, le-leb, lt-leb}
+use borrow.Author.Tests.{le-leb, lt-leb}
 use denote.Enum.Declared.{tagOf}
-use lib.Dec.{leb}
 use lib.ListN.{length, take, drop, getD}
-use lib.Seq.{sets, length-sets}
+use lib.Seq.{length-sets}
 use types.Run.{OneOf, miss}
-use Rattle.core.specs.Choice.{pick}
-use Rattle.core.specs.Outcome.{Outcome, flat, inOrder, accepted}
+use Rattle.core.specs.Outcome.{Outcome, flat, inOrder}
 use Rattle.core.specs.declared.outcome.Numbers.{Numbers}
 use Rattle.bflan.specs.declared.fault.Fault.{Fault}
 use Rattle.bflan.specs.declared.fault.Fault.the-variants.{PastEnd, NoZero, OtherLetters}
@@ -21,13 +18,12 @@ use Rattle.bflan.specs.declared.read.ReadAnswer.{ReadAnswer}
 use Rattle.bflan.specs.declared.read.ReadAnswer.the-variants.{Accepted, Refused as ReadRefused, TooLong, TooShort}
 use Rattle.bflan.specs.declared.write.WriteAnswer.{WriteAnswer}
 use Rattle.bflan.specs.declared.write.WriteAnswer.the-variants.{Written, BadWord, BadText, OverLimit, OutputTooShort}
-use Rattle.bflan.specs.Answer.{tooLong, tooShort, ofFault, ofReading, filled, readingBy}
-use Rattle.bflan.specs.Limits.{limit}
-use Rattle.bflan.specs.Reader.{Res, ok, stop, Item}
+use Rattle.bflan.specs.Answer.{ofFault, ofReading}
 use Rattle.bflan.specs.pai1.Calls.{reading, writing}
 use Rattle.bflan.specs.pai1.Reading.{section}
 use Rattle.bflan.specs.Items.{wordsOf, textsOf}
 use Rattle.bflan.specs.Writing.{ofWriting}
+use Rattle.bflan.proofs.read.Answers.{accepted-filled}
 use Rattle.bflan.proofs.read.ReadAnswer.{the-type as readType}
 use Rattle.bflan.proofs.write.WriteAnswer.{the-type as writeType}
 use Rattle.round_trip.specs.Trip.{ofTrip, said, most, writtenAgain, afterReading, trip}
@@ -97,53 +93,15 @@ module _ (s w x out : List ℕ) where
     unfolding ofReading afterReading
     trip-read n m o e h = h ∙ rw (sub-zero n, sub-zero m) (by-reading (Accepted n m) e)
 
--- ---- a reading that is accepted: what it filled, which the tables hold
-
-pub record Filled (s w x : List ℕ) : Type 0 where
-  pub words : List ℕ
-  pub texts : List ℕ
-  pub words-fit : length words ≤ length w
-  pub texts-fit : length texts ≤ length x
-  pub answer : reading s w x ≡ (accepted (length words ∷ length texts ∷ []), sets w 0 words, sets x 0 texts)
-
-abbrev number : Outcome × List ℕ × List ℕ → ℕ
-number r = r .0 .number
-
-module _ (s w x : List ℕ) (z : number (reading s w x) ≡ 0) where
-  filled-fault : (f : Fault) → reading s w x ≡ (ofFault f, w, x) → Filled s w x
-  unfolding ofFault
-  filled-fault (PastEnd offset requested) e = absurd (omega (arith, ap number e, z))
-  filled-fault (NoZero start) e = absurd (omega (arith, ap number e, z))
-  filled-fault (OtherLetters letters) e = absurd (omega (arith, ap number e, z))
-
-  filled-both : (ws xs : List ℕ) (a b : Bool) → leb (length ws) (length w) ≡ a → leb (length xs) (length x) ≡ b
-      → reading s w x ≡ pick (a && b) (accepted (length ws ∷ length xs ∷ []), sets w 0 ws, sets x 0 xs) (tooShort (length ws) (length xs), w, x)
-      → Filled s w x
-  filled-both ws xs true true ha hb e = record { words = ws; texts = xs; words-fit = leb-true _ _ ha; texts-fit = leb-true _ _ hb; answer = e }
-  filled-both ws xs true false ha hb e = absurd (omega (arith, ap number e, z))
-  filled-both ws xs false b ha hb e = absurd (omega (arith, ap number e, z))
-
-  filled-items : (v : Res (List Item)) → reading s w x ≡ filled s w x v → Filled s w x
-  unfolding filled
-  filled-items (stop f) e = filled-fault f e
-  filled-items (ok is end) e =
-      filled-both (wordsOf s is) (textsOf s is) (leb (length (wordsOf s is)) (length w)) (leb (length (textsOf s is)) (length x)) refl refl e
-
-  by-length : (b : Bool) → reading s w x ≡ pick b (filled s w x (section s 0)) (tooLong (length s), w, x) → Filled s w x
-  by-length true e = filled-items (section s 0) e
-  by-length false e = absurd (omega (arith, ap number e, z))
-
-  pub accepted-fills : Filled s w x
-  unfolding readingBy
-  accepted-fills = by-length (leb (length s) limit) refl
+-- ---- a reading that is accepted: the tables hold what it filled
 
 pub held : (s w x w′ x′ : List ℕ) (n m : ℕ) → (ofReading (Accepted n m), w′, x′) ≡ reading s w x → (n ≤ length w′) × (m ≤ length x′)
 unfolding ofReading
 held s w x w′ x′ n m e =
-    let f = accepted-fills s w x (sym (ap number e)) in
+    let f = accepted-filled section s w x (sym (ap (λ (r : Outcome × List ℕ × List ℕ). r .0 .number) e)) in
     let g = e ∙ f .answer in
-    let en : n ≡ length (f .words) = ap (λ (r : Outcome × List ℕ × List ℕ). getD (r .0 .values) 0 0) g in
-    let em : m ≡ length (f .texts) = ap (λ (r : Outcome × List ℕ × List ℕ). getD (r .0 .values) 1 0) g in
-    let lw : length w′ ≡ length w = ap (λ (r : Outcome × List ℕ × List ℕ). length (r .1)) g ∙ length-sets w 0 (f .words) in
-    let lx : length x′ ≡ length x = ap (λ (r : Outcome × List ℕ × List ℕ). length (r .2)) g ∙ length-sets x 0 (f .texts) in
-    (omega (arith, en, lw, f .words-fit), omega (arith, em, lx, f .texts-fit))
+    let en : n ≡ length (wordsOf s (f .items)) = ap (λ (r : Outcome × List ℕ × List ℕ). getD (r .0 .values) 0 0) g in
+    let em : m ≡ length (textsOf s (f .items)) = ap (λ (r : Outcome × List ℕ × List ℕ). getD (r .0 .values) 1 0) g in
+    let lw : length w′ ≡ length w = ap (λ (r : Outcome × List ℕ × List ℕ). length (r .1)) g ∙ length-sets w 0 (wordsOf s (f .items)) in
+    let lx : length x′ ≡ length x = ap (λ (r : Outcome × List ℕ × List ℕ). length (r .2)) g ∙ length-sets x 0 (textsOf s (f .items)) in
+    (omega (arith, en, lw, f .roomWords), omega (arith, em, lx, f .roomTexts))

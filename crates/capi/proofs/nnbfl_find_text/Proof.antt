@@ -3,45 +3,14 @@
 use borrow.Author.Needs.{needs}
 use Rattle.capi.proofs.nnbfl_find_text.Statement.{statement}
 use Rattle.capi.proofs.nnbfl_find_text.Tie as tie
-use Prim.Native.Nat.{ℕ}
-use mathlib.Core.Path.{ap, _∙_}
-use mathlib.Core.List.{List}
-use denote.Ref.{now}
+use mathlib.Core.Path.{refl, sym}
 use native.Mathlib.Omega.{arith}
-use lib.ListN.{take}
-use lib.Seq.{sets}
-use Rattle.core.specs.Outcome.{Outcome, flat}
 use Rattle.core.proofs.Outcomes.{flat-first}
-
-find-text-requires : tie.Need-find-text-requires
-find-text-requires c κs = search needs
-
-of-finding-requires : tie.Need-of-finding-requires
-of-finding-requires c κs = search needs
-
-put4-requires : tie.Need-put4-requires
-put4-requires c κs = search needs
-
-same-length : tie.Need-same-length
-same-length c = search needs
-
-same-length-2 : tie.Need-same-length-2
-same-length-2 c = search needs
 
 returns : tie.Need-returns
 returns c =
-    let e = c .before .before .before .before .before .before .before .find-text .ensures in (
-      ap (λ (z : Outcome × List ℕ). z .1) e,
-      c .before .before .put4 .ensures ∙ ap (sets (now (c .before .before .before .before .before .before .before .before .before .before .before .before .args .answer)) 0) (ap (take 4) (c .before .before .before .of-finding .ensures) ∙ flat-first 4 _ (omega arith) ∙ ap (λ (z : Outcome × List ℕ). flat 4 (z .0)) e),
-    )
+    rw (sym (c .before .before .before .before .before .before .before .find-text .ensures))
+    (refl, rw (c .before .before .put4 .ensures, flat-first 4 _ (omega arith) (c .before .before .before .of-finding .ensures)))
 
 pub nnbfl-find-text-spec : {M : Type 1} → statement M
-nnbfl-find-text-spec =
-    tie.close
-    (tie.spec
-    find-text-requires
-    of-finding-requires
-    put4-requires
-    same-length
-    same-length-2
-    returns)
+nnbfl-find-text-spec = tie.close (tie.spec (search needs) (search needs) (search needs) (search needs) (search needs) returns)

@@ -3,50 +3,16 @@
 use borrow.Author.Needs.{needs}
 use Rattle.capi.proofs.nnbfl_read.Statement.{statement}
 use Rattle.capi.proofs.nnbfl_read.Tie as tie
-use Prim.Native.Nat.{ℕ}
-use mathlib.Core.Path.{ap, _∙_}
-use mathlib.Core.List.{List}
-use denote.Ref.{now}
+use mathlib.Core.Path.{refl, sym}
 use native.Mathlib.Omega.{arith}
-use lib.ListN.{take}
-use lib.Seq.{sets}
-use Rattle.core.specs.Outcome.{Outcome, flat}
 use Rattle.core.proofs.Outcomes.{flat-first}
-
-read-requires : tie.Need-read-requires
-read-requires c κs = search needs
-
-of-reading-requires : tie.Need-of-reading-requires
-of-reading-requires c κs = search needs
-
-put3-requires : tie.Need-put3-requires
-put3-requires c κs = search needs
-
-same-length : tie.Need-same-length
-same-length c = search needs
-
-same-length-2 : tie.Need-same-length-2
-same-length-2 c = search needs
-
-same-length-3 : tie.Need-same-length-3
-same-length-3 c = search needs
 
 returns : tie.Need-returns
 returns c =
-    let e = c .before .before .before .before .before .before .before .before .before .read .ensures in (
-      ap (λ (z : Outcome × List ℕ × List ℕ). z .1) e,
-      ap (λ (z : Outcome × List ℕ × List ℕ). z .2) e,
-      c .before .before .put3 .ensures ∙ ap (sets (now (c .before .before .before .before .before .before .before .before .before .before .before .before .before .before .before .before .args .answer)) 0) (ap (take 3) (c .before .before .before .of-reading .ensures) ∙ flat-first 3 _ (omega arith) ∙ ap (λ (z : Outcome × List ℕ × List ℕ). flat 3 (z .0)) e),
-    )
+    rw (sym (c .before .before .before .before .before .before .before .before .before .read .ensures))
+    (refl, refl, rw (c .before .before .put3 .ensures, flat-first 3 _ (omega arith) (c .before .before .before .of-reading .ensures)))
 
 pub nnbfl-read-spec : {M : Type 1} → statement M
 nnbfl-read-spec =
     tie.close
-    (tie.spec
-    read-requires
-    of-reading-requires
-    put3-requires
-    same-length
-    same-length-2
-    same-length-3
-    returns)
+    (tie.spec (search needs) (search needs) (search needs) (search needs) (search needs) (search needs) returns)

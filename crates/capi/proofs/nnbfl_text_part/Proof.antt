@@ -8,15 +8,6 @@ use denote.Ref.{now}
 use lib.ListN.{length}
 use lib.Seq.{sets}
 
-text-part-requires : tie.Need-text-part-requires
-text-part-requires c κs = search needs
-
-copy-requires : tie.Need-copy-requires
-copy-requires c κs = search needs
-
-same-length : tie.Need-same-length
-same-length c = search needs
-
 returns : tie.Need-returns
 returns c =
     let e = c .before .before .before .before .text-part .ensures .0 in (
@@ -25,4 +16,4 @@ returns c =
     )
 
 pub nnbfl-text-part-spec : {M : Type 1} → statement M
-nnbfl-text-part-spec = tie.close (tie.spec text-part-requires copy-requires same-length returns)
+nnbfl-text-part-spec = tie.close (tie.spec (search needs) (search needs) (search needs) returns)

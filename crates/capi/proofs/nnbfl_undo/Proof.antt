@@ -3,39 +3,14 @@
 use borrow.Author.Needs.{needs}
 use Rattle.capi.proofs.nnbfl_undo.Statement.{statement}
 use Rattle.capi.proofs.nnbfl_undo.Tie as tie
-use Prim.Native.Nat.{ℕ}
-use mathlib.Core.Path.{ap, _∙_}
-use mathlib.Core.List.{List}
-use denote.Ref.{now}
+use mathlib.Core.Path.{refl, sym}
 use native.Mathlib.Omega.{arith}
-use lib.ListN.{take}
-use lib.Seq.{sets}
-use Rattle.core.specs.Outcome.{Outcome, flat}
 use Rattle.core.proofs.Outcomes.{flat-first}
-
-undo-requires : tie.Need-undo-requires
-undo-requires c κs = search needs
-
-of-undoing-requires : tie.Need-of-undoing-requires
-of-undoing-requires c κs = search needs
-
-put3-requires : tie.Need-put3-requires
-put3-requires c κs = search needs
-
-same-length : tie.Need-same-length
-same-length c = search needs
-
-same-length-2 : tie.Need-same-length-2
-same-length-2 c = search needs
 
 returns : tie.Need-returns
 returns c =
-    let e = c .before .before .before .before .before .before .before .undo .ensures in (
-      ap (λ (z : Outcome × List ℕ). z .1) e,
-      c .before .before .put3 .ensures ∙ ap (sets (now (c .before .before .before .before .before .before .before .before .before .before .before .before .args .answer)) 0) (ap (take 3) (c .before .before .before .of-undoing .ensures) ∙ flat-first 3 _ (omega arith) ∙ ap (λ (z : Outcome × List ℕ). flat 3 (z .0)) e),
-    )
+    rw (sym (c .before .before .before .before .before .before .before .undo .ensures))
+    (refl, rw (c .before .before .put3 .ensures, flat-first 3 _ (omega arith) (c .before .before .before .of-undoing .ensures)))
 
 pub nnbfl-undo-spec : {M : Type 1} → statement M
-nnbfl-undo-spec =
-    tie.close
-    (tie.spec undo-requires of-undoing-requires put3-requires same-length same-length-2 returns)
+nnbfl-undo-spec = tie.close (tie.spec (search needs) (search needs) (search needs) (search needs) (search needs) returns)

@@ -3,33 +3,11 @@
 use borrow.Author.Needs.{needs}
 use Rattle.round_trip.proofs.reply.Statement.{statement}
 use Rattle.round_trip.proofs.reply.Tie as tie
-use mathlib.Core.Path.{ap, ap₂, sym, _∙_}
-use Prim.Native.Nat.{ℕ}
-use mathlib.Core.List.{List}
-use denote.Ref.{now}
 use Rattle.round_trip.specs.Trip.{ofTrip, repliedWith, replied}
-use Rattle.round_trip.specs.declared.Trip.{Trip}
-
-enum-known-t : tie.Need-enum-known-t
-enum-known-t c = search needs
-
-enum-known-t-2 : tie.Need-enum-known-t-2
-enum-known-t-2 c = search needs
-
-refuse-requires : tie.Need-refuse-requires
-refuse-requires c κs = search needs
-
-returns : tie.Need-returns
-unfolding ofTrip replied repliedWith
-returns c = ap (λ (z : Trip). replied (ofTrip z, now (c .before .before .before .before .args .out))) (sym (c .before .t .given .1))
-
-same-length : tie.Need-same-length
-same-length c = search needs
-
-returns-2 : tie.Need-returns-2
-unfolding ofTrip replied repliedWith
-returns-2 c = ap₂ (λ (n : ℕ) (l : List ℕ). (n, l)) (c .before .before .refuse .ensures .0) (c .before .before .refuse .ensures .1) ∙ ap (λ (z : Trip). replied (ofTrip z, now (c .before .before .before .before .before .before .before .before .args .out))) (sym (c .before .before .before .before .before .t2 .given .1))
 
 pub reply-spec : {M : Type 1} → statement M
+unfolding ofTrip replied repliedWith
 reply-spec =
-    tie.close (tie.spec enum-known-t enum-known-t-2 refuse-requires returns same-length returns-2)
+    tie.close
+    (tie.spec (search needs) (search needs) (search needs) (λ c. rw (c .before .t .given .1)) (search needs)
+    (λ c. rw (c .before .before .before .before .before .t2 .given .1, c .before .before .refuse .ensures .0, c .before .before .refuse .ensures .1)))

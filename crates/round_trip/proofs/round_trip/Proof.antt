@@ -3,61 +3,19 @@
 use borrow.Author.Needs.{needs}
 use Rattle.round_trip.proofs.round_trip.Statement.{statement}
 use Rattle.round_trip.proofs.round_trip.Tie as tie
-use mathlib.Core.Path.{ap, sym, _∙_}
 use Rattle.round_trip.proofs.Trips.{trip-long, trip-unread, trip-read, held, first-number}
-use Rattle.bflan.specs.Answer.{ofReading}
-use Rattle.bflan.specs.declared.read.ReadAnswer.{ReadAnswer}
 
 returns : tie.Need-returns
 returns c = trip-long _ _ _ _ (c .if1 .taken)
 
-read-requires : tie.Need-read-requires
-read-requires c κs = search needs
-
-enum-known-a : tie.Need-enum-known-a
-enum-known-a c = search needs
-
-sub-write-again : tie.Need-sub-write-again
-sub-write-again c = search needs
-
-part-write-again-start : tie.Need-part-write-again-start
-part-write-again-start c = search needs
-
 part-write-again-end : tie.Need-part-write-again-end
-part-write-again-end c = held _ _ _ _ _ _ _ (ap (λ (z : ReadAnswer). (ofReading z, c .before .before .before .before .before .before .before .before .read .last .1 .0, c .before .before .before .before .before .before .before .before .read .last .1 .1 .0)) (sym (c .before .before .a .given .1)) ∙ c .before .before .before .before .before .before .before .before .read .ensures) .0
-
-sub-write-again-2 : tie.Need-sub-write-again-2
-sub-write-again-2 c = search needs
-
-part-write-again-start-2 : tie.Need-part-write-again-start-2
-part-write-again-start-2 c = search needs
+part-write-again-end c = held _ _ _ _ _ _ _ (rw (c .before .before .a .given .1) at (c .before .before .before .before .before .before .before .before .read .ensures)) .0
 
 part-write-again-end-2 : tie.Need-part-write-again-end-2
-part-write-again-end-2 c = held _ _ _ _ _ _ _ (ap (λ (z : ReadAnswer). (ofReading z, c .before .before .before .before .before .before .before .before .before .before .read .last .1 .0, c .before .before .before .before .before .before .before .before .before .before .read .last .1 .1 .0)) (sym (c .before .before .before .before .a .given .1)) ∙ c .before .before .before .before .before .before .before .before .before .before .read .ensures) .1
-
-write-again-requires : tie.Need-write-again-requires
-write-again-requires c κs = search needs
-
-of-reading-requires : tie.Need-of-reading-requires
-of-reading-requires c κs = search needs
-
-same-length : tie.Need-same-length
-same-length c = search needs
-
-same-length-2 : tie.Need-same-length-2
-same-length-2 c = search needs
-
-same-length-3 : tie.Need-same-length-3
-same-length-3 c = search needs
+part-write-again-end-2 c = held _ _ _ _ _ _ _ (rw (c .before .before .before .before .a .given .1) at (c .before .before .before .before .before .before .before .before .before .before .read .ensures)) .1
 
 returns-2 : tie.Need-returns-2
-returns-2 c = trip-read _ _ _ _ (c .before .before .before .before .before .before .before .before .before .before .before .before .before .before .before .before .before .before .if1 .left) (c .before .before .before .before .before .before .before .before .before .before .before .before .before .before .before .read .last .1 .0) (c .before .before .before .before .before .before .before .before .before .before .before .before .before .before .before .read .last .1 .1 .0) (c .before .before .before .before .before .before .before .before .before .a .given .0 .0) (c .before .before .before .before .before .before .before .before .before .a .given .0 .1 .0) _ (ap (λ (z : ReadAnswer). (ofReading z, c .before .before .before .before .before .before .before .before .before .before .before .before .before .before .before .read .last .1 .0, c .before .before .before .before .before .before .before .before .before .before .before .before .before .before .before .read .last .1 .1 .0)) (sym (c .before .before .before .before .before .before .before .before .before .a .given .1)) ∙ c .before .before .before .before .before .before .before .before .before .before .before .before .before .before .before .read .ensures) (c .before .before .write-again .ensures)
-
-same-length-4 : tie.Need-same-length-4
-same-length-4 c = search needs
-
-same-length-5 : tie.Need-same-length-5
-same-length-5 c = search needs
+returns-2 c = trip-read _ _ _ _ (c .before .before .before .before .before .before .before .before .before .before .before .before .before .before .before .before .before .before .if1 .left) (c .before .before .before .before .before .before .before .before .before .before .before .before .before .before .before .read .last .1 .0) (c .before .before .before .before .before .before .before .before .before .before .before .before .before .before .before .read .last .1 .1 .0) (c .before .before .before .before .before .before .before .before .before .a .given .0 .0) (c .before .before .before .before .before .before .before .before .before .a .given .0 .1 .0) _ (rw (c .before .before .before .before .before .before .before .before .before .a .given .1) at (c .before .before .before .before .before .before .before .before .before .before .before .before .before .before .before .read .ensures)) (c .before .before .write-again .ensures)
 
 returns-3 : tie.Need-returns-3
 returns-3 c = trip-unread _ _ _ _ (c .before .before .before .before .before .before .before .before .before .if1 .left) _ _ _ _ (c .before .before .before .before .before .before .read .ensures) (c .before .match .keys2) (first-number _ _ (c .of-reading .ensures))
@@ -65,22 +23,6 @@ returns-3 c = trip-unread _ _ _ _ (c .before .before .before .before .before .be
 pub round-trip-spec : {M : Type 1} → statement M
 round-trip-spec =
     tie.close
-    (tie.spec
-    returns
-    read-requires
-    enum-known-a
-    sub-write-again
-    part-write-again-start
-    part-write-again-end
-    sub-write-again-2
-    part-write-again-start-2
-    part-write-again-end-2
-    write-again-requires
-    of-reading-requires
-    same-length
-    same-length-2
-    same-length-3
-    returns-2
-    same-length-4
-    same-length-5
-    returns-3)
+    (tie.spec returns (search needs) (search needs) (search needs) (search needs) part-write-again-end (search needs)
+    (search needs) part-write-again-end-2 (search needs) (search needs) (search needs) (search needs) (search needs) returns-2
+    (search needs) (search needs) returns-3)

@@ -4,17 +4,8 @@ use borrow.Author.Needs.{needs}
 use Rattle.capi.proofs.answer.put4.Statement.{statement}
 use Rattle.capi.proofs.answer.put4.Tie as tie
 
-put3-requires : tie.Need-put3-requires
-put3-requires c κs = search needs
-
-put-requires : tie.Need-put-requires
-put-requires c κs = search needs
-
-same-length : tie.Need-same-length
-same-length c = search needs
-
-returns : tie.Need-returns
-returns c = rw (c .before .before .put .ensures, c .before .before .before .before .before .before .put3 .ensures)
-
 pub put4-spec : {M : Type 1} → statement M
-put4-spec = tie.close (tie.spec put3-requires put-requires same-length returns)
+put4-spec =
+    tie.close
+    (tie.spec (search needs) (search needs) (search needs)
+    (λ c. rw (c .before .before .put .ensures, c .before .before .before .before .before .before .put3 .ensures)))

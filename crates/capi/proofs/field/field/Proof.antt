@@ -3,30 +3,12 @@
 use borrow.Author.Needs.{needs}
 use Rattle.capi.proofs.field.field.Statement.{statement}
 use Rattle.capi.proofs.field.field.Tie as tie
-use mathlib.Core.Path.{ap, _∙_}
-use denote.Ref.{now}
-use lib.Seq.{sets}
-use Rattle.core.specs.Outcome.{flat, counted}
-use Rattle.edit.specs.FieldAt.{ofField}
-use Rattle.edit.specs.declared.field.FieldAnswer.{FieldAnswer}
+use mathlib.Core.Path.{sym}
 use Rattle.capi.specs.FieldNumbers.{fieldNumbers}
-
-field-at-requires : tie.Need-field-at-requires
-field-at-requires c κs = search needs
-
-of-field-requires : tie.Need-of-field-requires
-of-field-requires c κs = search needs
-
-put5-requires : tie.Need-put5-requires
-put5-requires c κs = search needs
-
-same-length : tie.Need-same-length
-same-length c = search needs
 
 returns : tie.Need-returns
 unfolding fieldNumbers
-returns c = c .before .before .put5 .ensures ∙ ap (sets (now (c .before .before .before .before .before .before .before .before .args .answer)) 0) (c .before .before .before .of-field .ensures ∙ ap (λ (z : FieldAnswer). flat 5 (counted (ofField z))) (c .before .before .before .before .before .field-at .ensures))
+returns c = rw (sym (c .before .before .before .before .before .field-at .ensures), sym (c .before .before .before .of-field .ensures)) (c .before .before .put5 .ensures)
 
 pub field-spec : {M : Type 1} → statement M
-field-spec =
-    tie.close (tie.spec field-at-requires of-field-requires put5-requires same-length returns)
+field-spec = tie.close (tie.spec (search needs) (search needs) (search needs) (search needs) returns)

@@ -6,19 +6,13 @@ use Rattle.console.proofs.hex.hex_digit.Statement.{statement}
 use Rattle.console.proofs.hex.hex_digit.Tie as tie
 use Rattle.console.specs.Hex.{hexDigit}
 
-add-result : tie.Need-add-result
-add-result c = search needs
-
 returns : tie.Need-returns
 unfolding hexDigit
 returns c = rw (lt-ltb _ _ (c .if1 .taken))
-
-add-result-2 : tie.Need-add-result-2
-add-result-2 c = search needs
 
 returns-2 : tie.Need-returns-2
 unfolding hexDigit
 returns-2 c = rw (le-ltb _ _ (c .if1 .left))
 
 pub hex-digit-spec : {M : Type 1} → statement M
-hex-digit-spec = tie.close (tie.spec add-result returns add-result-2 returns-2)
+hex-digit-spec = tie.close (tie.spec (search needs) returns (search needs) returns-2)

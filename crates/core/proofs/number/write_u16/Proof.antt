@@ -7,15 +7,9 @@ use borrow.Author.Needs.{needs}
 use Rattle.core.proofs.number.write_u16.Statement.{statement}
 use Rattle.core.proofs.number.write_u16.Tie as tie
 
-slice-write-out-2 : tie.Need-slice-write-out-2
-slice-write-out-2 c = simp length-set (omega arith)
-
-returns-2 : tie.Need-returns-2
-unfolding put le
-returns-2 c = simp add-one
-
 pub write-u16-spec : {M : Type 1} → statement M
+unfolding put le
 write-u16-spec =
     tie.close
     (tie.spec (search needs) (search needs) (search needs) (λ c. search needs) (search needs) (search needs) (search needs)
-    (search needs) slice-write-out-2 (search needs) returns-2)
+    (search needs) (λ c. simp length-set (omega arith)) (search needs) (λ c. simp add-one))

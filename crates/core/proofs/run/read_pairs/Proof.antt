@@ -31,9 +31,6 @@ returns c =
 loop-holds : tie.Need-loop-holds Inv-loop μ-loop
 loop-holds c = (omega arith, omega arith, refl, fill-start (now (c .before .before .before .before .before .args .out)) (c .before .before .before .before .before .args .o) (pairsAt (c .before .before .before .before .before .args .n) (now (c .before .before .before .before .before .args .s)) (c .before .before .before .before .before .args .at)))
 
-slice-write-out-2 : tie.Need-slice-write-out-2 Inv-loop μ-loop
-slice-write-out-2 c = simp length-set (omega arith)
-
 loop-again : tie.Need-loop-again Inv-loop μ-loop
 loop-again c =
     let v = pairsAt (c .before .before .before .before .before .before .before .before .before .args .n) (now (c .before .before .before .before .before .before .before .before .before .args .s)) (c .before .before .before .before .before .before .before .before .before .args .at) in
@@ -73,6 +70,6 @@ read-pairs-spec =
     (tie.spec Inv-loop μ-loop (search needs) (search needs) (search needs) (search needs) (search needs) returns (search needs)
     (search needs) loop-holds (search needs) (search needs) (search needs) (search needs) (search needs) (search needs)
     (λ c. omega arith) (search needs) (search needs) (search needs) (search needs) (search needs) (search needs) (search needs)
-    (search needs) slice-write-out-2 (search needs) (λ c. omega arith) loop-again (search needs) (search needs) (search needs)
-    (search needs) (search needs) (search needs) (search needs) (search needs) same-length returns-2 (search needs) (search needs)
-    same-length-2 returns-3)
+    (search needs) (λ c. simp length-set (omega arith)) (search needs) (λ c. omega arith) loop-again (search needs) (search needs)
+    (search needs) (search needs) (search needs) (search needs) (search needs) (search needs) same-length returns-2 (search needs)
+    (search needs) same-length-2 returns-3)

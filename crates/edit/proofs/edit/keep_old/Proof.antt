@@ -8,25 +8,11 @@ use native.Mathlib.Omega.{arith}
 use denote.Ref.{now}
 use Rattle.edit.proofs.Changes.{size-good, entry-kept}
 
-size-of-requires : tie.Need-size-of-requires
-size-of-requires c κs = search needs
-
 packed-at-requires : tie.Need-packed-at-requires
 packed-at-requires c κs = (size-good (c .before .before .before .args .f) (c .size-of .ensures), omega (arith, c .size-of .ensures, c .before .before .before .pre .1))
-
-cast-t11 : tie.Need-cast-t11
-cast-t11 c = search needs
-
-put-entry-requires : tie.Need-put-entry-requires
-put-entry-requires c κs = search needs
-
-same-length : tie.Need-same-length
-same-length c = search needs
 
 returns : tie.Need-returns
 returns c = c .before .before .put-entry .ensures ∙ entry-kept (now (c .before .before .before .before .before .before .before .before .args .journal)) (now (c .before .before .before .before .before .before .before .before .args .section)) (c .before .before .before .before .before .before .before .before .args .count) (c .before .before .before .before .before .before .before .before .args .at) _ _ _ (c .before .before .before .before .before .size-of .ensures) (c .before .before .before .before .packed-at .ensures) (c .before .before .before .before .before .before .before .before .pre .1)
 
 pub keep-old-spec : {M : Type 1} → statement M
-keep-old-spec =
-    tie.close
-    (tie.spec size-of-requires packed-at-requires cast-t11 put-entry-requires same-length returns)
+keep-old-spec = tie.close (tie.spec (search needs) packed-at-requires (search needs) (search needs) (search needs) returns)

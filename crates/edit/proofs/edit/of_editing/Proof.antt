@@ -3,70 +3,14 @@
 use borrow.Author.Needs.{needs}
 use Rattle.edit.proofs.edit.of_editing.Statement.{statement}
 use Rattle.edit.proofs.edit.of_editing.Tie as tie
-use mathlib.Core.Path.{ap, sym, _∙_}
 use Rattle.core.specs.Outcome.{flat}
-use Rattle.edit.specs.declared.edit.EditAnswer.{EditAnswer}
 use Rattle.edit.specs.Editing.{ofEditing}
 
-enum-known-a : tie.Need-enum-known-a
-enum-known-a c = search needs
-
-enum-known-a-2 : tie.Need-enum-known-a-2
-enum-known-a-2 c = search needs
-
-enum-known-a-3 : tie.Need-enum-known-a-3
-enum-known-a-3 c = search needs
-
-of-fault-requires : tie.Need-of-fault-requires
-of-fault-requires c κs = search needs
-
-enum-told : tie.Need-enum-told
-enum-told c = search needs
-
-enum-told-2 : tie.Need-enum-told-2
-enum-told-2 c = search needs
-
-enum-known-a-4 : tie.Need-enum-known-a-4
-enum-known-a-4 c = search needs
-
-returns : tie.Need-returns
-unfolding flat ofEditing
-returns c = ap (λ (z : EditAnswer). flat 5 (ofEditing z)) (sym (c .before .a .given .1))
-
-returns-2 : tie.Need-returns-2
-unfolding flat ofEditing
-returns-2 c = ap (λ (z : EditAnswer). flat 5 (ofEditing z)) (sym (c .before .a2 .given .1))
-
-returns-3 : tie.Need-returns-3
-unfolding ofEditing
-returns-3 c = c .of-fault .ensures ∙ ap (λ (z : EditAnswer). flat 5 (ofEditing z)) (sym (c .before .before .a3 .given .1))
-
-returns-4 : tie.Need-returns-4
-unfolding flat ofEditing
-returns-4 c = ap (λ (z : EditAnswer). flat 5 (ofEditing z)) (sym (c .enum-told .given .1))
-
-returns-5 : tie.Need-returns-5
-unfolding flat ofEditing
-returns-5 c = ap (λ (z : EditAnswer). flat 5 (ofEditing z)) (sym (c .enum-told2 .given .1))
-
-returns-6 : tie.Need-returns-6
-unfolding flat ofEditing
-returns-6 c = ap (λ (z : EditAnswer). flat 5 (ofEditing z)) (sym (c .before .a4 .given .1))
-
 pub of-editing-spec : {M : Type 1} → statement M
+unfolding flat ofEditing
 of-editing-spec =
     tie.close
-    (tie.spec
-    enum-known-a
-    enum-known-a-2
-    enum-known-a-3
-    of-fault-requires
-    enum-told
-    enum-told-2
-    enum-known-a-4
-    returns
-    returns-2
-    returns-3
-    returns-4
-    returns-5
-    returns-6)
+    (tie.spec (search needs) (search needs) (search needs) (search needs) (search needs) (search needs) (search needs)
+    (λ c. rw (c .before .a .given .1)) (λ c. rw (c .before .a2 .given .1))
+    (λ c. rw (c .before .before .a3 .given .1) (c .of-fault .ensures)) (λ c. rw (c .enum-told .given .1))
+    (λ c. rw (c .enum-told2 .given .1)) (λ c. rw (c .before .a4 .given .1)))

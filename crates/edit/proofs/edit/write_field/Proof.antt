@@ -5,63 +5,21 @@ use Rattle.edit.proofs.edit.write_field.Statement.{statement}
 use Rattle.edit.proofs.edit.write_field.Tie as tie
 use mathlib.Core.Path.{sym, ap, _∙_}
 use native.Mathlib.Omega.{arith}
-use denote.Ref.{now}
-use lib.Seq.{sets}
-use Rattle.bflan.specs.Layout.{written, row}
-use Rattle.bflan.specs.pai1.Places.{widths, fit}
+use Rattle.bflan.specs.pai1.Places.{fit}
 use Rattle.edit.specs.inner.Packing.{valuesIn}
 use Rattle.edit.specs.declared.values.Values.{Values}
 use Rattle.edit.proofs.Changes.{step-put, hermite-put, float-put, patterns-put}
-
-enum-known-v : tie.Need-enum-known-v
-enum-known-v c = search needs
 
 put-one-requires : tie.Need-put-one-requires
 unfolding valuesIn
 put-one-requires c κs = (c .before .before .before .before .before .pre .0, ap (λ (z : Values). fit (c .before .before .before .before .before .args .f) (valuesIn z)) (sym (c .before .before .v .given .1)) ∙ c .before .before .before .before .before .pre .1)
 
-enum-known-v-2 : tie.Need-enum-known-v-2
-enum-known-v-2 c = search needs
-
-from-bits-requires : tie.Need-from-bits-requires
-from-bits-requires c κs = search needs
-
-write-f32-requires : tie.Need-write-f32-requires
-write-f32-requires c κs = search needs
-
-add-write-u16 : tie.Need-add-write-u16
-add-write-u16 c = search needs
-
-cast-write-u16 : tie.Need-cast-write-u16
-cast-write-u16 c = search needs
-
-write-u16-requires : tie.Need-write-u16-requires
-write-u16-requires c κs = search needs
-
-enum-known-v-3 : tie.Need-enum-known-v-3
-enum-known-v-3 c = search needs
-
-hermite-from-bits-requires : tie.Need-hermite-from-bits-requires
-hermite-from-bits-requires c κs = search needs
-
-write-hermite-requires : tie.Need-write-hermite-requires
-write-hermite-requires c κs = search needs
-
-same-length : tie.Need-same-length
-same-length c = search needs
-
 returns : tie.Need-returns
 unfolding valuesIn
-returns c = c .before .before .put-one .ensures ∙ ap (λ (z : Values). sets (now (c .before .before .before .before .before .before .before .before .args .section)) (c .before .before .before .before .before .before .before .before .args .at) (written (row (widths (c .before .before .before .before .before .before .before .before .args .f)) (valuesIn z)))) (sym (c .before .before .before .before .before .v .given .1))
-
-same-length-2 : tie.Need-same-length-2
-same-length-2 c = search needs
+returns c = rw (c .before .before .before .before .before .v .given .1) (c .before .before .put-one .ensures)
 
 returns-2 : tie.Need-returns-2
 returns-2 c = step-put _ _ _ _ (c .before .before .before .before .before .before .before .before .before .before .before .before .before .pre .1) _ _ (c .before .before .before .before .before .before .before .before .before .before .v2 .given .1) (float-put _ _ (c .before .before .before .before .before .before .before .before .before .before .v2 .given .0 .0) _ (omega arith) (c .before .before .before .before .before .before .before .from-bits .ensures) (c .before .before .before .before .before .before .write-f32 .ensures)) (c .before .before .write-u16 .ensures)
-
-same-length-3 : tie.Need-same-length-3
-same-length-3 c = search needs
 
 returns-3 : tie.Need-returns-3
 returns-3 c = hermite-put _ _ _ _ (c .before .before .before .before .before .before .before .before .before .pre .1) _ _ _ (c .before .before .before .before .before .before .v3 .given .1) (patterns-put _ _ (c .before .before .before .before .before .before .v3 .given .0 .0) (c .before .before .before .before .before .before .v3 .given .0 .1 .0) (c .before .before .before .before .before .before .v3 .given .0 .1 .1 .0) _ (omega arith) (omega arith) (omega arith) (c .before .before .before .hermite-from-bits .ensures) (c .before .before .write-hermite .ensures))
@@ -69,21 +27,6 @@ returns-3 c = hermite-put _ _ _ _ (c .before .before .before .before .before .be
 pub write-field-spec : {M : Type 1} → statement M
 write-field-spec =
     tie.close
-    (tie.spec
-    enum-known-v
-    put-one-requires
-    enum-known-v-2
-    from-bits-requires
-    write-f32-requires
-    add-write-u16
-    cast-write-u16
-    write-u16-requires
-    enum-known-v-3
-    hermite-from-bits-requires
-    write-hermite-requires
-    same-length
-    returns
-    same-length-2
-    returns-2
-    same-length-3
+    (tie.spec (search needs) put-one-requires (search needs) (search needs) (search needs) (search needs) (search needs)
+    (search needs) (search needs) (search needs) (search needs) (search needs) returns (search needs) returns-2 (search needs)
     returns-3)

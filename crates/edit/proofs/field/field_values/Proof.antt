@@ -3,69 +3,14 @@
 use borrow.Author.Needs.{needs}
 use Rattle.edit.proofs.field.field_values.Statement.{statement}
 use Rattle.edit.proofs.field.field_values.Tie as tie
-use mathlib.Core.Path.{sym, ap, _∙_}
 use Rattle.edit.specs.FieldAt.{ofValue}
 use Rattle.edit.specs.inner.Packing.{valuesIn}
 
-enum-known-v : tie.Need-enum-known-v
-enum-known-v c = search needs
-
-enum-known-v-2 : tie.Need-enum-known-v-2
-enum-known-v-2 c = search needs
-
-enum-known-v-3 : tie.Need-enum-known-v-3
-enum-known-v-3 c = search needs
-
-enum-known-v-4 : tie.Need-enum-known-v-4
-enum-known-v-4 c = search needs
-
-enum-known-v-5 : tie.Need-enum-known-v-5
-enum-known-v-5 c = search needs
-
-key-values-requires : tie.Need-key-values-requires
-key-values-requires c κs = search needs
-
-enum-known-v-6 : tie.Need-enum-known-v-6
-enum-known-v-6 c = search needs
-
-returns : tie.Need-returns
-unfolding valuesIn ofValue
-returns c = sym (ap ofValue (c .before .v .given .1))
-
-returns-2 : tie.Need-returns-2
-unfolding valuesIn ofValue
-returns-2 c = sym (ap ofValue (c .before .v2 .given .1))
-
-returns-3 : tie.Need-returns-3
-unfolding valuesIn ofValue
-returns-3 c = sym (ap ofValue (c .before .v3 .given .1))
-
-returns-4 : tie.Need-returns-4
-unfolding valuesIn ofValue
-returns-4 c = sym (ap ofValue (c .before .v4 .given .1))
-
-returns-5 : tie.Need-returns-5
-unfolding ofValue
-returns-5 c = c .key-values .ensures ∙ sym (ap ofValue (c .before .before .v5 .given .1))
-
-returns-6 : tie.Need-returns-6
-unfolding valuesIn ofValue
-returns-6 c = sym (ap ofValue (c .before .v6 .given .1))
-
 pub field-values-spec : {M : Type 1} → statement M
+unfolding valuesIn ofValue
 field-values-spec =
     tie.close
-    (tie.spec
-    enum-known-v
-    enum-known-v-2
-    enum-known-v-3
-    enum-known-v-4
-    enum-known-v-5
-    key-values-requires
-    enum-known-v-6
-    returns
-    returns-2
-    returns-3
-    returns-4
-    returns-5
-    returns-6)
+    (tie.spec (search needs) (search needs) (search needs) (search needs) (search needs) (search needs) (search needs)
+    (λ c. rw (c .before .v .given .1)) (λ c. rw (c .before .v2 .given .1)) (λ c. rw (c .before .v3 .given .1))
+    (λ c. rw (c .before .v4 .given .1)) (λ c. rw (c .before .before .v5 .given .1) (c .key-values .ensures))
+    (λ c. rw (c .before .v6 .given .1)))

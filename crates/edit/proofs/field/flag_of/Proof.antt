@@ -1,6 +1,5 @@
 -- `field::flag_of` meets its contract.
 -- Assumes nothing.
-use borrow.Author.Needs.{needs}
 use Rattle.edit.proofs.field.flag_of.Statement.{statement}
 use Rattle.edit.proofs.field.flag_of.Tie as tie
 use borrow.Author.Tests.{ne-eqb}

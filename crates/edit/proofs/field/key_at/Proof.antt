@@ -15,15 +15,6 @@ float-at-requires c κs = constant-room _ (c .match .keys1) (c .before .before .
 float-at-requires-2 : tie.Need-float-at-requires-2
 float-at-requires-2 c κs = omega (arith, step-room _ (c .match .keys2) (c .before .before .pre))
 
-add-read-u16 : tie.Need-add-read-u16
-add-read-u16 c = search needs
-
-read-u16-requires : tie.Need-read-u16-requires
-read-u16-requires c κs = search needs
-
-read-value-requires : tie.Need-read-value-requires
-read-value-requires c κs = search needs
-
 hermite-at-requires : tie.Need-hermite-at-requires
 hermite-at-requires c κs = omega (arith, size-rest _ (c .match .rest .0 .1) (c .match .rest .1), c .before .before .pre)
 
@@ -39,13 +30,5 @@ returns-3 c = hermite-key _ _ _ (c .before .match .rest .0 .1) (c .before .match
 pub key-at-spec : {M : Type 1} → statement M
 key-at-spec =
     tie.close
-    (tie.spec
-    float-at-requires
-    float-at-requires-2
-    add-read-u16
-    read-u16-requires
-    read-value-requires
-    hermite-at-requires
-    returns
-    returns-2
-    returns-3)
+    (tie.spec float-at-requires float-at-requires-2 (search needs) (search needs) (search needs) hermite-at-requires returns
+    returns-2 returns-3)

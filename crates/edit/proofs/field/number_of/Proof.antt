@@ -6,20 +6,8 @@ use Rattle.edit.proofs.FieldAt.{number-by, number-below, number-above}
 use Rattle.edit.proofs.field.number_of.Statement.{statement}
 use Rattle.edit.proofs.field.number_of.Tie as tie
 
-kind-of-requires : tie.Need-kind-of-requires
-kind-of-requires c κs = search needs
-
-enum-known-count : tie.Need-enum-known-count
-enum-known-count c = search needs
-
 returns : tie.Need-returns
 returns c = number-below _ _ (sym (c .before .before .before .before .kind-of .ensures) ∙ c .before .before .count .given .1) (c .if1 .taken)
-
-enum-told : tie.Need-enum-told
-enum-told c = search needs
-
-enum-told-2 : tie.Need-enum-told-2
-enum-told-2 c = search needs
 
 returns-2 : tie.Need-returns-2
 returns-2 c = number-above _ _ (sym (c .before .before .before .before .kind-of .ensures) ∙ c .before .before .count .given .1) (c .if1 .left)
@@ -33,12 +21,4 @@ returns-4 c = number-by _ _ (sym (c .before .before .kind-of .ensures) ∙ c .en
 pub number-of-spec : {M : Type 1} → statement M
 number-of-spec =
     tie.close
-    (tie.spec
-    kind-of-requires
-    enum-known-count
-    returns
-    enum-told
-    enum-told-2
-    returns-2
-    returns-3
-    returns-4)
+    (tie.spec (search needs) (search needs) returns (search needs) (search needs) returns-2 returns-3 returns-4)

@@ -3,63 +3,16 @@
 use borrow.Author.Needs.{needs}
 use Rattle.edit.proofs.field.of_field.Statement.{statement}
 use Rattle.edit.proofs.field.of_field.Tie as tie
-use Prim.Native.Nat.{ℕ}
-use mathlib.Core.Path.{ap, sym, _∙_}
-use mathlib.Core.List.{List}
-use Rattle.core.specs.Outcome.{flat, accepted, counted}
+use mathlib.Core.Path.{sym}
+use Rattle.core.specs.Outcome.{flat, counted}
 use Rattle.edit.specs.FieldAt.{ofField}
-use Rattle.edit.specs.declared.field.FieldAnswer.{FieldAnswer}
 use Rattle.edit.proofs.FieldAt.{counted-fault}
 
-enum-known-a : tie.Need-enum-known-a
-enum-known-a c = search needs
-
-enum-known-a-2 : tie.Need-enum-known-a-2
-enum-known-a-2 c = search needs
-
-of-fault-requires : tie.Need-of-fault-requires
-of-fault-requires c κs = search needs
-
-enum-told : tie.Need-enum-told
-enum-told c = search needs
-
-enum-known-a-3 : tie.Need-enum-known-a-3
-enum-known-a-3 c = search needs
-
-field-values-requires : tie.Need-field-values-requires
-field-values-requires c κs = search needs
-
-of-values-requires : tie.Need-of-values-requires
-of-values-requires c κs = search needs
-
-returns : tie.Need-returns
-unfolding flat counted ofField
-returns c = ap (λ (z : FieldAnswer). flat 5 (counted (ofField z))) (sym (c .before .a .given .1))
-
-returns-2 : tie.Need-returns-2
-unfolding ofField
-returns-2 c = c .of-fault .ensures ∙ ap (flat 5) (sym (counted-fault _)) ∙ ap (λ (z : FieldAnswer). flat 5 (counted (ofField z))) (sym (c .before .before .a2 .given .1))
-
-returns-3 : tie.Need-returns-3
-unfolding flat counted ofField
-returns-3 c = ap (λ (z : FieldAnswer). flat 5 (counted (ofField z))) (sym (c .enum-told .given .1))
-
-returns-4 : tie.Need-returns-4
-unfolding ofField
-returns-4 c = c .of-values .ensures ∙ ap (λ (vs : List ℕ). flat 5 (counted (accepted vs))) (c .before .field-values .ensures) ∙ ap (λ (z : FieldAnswer). flat 5 (counted (ofField z))) (sym (c .before .before .before .a3 .given .1))
-
 pub of-field-spec : {M : Type 1} → statement M
+unfolding flat counted ofField
 of-field-spec =
     tie.close
-    (tie.spec
-    enum-known-a
-    enum-known-a-2
-    of-fault-requires
-    enum-told
-    enum-known-a-3
-    field-values-requires
-    of-values-requires
-    returns
-    returns-2
-    returns-3
-    returns-4)
+    (tie.spec (search needs) (search needs) (search needs) (search needs) (search needs) (search needs) (search needs)
+    (λ c. rw (c .before .a .given .1)) (λ c. rw (c .before .before .a2 .given .1, counted-fault) (c .of-fault .ensures))
+    (λ c. rw (c .enum-told .given .1))
+    (λ c. rw (c .before .before .before .a3 .given .1, sym (c .before .field-values .ensures)) (c .of-values .ensures)))

@@ -11,59 +11,17 @@ use Rattle.edit.specs.inner.Packing.{readValue}
 use Rattle.edit.proofs.Changes.{got}
 use Rattle.edit.proofs.FieldAt.{field-room, frames-at, looping-at, layer-at, number-at, value-at, key-at}
 
-enum-told : tie.Need-enum-told
-enum-told c = search needs
-
-read-u16-requires : tie.Need-read-u16-requires
-read-u16-requires c κs = search needs
-
-read-value-requires : tie.Need-read-value-requires
-read-value-requires c κs = search needs
-
-enum-told-2 : tie.Need-enum-told-2
-enum-told-2 c = search needs
-
 byte-at-requires : tie.Need-byte-at-requires
 byte-at-requires c κs = field-room _ (c .enum-told2 .given .1) (unfold widths total in refl) (c .before .before .before .pre)
-
-flag-of-requires : tie.Need-flag-of-requires
-flag-of-requires c κs = search needs
-
-enum-told-3 : tie.Need-enum-told-3
-enum-told-3 c = search needs
 
 byte-at-requires-2 : tie.Need-byte-at-requires-2
 byte-at-requires-2 c κs = field-room _ (c .enum-told3 .given .1) (unfold widths total in refl) (c .before .before .before .pre)
 
-cast-t12 : tie.Need-cast-t12
-cast-t12 c = search needs
-
-enum-known-f : tie.Need-enum-known-f
-enum-known-f c = search needs
-
 byte-at-requires-3 : tie.Need-byte-at-requires-3
 byte-at-requires-3 c κs = field-room _ (c .before .f .given .1) (unfold widths total in refl) (c .before .before .before .before .pre)
 
-number-of-requires : tie.Need-number-of-requires
-number-of-requires c κs = search needs
-
-cast-t15 : tie.Need-cast-t15
-cast-t15 c = search needs
-
-enum-known-f-2 : tie.Need-enum-known-f-2
-enum-known-f-2 c = search needs
-
 key-at-requires : tie.Need-key-at-requires
 key-at-requires c κs = field-room _ (c .before .f2 .given .1) (unfold widths in refl) (c .before .before .before .before .pre)
-
-enum-told-4 : tie.Need-enum-told-4
-enum-told-4 c = search needs
-
-read-u32-requires : tie.Need-read-u32-requires
-read-u32-requires c κs = search needs
-
-read-value-requires-2 : tie.Need-read-value-requires-2
-read-value-requires-2 c κs = search needs
 
 returns : tie.Need-returns
 returns c = frames-at _ _ (c .before .before .enum-told .given .1) (got _ 2 _ (field-room _ {k = 2} (c .before .before .enum-told .given .1) (unfold widths total in refl) (c .before .before .before .before .before .pre)) (c .read-value .ensures ∙ ap readValue (c .before .read-u16 .ensures)))
@@ -86,28 +44,6 @@ returns-6 c = value-at _ _ (c .before .before .enum-told4 .given .1) (got _ 4 _ 
 pub value-at-spec : {M : Type 1} → statement M
 value-at-spec =
     tie.close
-    (tie.spec
-    enum-told
-    read-u16-requires
-    read-value-requires
-    enum-told-2
-    byte-at-requires
-    flag-of-requires
-    enum-told-3
-    byte-at-requires-2
-    cast-t12
-    enum-known-f
-    byte-at-requires-3
-    number-of-requires
-    cast-t15
-    enum-known-f-2
-    key-at-requires
-    enum-told-4
-    read-u32-requires
-    read-value-requires-2
-    returns
-    returns-2
-    returns-3
-    returns-4
-    returns-5
-    returns-6)
+    (tie.spec (search needs) (search needs) (search needs) (search needs) byte-at-requires (search needs) (search needs)
+    byte-at-requires-2 (search needs) (search needs) byte-at-requires-3 (search needs) (search needs) (search needs)
+    key-at-requires (search needs) (search needs) (search needs) returns returns-2 returns-3 returns-4 returns-5 returns-6)

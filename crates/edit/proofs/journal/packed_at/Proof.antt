@@ -8,63 +8,6 @@ use Rattle.edit.specs.inner.Packing.{readValue}
 use Rattle.edit.proofs.Calls.{size-twelve}
 use Rattle.edit.proofs.Changes.{old-1, old-2, old-4, old-6, old-12}
 
-read-u8-requires : tie.Need-read-u8-requires
-read-u8-requires c κs = search needs
-
-read-value-requires : tie.Need-read-value-requires
-read-value-requires c κs = search needs
-
-read-u16-requires : tie.Need-read-u16-requires
-read-u16-requires c κs = search needs
-
-read-value-requires-2 : tie.Need-read-value-requires-2
-read-value-requires-2 c κs = search needs
-
-read-u32-requires : tie.Need-read-u32-requires
-read-u32-requires c κs = search needs
-
-read-value-requires-3 : tie.Need-read-value-requires-3
-read-value-requires-3 c κs = search needs
-
-read-u32-requires-2 : tie.Need-read-u32-requires-2
-read-u32-requires-2 c κs = search needs
-
-read-value-requires-4 : tie.Need-read-value-requires-4
-read-value-requires-4 c κs = search needs
-
-add-read-u16 : tie.Need-add-read-u16
-add-read-u16 c = search needs
-
-read-u16-requires-2 : tie.Need-read-u16-requires-2
-read-u16-requires-2 c κs = search needs
-
-read-value-requires-5 : tie.Need-read-value-requires-5
-read-value-requires-5 c κs = search needs
-
-read-u32-requires-3 : tie.Need-read-u32-requires-3
-read-u32-requires-3 c κs = search needs
-
-read-value-requires-6 : tie.Need-read-value-requires-6
-read-value-requires-6 c κs = search needs
-
-add-read-u32 : tie.Need-add-read-u32
-add-read-u32 c = search needs
-
-read-u32-requires-4 : tie.Need-read-u32-requires-4
-read-u32-requires-4 c κs = search needs
-
-read-value-requires-7 : tie.Need-read-value-requires-7
-read-value-requires-7 c κs = search needs
-
-add-read-u32-2 : tie.Need-add-read-u32-2
-add-read-u32-2 c = search needs
-
-read-u32-requires-5 : tie.Need-read-u32-requires-5
-read-u32-requires-5 c κs = search needs
-
-read-value-requires-8 : tie.Need-read-value-requires-8
-read-value-requires-8 c κs = search needs
-
 returns : tie.Need-returns
 returns c = old-1 _ _ _ (c .before .before .before .before .pre .1) (c .before .before .match .keys1) (c .read-value .ensures ∙ ap readValue (c .before .read-u8 .ensures))
 
@@ -85,28 +28,6 @@ returns-5 c =
 pub packed-at-spec : {M : Type 1} → statement M
 packed-at-spec =
     tie.close
-    (tie.spec
-    read-u8-requires
-    read-value-requires
-    read-u16-requires
-    read-value-requires-2
-    read-u32-requires
-    read-value-requires-3
-    read-u32-requires-2
-    read-value-requires-4
-    add-read-u16
-    read-u16-requires-2
-    read-value-requires-5
-    read-u32-requires-3
-    read-value-requires-6
-    add-read-u32
-    read-u32-requires-4
-    read-value-requires-7
-    add-read-u32-2
-    read-u32-requires-5
-    read-value-requires-8
-    returns
-    returns-2
-    returns-3
-    returns-4
-    returns-5)
+    (tie.spec (search needs) (search needs) (search needs) (search needs) (search needs) (search needs) (search needs)
+    (search needs) (search needs) (search needs) (search needs) (search needs) (search needs) (search needs) (search needs)
+    (search needs) (search needs) (search needs) (search needs) returns returns-2 returns-3 returns-4 returns-5)

@@ -3,22 +3,10 @@
 use borrow.Author.Needs.{needs}
 use Rattle.edit.proofs.journal.read_value.Statement.{statement}
 use Rattle.edit.proofs.journal.read_value.Tie as tie
-use mathlib.Core.Path.{sym, ap}
 use Rattle.edit.specs.inner.Packing.{readValue}
 
-enum-known-r : tie.Need-enum-known-r
-enum-known-r c = search needs
-
-enum-known-r-2 : tie.Need-enum-known-r-2
-enum-known-r-2 c = search needs
-
-returns : tie.Need-returns
-unfolding readValue
-returns c = sym (ap readValue (c .before .r .given .1))
-
-returns-2 : tie.Need-returns-2
-unfolding readValue
-returns-2 c = sym (ap readValue (c .before .r2 .given .1))
-
 pub read-value-spec : {M : Type 1} → statement M
-read-value-spec = tie.close (tie.spec enum-known-r enum-known-r-2 returns returns-2)
+unfolding readValue
+read-value-spec =
+    tie.close
+    (tie.spec (search needs) (search needs) (λ c. rw (c .before .r .given .1)) (λ c. rw (c .before .r2 .given .1)))

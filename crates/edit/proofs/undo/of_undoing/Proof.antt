@@ -3,48 +3,12 @@
 use borrow.Author.Needs.{needs}
 use Rattle.edit.proofs.undo.of_undoing.Statement.{statement}
 use Rattle.edit.proofs.undo.of_undoing.Tie as tie
-use mathlib.Core.Path.{ap, sym}
 use Rattle.core.specs.Outcome.{flat}
-use Rattle.edit.specs.declared.undo.UndoAnswer.{UndoAnswer}
 use Rattle.edit.specs.Editing.{ofUndoing}
 
-enum-known-a : tie.Need-enum-known-a
-enum-known-a c = search needs
-
-enum-known-a-2 : tie.Need-enum-known-a-2
-enum-known-a-2 c = search needs
-
-enum-told : tie.Need-enum-told
-enum-told c = search needs
-
-enum-known-a-3 : tie.Need-enum-known-a-3
-enum-known-a-3 c = search needs
-
-returns : tie.Need-returns
-unfolding flat ofUndoing
-returns c = ap (λ (z : UndoAnswer). flat 5 (ofUndoing z)) (sym (c .before .a .given .1))
-
-returns-2 : tie.Need-returns-2
-unfolding flat ofUndoing
-returns-2 c = ap (λ (z : UndoAnswer). flat 5 (ofUndoing z)) (sym (c .before .a2 .given .1))
-
-returns-3 : tie.Need-returns-3
-unfolding flat ofUndoing
-returns-3 c = ap (λ (z : UndoAnswer). flat 5 (ofUndoing z)) (sym (c .enum-told .given .1))
-
-returns-4 : tie.Need-returns-4
-unfolding flat ofUndoing
-returns-4 c = ap (λ (z : UndoAnswer). flat 5 (ofUndoing z)) (sym (c .before .a3 .given .1))
-
 pub of-undoing-spec : {M : Type 1} → statement M
+unfolding flat ofUndoing
 of-undoing-spec =
     tie.close
-    (tie.spec
-    enum-known-a
-    enum-known-a-2
-    enum-told
-    enum-known-a-3
-    returns
-    returns-2
-    returns-3
-    returns-4)
+    (tie.spec (search needs) (search needs) (search needs) (search needs) (λ c. rw (c .before .a .given .1))
+    (λ c. rw (c .before .a2 .given .1)) (λ c. rw (c .enum-told .given .1)) (λ c. rw (c .before .a3 .given .1)))

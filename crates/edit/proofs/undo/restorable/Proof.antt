@@ -5,18 +5,6 @@ use Rattle.edit.proofs.undo.restorable.Statement.{statement}
 use Rattle.edit.proofs.undo.restorable.Tie as tie
 use Rattle.edit.proofs.Calls.{restorable-filled, restorable-not}
 
-filled-requires : tie.Need-filled-requires
-filled-requires c κs = search needs
-
-cast-result : tie.Need-cast-result
-cast-result c = search needs
-
-cast-result-2 : tie.Need-cast-result-2
-cast-result-2 c = search needs
-
-add-result : tie.Need-add-result
-add-result c = search needs
-
 returns : tie.Need-returns
 returns c = restorable-filled (c .before .before .before .before .args .e) (c .before .before .before .before .args .size) _ (c .before .before .filled .ensures) (c .before .if1 .taken)
 
@@ -24,5 +12,4 @@ returns-2 : tie.Need-returns-2
 returns-2 c = restorable-not (c .before .before .before .args .e) (c .before .before .before .args .size) _ (c .before .filled .ensures) (c .if1 .left)
 
 pub restorable-spec : {M : Type 1} → statement M
-restorable-spec =
-    tie.close (tie.spec filled-requires cast-result cast-result-2 add-result returns returns-2)
+restorable-spec = tie.close (tie.spec (search needs) (search needs) (search needs) (search needs) returns returns-2)

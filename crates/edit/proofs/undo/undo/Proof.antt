@@ -17,20 +17,11 @@ returns-2 c = undo-none _ _ _ (omega (arith, c .before .if1 .left)) (c .if2 .tak
 returns-3 : tie.Need-returns-3
 returns-3 c = undo-above _ _ _ (omega (arith, c .before .before .if1 .left)) (c .before .if2 .left) (c .if3 .taken)
 
-sub-last : tie.Need-sub-last
-sub-last c = search needs
-
 entry-at-requires : tie.Need-entry-at-requires
 entry-at-requires c κs = undo-room (now (c .before .before .before .before .before .args .section)) (now (c .before .before .before .before .before .args .journal)) _ (omega (arith, c .before .before .if1 .left)) (c .before .if2 .left) (omega (arith, c .if3 .left))
 
-restorable-requires : tie.Need-restorable-requires
-restorable-requires c κs = search needs
-
 restore-requires : tie.Need-restore-requires
 restore-requires c κs = sym (c .before .before .restorable .ensures) ∙ c .before .if4 .taken
-
-same-length : tie.Need-same-length
-same-length c = search needs
 
 returns-4 : tie.Need-returns-4
 returns-4 c = undo-good _ _ _ (omega (arith, c .before .before .before .before .before .before .before .before .before .if1 .left)) (c .before .before .before .before .before .before .before .before .if2 .left) (omega (arith, c .before .before .before .before .before .before .before .if3 .left)) _ _ _ (c .before .before .before .before .before .before .entry-at .ensures) (c .before .before .before .before .before .restorable .ensures) (c .before .before .before .before .if4 .taken) (c .before .before .restore .ensures)
@@ -41,14 +32,5 @@ returns-5 c = undo-bad _ _ _ (omega (arith, c .before .before .before .before .b
 pub undo-spec : {M : Type 1} → statement M
 undo-spec =
     tie.close
-    (tie.spec
-    returns
-    returns-2
-    returns-3
-    sub-last
-    entry-at-requires
-    restorable-requires
-    restore-requires
-    same-length
-    returns-4
-    returns-5)
+    (tie.spec returns returns-2 returns-3 (search needs) entry-at-requires (search needs) restore-requires (search needs)
+    returns-4 returns-5)

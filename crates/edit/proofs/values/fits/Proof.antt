@@ -3,85 +3,17 @@
 use borrow.Author.Needs.{needs}
 use Rattle.edit.proofs.values.fits.Statement.{statement}
 use Rattle.edit.proofs.values.fits.Tie as tie
-use mathlib.Core.Path.{sym, ap, _∙_}
-use Rattle.bflan.specs.pai1.Places.{fit}
-use Rattle.bflan.specs.declared.place.Field.{Field}
-use Rattle.edit.specs.inner.Packing.{valuesIn}
+use mathlib.Core.Path.{_∙_}
 use Rattle.edit.proofs.Changes.{fit-frames, fit-looping, fit-layer, fit-value}
-
-enum-told : tie.Need-enum-told
-enum-told c = search needs
-
-one-most-requires : tie.Need-one-most-requires
-one-most-requires c κs = search needs
-
-enum-told-2 : tie.Need-enum-told-2
-enum-told-2 c = search needs
-
-one-most-requires-2 : tie.Need-one-most-requires-2
-one-most-requires-2 c κs = search needs
-
-enum-told-3 : tie.Need-enum-told-3
-enum-told-3 c = search needs
-
-one-most-requires-3 : tie.Need-one-most-requires-3
-one-most-requires-3 c κs = search needs
-
-enum-known-f : tie.Need-enum-known-f
-enum-known-f c = search needs
-
-fits-target-requires : tie.Need-fits-target-requires
-fits-target-requires c κs = search needs
-
-enum-known-f-2 : tie.Need-enum-known-f-2
-enum-known-f-2 c = search needs
-
-fits-key-requires : tie.Need-fits-key-requires
-fits-key-requires c κs = search needs
-
-enum-told-4 : tie.Need-enum-told-4
-enum-told-4 c = search needs
-
-one-most-requires-4 : tie.Need-one-most-requires-4
-one-most-requires-4 c κs = search needs
-
-returns : tie.Need-returns
-returns c = c .one-most .ensures ∙ fit-frames _ ∙ sym (ap (λ (x : Field). fit x (valuesIn (c .before .before .before .args .v))) (c .before .enum-told .given .1))
-
-returns-2 : tie.Need-returns-2
-returns-2 c = c .one-most2 .ensures ∙ fit-looping _ ∙ sym (ap (λ (x : Field). fit x (valuesIn (c .before .before .before .args .v))) (c .before .enum-told2 .given .1))
-
-returns-3 : tie.Need-returns-3
-returns-3 c = c .one-most3 .ensures ∙ fit-layer _ ∙ sym (ap (λ (x : Field). fit x (valuesIn (c .before .before .before .args .v))) (c .before .enum-told3 .given .1))
-
-returns-4 : tie.Need-returns-4
-returns-4 c = c .fits-target .ensures ∙ sym (ap (λ (x : Field). fit x (valuesIn (c .before .before .before .before .args .v))) (c .before .before .f .given .1))
-
-returns-5 : tie.Need-returns-5
-returns-5 c = c .fits-key .ensures ∙ sym (ap (λ (x : Field). fit x (valuesIn (c .before .before .before .before .args .v))) (c .before .before .f2 .given .1))
-
-returns-6 : tie.Need-returns-6
-returns-6 c = c .one-most4 .ensures ∙ fit-value _ ∙ sym (ap (λ (x : Field). fit x (valuesIn (c .before .before .before .args .v))) (c .before .enum-told4 .given .1))
 
 pub fits-spec : {M : Type 1} → statement M
 fits-spec =
     tie.close
-    (tie.spec
-    enum-told
-    one-most-requires
-    enum-told-2
-    one-most-requires-2
-    enum-told-3
-    one-most-requires-3
-    enum-known-f
-    fits-target-requires
-    enum-known-f-2
-    fits-key-requires
-    enum-told-4
-    one-most-requires-4
-    returns
-    returns-2
-    returns-3
-    returns-4
-    returns-5
-    returns-6)
+    (tie.spec (search needs) (search needs) (search needs) (search needs) (search needs) (search needs) (search needs)
+    (search needs) (search needs) (search needs) (search needs) (search needs)
+    (λ c. rw (c .before .enum-told .given .1) (c .one-most .ensures ∙ fit-frames _))
+    (λ c. rw (c .before .enum-told2 .given .1) (c .one-most2 .ensures ∙ fit-looping _))
+    (λ c. rw (c .before .enum-told3 .given .1) (c .one-most3 .ensures ∙ fit-layer _))
+    (λ c. rw (c .before .before .f .given .1) (c .fits-target .ensures))
+    (λ c. rw (c .before .before .f2 .given .1) (c .fits-key .ensures))
+    (λ c. rw (c .before .enum-told4 .given .1) (c .one-most4 .ensures ∙ fit-value _)))

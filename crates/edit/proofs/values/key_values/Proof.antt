@@ -3,81 +3,18 @@
 use borrow.Author.Needs.{needs}
 use Rattle.edit.proofs.values.key_values.Statement.{statement}
 use Rattle.edit.proofs.values.key_values.Tie as tie
-use Prim.Native.Nat.{ℕ}
-use mathlib.Core.Path.{sym, ap, _∙_}
-use mathlib.Core.List.{[], _∷_}
 use Rattle.core.specs.Float.{patternOf}
-use Rattle.core.specs.declared.float.HermiteBits.{HermiteBits}
 use Rattle.edit.specs.Editing.{keyWords}
 use Rattle.edit.specs.inner.Packing.{valuesIn}
-use Rattle.edit.proofs.Changes.{step-words}
-
-enum-known-new : tie.Need-enum-known-new
-enum-known-new c = search needs
-
-enum-known-value : tie.Need-enum-known-value
-enum-known-value c = search needs
-
-bits-of-requires : tie.Need-bits-of-requires
-bits-of-requires c κs = search needs
-
-enum-known-value-2 : tie.Need-enum-known-value-2
-enum-known-value-2 c = search needs
-
-enum-known-new-2 : tie.Need-enum-known-new-2
-enum-known-new-2 c = search needs
-
-enum-known-frame : tie.Need-enum-known-frame
-enum-known-frame c = search needs
-
-bits-of-requires-2 : tie.Need-bits-of-requires-2
-bits-of-requires-2 c κs = search needs
-
-enum-known-frame-2 : tie.Need-enum-known-frame-2
-enum-known-frame-2 c = search needs
-
-enum-known-new-3 : tie.Need-enum-known-new-3
-enum-known-new-3 c = search needs
-
-hermite-to-bits-requires : tie.Need-hermite-to-bits-requires
-hermite-to-bits-requires c κs = search needs
-
-returns : tie.Need-returns
-unfolding patternOf valuesIn keyWords
-returns c = ap (λ (a : ℕ). a ∷ []) (c .bits-of .ensures ∙ sym (ap patternOf (c .before .before .value .given .1))) ∙ sym (ap keyWords (c .before .before .before .before .before .new .given .1))
-
-returns-2 : tie.Need-returns-2
-unfolding patternOf valuesIn keyWords
-returns-2 c = ap (λ (a : ℕ). a ∷ []) (sym (ap patternOf (c .before .value2 .given .1))) ∙ sym (ap keyWords (c .before .before .before .before .new .given .1))
-
-returns-3 : tie.Need-returns-3
-unfolding patternOf
-returns-3 c = step-words _ _ _ (c .bits-of2 .ensures ∙ sym (ap patternOf (c .before .before .frame .given .1))) ∙ sym (ap keyWords (c .before .before .before .before .before .new2 .given .1))
-
-returns-4 : tie.Need-returns-4
-unfolding patternOf
-returns-4 c = step-words _ _ _ (sym (ap patternOf (c .before .frame2 .given .1))) ∙ sym (ap keyWords (c .before .before .before .before .new2 .given .1))
-
-returns-5 : tie.Need-returns-5
-unfolding valuesIn keyWords
-returns-5 c = ap (λ (b : HermiteBits). b .0 ∷ b .1 ∷ b .2 ∷ []) (c .hermite-to-bits .ensures) ∙ sym (ap keyWords (c .before .before .new3 .given .1))
 
 pub key-values-spec : {M : Type 1} → statement M
+unfolding valuesIn keyWords patternOf
 key-values-spec =
     tie.close
-    (tie.spec
-    enum-known-new
-    enum-known-value
-    bits-of-requires
-    enum-known-value-2
-    enum-known-new-2
-    enum-known-frame
-    bits-of-requires-2
-    enum-known-frame-2
-    enum-known-new-3
-    hermite-to-bits-requires
-    returns
-    returns-2
-    returns-3
-    returns-4
-    returns-5)
+    (tie.spec (search needs) (search needs) (search needs) (search needs) (search needs) (search needs) (search needs)
+    (search needs) (search needs) (search needs)
+    (λ c. rw (c .before .before .before .before .before .new .given .1, c .before .before .value .given .1, c .bits-of .ensures))
+    (λ c. rw (c .before .before .before .before .new .given .1, c .before .value2 .given .1))
+    (λ c. rw (c .before .before .before .before .before .new2 .given .1, c .before .before .frame .given .1, c .bits-of2 .ensures))
+    (λ c. rw (c .before .before .before .before .new2 .given .1, c .before .frame2 .given .1))
+    (λ c. rw (c .before .before .new3 .given .1, c .hermite-to-bits .ensures)))

@@ -3,31 +3,11 @@
 use borrow.Author.Needs.{needs}
 use Rattle.edit.proofs.values.one_most.Statement.{statement}
 use Rattle.edit.proofs.values.one_most.Tie as tie
-use mathlib.Core.Path.{sym, ap}
-use Rattle.edit.specs.declared.values.Values.{Values}
 use Rattle.edit.specs.inner.Packing.{valuesIn, oneMost}
 
-enum-known-v : tie.Need-enum-known-v
-enum-known-v c = search needs
-
-enum-known-v-2 : tie.Need-enum-known-v-2
-enum-known-v-2 c = search needs
-
-enum-known-v-3 : tie.Need-enum-known-v-3
-enum-known-v-3 c = search needs
-
-returns : tie.Need-returns
-unfolding valuesIn oneMost
-returns c = sym (ap (λ (x : Values). oneMost (valuesIn x) (c .before .before .before .args .most)) (c .before .v .given .1))
-
-returns-2 : tie.Need-returns-2
-unfolding valuesIn oneMost
-returns-2 c = sym (ap (λ (x : Values). oneMost (valuesIn x) (c .before .before .before .args .most)) (c .before .v2 .given .1))
-
-returns-3 : tie.Need-returns-3
-unfolding valuesIn oneMost
-returns-3 c = sym (ap (λ (x : Values). oneMost (valuesIn x) (c .before .before .before .args .most)) (c .before .v3 .given .1))
-
 pub one-most-spec : {M : Type 1} → statement M
+unfolding valuesIn oneMost
 one-most-spec =
-    tie.close (tie.spec enum-known-v enum-known-v-2 enum-known-v-3 returns returns-2 returns-3)
+    tie.close
+    (tie.spec (search needs) (search needs) (search needs) (λ c. rw (c .before .v .given .1)) (λ c. rw (c .before .v2 .given .1))
+    (λ c. rw (c .before .v3 .given .1)))

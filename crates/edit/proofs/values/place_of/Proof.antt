@@ -3,64 +3,12 @@
 use borrow.Author.Needs.{needs}
 use Rattle.edit.proofs.values.place_of.Statement.{statement}
 use Rattle.edit.proofs.values.place_of.Tie as tie
-use mathlib.Core.Path.{sym, ap}
 use Rattle.edit.specs.Editing.{placeOf}
 
-enum-known-change : tie.Need-enum-known-change
-enum-known-change c = search needs
-
-enum-known-change-2 : tie.Need-enum-known-change-2
-enum-known-change-2 c = search needs
-
-enum-known-change-3 : tie.Need-enum-known-change-3
-enum-known-change-3 c = search needs
-
-enum-known-change-4 : tie.Need-enum-known-change-4
-enum-known-change-4 c = search needs
-
-enum-known-change-5 : tie.Need-enum-known-change-5
-enum-known-change-5 c = search needs
-
-enum-known-change-6 : tie.Need-enum-known-change-6
-enum-known-change-6 c = search needs
-
-returns : tie.Need-returns
-unfolding placeOf
-returns c = sym (ap placeOf (c .before .change .given .1))
-
-returns-2 : tie.Need-returns-2
-unfolding placeOf
-returns-2 c = sym (ap placeOf (c .before .change2 .given .1))
-
-returns-3 : tie.Need-returns-3
-unfolding placeOf
-returns-3 c = sym (ap placeOf (c .before .change3 .given .1))
-
-returns-4 : tie.Need-returns-4
-unfolding placeOf
-returns-4 c = sym (ap placeOf (c .before .change4 .given .1))
-
-returns-5 : tie.Need-returns-5
-unfolding placeOf
-returns-5 c = sym (ap placeOf (c .before .change5 .given .1))
-
-returns-6 : tie.Need-returns-6
-unfolding placeOf
-returns-6 c = sym (ap placeOf (c .before .change6 .given .1))
-
 pub place-of-spec : {M : Type 1} → statement M
+unfolding placeOf
 place-of-spec =
     tie.close
-    (tie.spec
-    enum-known-change
-    enum-known-change-2
-    enum-known-change-3
-    enum-known-change-4
-    enum-known-change-5
-    enum-known-change-6
-    returns
-    returns-2
-    returns-3
-    returns-4
-    returns-5
-    returns-6)
+    (tie.spec (search needs) (search needs) (search needs) (search needs) (search needs) (search needs)
+    (λ c. rw (c .before .change .given .1)) (λ c. rw (c .before .change2 .given .1)) (λ c. rw (c .before .change3 .given .1))
+    (λ c. rw (c .before .change4 .given .1)) (λ c. rw (c .before .change5 .given .1)) (λ c. rw (c .before .change6 .given .1)))

@@ -3,78 +3,24 @@
 use borrow.Author.Needs.{needs}
 use Rattle.edit.proofs.values.size_of.Statement.{statement}
 use Rattle.edit.proofs.values.size_of.Tie as tie
-use Prim.Native.Nat.{ℕ}
-use mathlib.Core.Path.{sym, ap, _∙_}
-use Rattle.bflan.specs.declared.place.Field.{Field}
 use Rattle.bflan.specs.pai1.Places.{widths, total}
 use Rattle.bflan.specs.pai1.Record.{keyWidths}
 use Rattle.edit.proofs.Changes.{size-rest}
 
-enum-told : tie.Need-enum-told
-enum-told c = search needs
-
-enum-told-2 : tie.Need-enum-told-2
-enum-told-2 c = search needs
-
-enum-told-3 : tie.Need-enum-told-3
-enum-told-3 c = search needs
-
-enum-known-f : tie.Need-enum-known-f
-enum-known-f c = search needs
-
-enum-known-f-2 : tie.Need-enum-known-f-2
-enum-known-f-2 c = search needs
-
-enum-told-4 : tie.Need-enum-told-4
-enum-told-4 c = search needs
-
-returns : tie.Need-returns
-unfolding widths total
-returns c = sym (ap (λ (x : Field). total (widths x)) (c .enum-told .given .1))
-
-returns-2 : tie.Need-returns-2
-unfolding widths total
-returns-2 c = sym (ap (λ (x : Field). total (widths x)) (c .enum-told2 .given .1))
-
 returns-3 : tie.Need-returns-3
 unfolding widths total
-returns-3 c = sym (ap (λ (x : Field). total (widths x)) (c .enum-told3 .given .1))
-
-returns-4 : tie.Need-returns-4
-unfolding widths total
-returns-4 c = sym (ap (λ (x : Field). total (widths x)) (c .before .f .given .1))
-
-returns-5 : tie.Need-returns-5
-unfolding widths total keyWidths
-returns-5 c = sym (ap (λ (x : Field). total (widths x)) (c .before .before .f2 .given .1) ∙ ap (λ (c : ℕ). total (keyWidths c)) (c .match2 .keys1))
+returns-3 c = rw (c .enum-told3 .given .1)
 
 returns-6 : tie.Need-returns-6
 unfolding widths total keyWidths
-returns-6 c = sym (ap (λ (x : Field). total (widths x)) (c .before .before .f2 .given .1) ∙ ap (λ (c : ℕ). total (keyWidths c)) (c .match2 .keys2))
-
-returns-7 : tie.Need-returns-7
-unfolding widths
-returns-7 c = size-rest _ (c .match2 .rest .0 .1) (c .match2 .rest .1) ∙ sym (ap (λ (x : Field). total (widths x)) (c .before .before .f2 .given .1))
-
-returns-8 : tie.Need-returns-8
-unfolding widths total
-returns-8 c = sym (ap (λ (x : Field). total (widths x)) (c .enum-told4 .given .1))
+returns-6 c = rw (c .before .before .f2 .given .1, c .match2 .keys2)
 
 pub size-of-spec : {M : Type 1} → statement M
+unfolding widths total keyWidths
 size-of-spec =
     tie.close
-    (tie.spec
-    enum-told
-    enum-told-2
-    enum-told-3
-    enum-known-f
-    enum-known-f-2
-    enum-told-4
-    returns
-    returns-2
-    returns-3
-    returns-4
-    returns-5
-    returns-6
-    returns-7
-    returns-8)
+    (tie.spec (search needs) (search needs) (search needs) (search needs) (search needs) (search needs)
+    (λ c. rw (c .enum-told .given .1)) (λ c. rw (c .enum-told2 .given .1)) returns-3 (λ c. rw (c .before .f .given .1))
+    (λ c. rw (c .before .before .f2 .given .1, c .match2 .keys1)) returns-6
+    (λ c. rw (c .before .before .f2 .given .1) (size-rest _ (c .match2 .rest .0 .1) (c .match2 .rest .1)))
+    (λ c. rw (c .enum-told4 .given .1)))

@@ -3,69 +3,14 @@
 use borrow.Author.Needs.{needs}
 use Rattle.edit.proofs.values.values_of.Statement.{statement}
 use Rattle.edit.proofs.values.values_of.Tie as tie
-use mathlib.Core.Path.{sym, ap, _∙_}
 use Rattle.edit.specs.Editing.{valuesOf}
 use Rattle.edit.specs.inner.Packing.{valuesIn}
 
-enum-known-change : tie.Need-enum-known-change
-enum-known-change c = search needs
-
-enum-known-change-2 : tie.Need-enum-known-change-2
-enum-known-change-2 c = search needs
-
-enum-known-change-3 : tie.Need-enum-known-change-3
-enum-known-change-3 c = search needs
-
-enum-known-change-4 : tie.Need-enum-known-change-4
-enum-known-change-4 c = search needs
-
-enum-known-change-5 : tie.Need-enum-known-change-5
-enum-known-change-5 c = search needs
-
-key-values-requires : tie.Need-key-values-requires
-key-values-requires c κs = search needs
-
-enum-known-change-6 : tie.Need-enum-known-change-6
-enum-known-change-6 c = search needs
-
-returns : tie.Need-returns
-unfolding valuesIn valuesOf
-returns c = sym (ap valuesOf (c .before .change .given .1))
-
-returns-2 : tie.Need-returns-2
-unfolding valuesIn valuesOf
-returns-2 c = sym (ap valuesOf (c .before .change2 .given .1))
-
-returns-3 : tie.Need-returns-3
-unfolding valuesIn valuesOf
-returns-3 c = sym (ap valuesOf (c .before .change3 .given .1))
-
-returns-4 : tie.Need-returns-4
-unfolding valuesIn valuesOf
-returns-4 c = sym (ap valuesOf (c .before .change4 .given .1))
-
-returns-5 : tie.Need-returns-5
-unfolding valuesOf
-returns-5 c = c .key-values .ensures ∙ sym (ap valuesOf (c .before .before .change5 .given .1))
-
-returns-6 : tie.Need-returns-6
-unfolding valuesIn valuesOf
-returns-6 c = sym (ap valuesOf (c .before .change6 .given .1))
-
 pub values-of-spec : {M : Type 1} → statement M
+unfolding valuesIn valuesOf
 values-of-spec =
     tie.close
-    (tie.spec
-    enum-known-change
-    enum-known-change-2
-    enum-known-change-3
-    enum-known-change-4
-    enum-known-change-5
-    key-values-requires
-    enum-known-change-6
-    returns
-    returns-2
-    returns-3
-    returns-4
-    returns-5
-    returns-6)
+    (tie.spec (search needs) (search needs) (search needs) (search needs) (search needs) (search needs) (search needs)
+    (λ c. rw (c .before .change .given .1)) (λ c. rw (c .before .change2 .given .1)) (λ c. rw (c .before .change3 .given .1))
+    (λ c. rw (c .before .change4 .given .1)) (λ c. rw (c .before .before .change5 .given .1) (c .key-values .ensures))
+    (λ c. rw (c .before .change6 .given .1)))

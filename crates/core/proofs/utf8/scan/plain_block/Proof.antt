@@ -5,11 +5,8 @@ use borrow.Author.Tests.{eq-eqb, ne-eqb}
 use Rattle.core.proofs.utf8.scan.plain_block.Statement.{statement}
 use Rattle.core.proofs.utf8.scan.plain_block.Tie as tie
 
-returns : tie.Need-returns
-returns c = rw (eq-eqb _ _ (c .before .if1 .taken)) (c .ascii-in .ensures)
-
-returns-2 : tie.Need-returns-2
-returns-2 c = rw (ne-eqb _ _ (c .if1 .left))
-
 pub plain-block-spec : {M : Type 1} → statement M
-plain-block-spec = tie.close (tie.spec (search needs) returns returns-2)
+plain-block-spec =
+    tie.close
+    (tie.spec (search needs) (λ c. rw (eq-eqb _ _ (c .before .if1 .taken)) (c .ascii-in .ensures))
+    (λ c. rw (ne-eqb _ _ (c .if1 .left))))

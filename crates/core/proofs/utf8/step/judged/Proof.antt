@@ -6,11 +6,8 @@ use borrow.Author.Needs.{needs}
 use Rattle.core.proofs.utf8.step.judged.Statement.{statement}
 use Rattle.core.proofs.utf8.step.judged.Tie as tie
 
-returns : tie.Need-returns
-returns c = rw (eq-eqb _ _ (c .if1 .taken), add-one)
-
-returns-2 : tie.Need-returns-2
-returns-2 c = rw (ne-eqb _ _ (c .if1 .left), add-one)
-
 pub judged-spec : {M : Type 1} → statement M
-judged-spec = tie.close (tie.spec (search needs) (search needs) returns returns-2)
+judged-spec =
+    tie.close
+    (tie.spec (search needs) (search needs) (λ c. rw (eq-eqb _ _ (c .if1 .taken), add-one))
+    (λ c. rw (ne-eqb _ _ (c .if1 .left), add-one)))
