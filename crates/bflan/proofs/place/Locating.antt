@@ -38,15 +38,15 @@ use Rattle.bflan.specs.declared.reader.tally.Walk.the-variants.{Went, St
 use Rattle.bflan.proofs.read.Answers.{told-answer, stopped, whole}
 use Rattle.bflan.specs.pai1.RecordAt.{nameSize}
 use Rattle.bflan.specs.inner.SectionParts.{afterHead}
-use Rattle.bflan.proofs.reader.ContentParts.{contentAfter, widths as contentWidths}
-use Rattle.bflan.proofs.reader.DatumParts.{fieldsIn, datumAfter, widths as datumWidths}
+use Rattle.bflan.proofs.reader.ContentParts.{contentAfter, contentWidths}
+use Rattle.bflan.proofs.reader.DatumParts.{fieldsIn, datumAfter, datumWidths}
 use Rattle.bflan.proofs.reader.Emits.{sought-there, sought-over}
 use Rattle.bflan.proofs.place.Fields.{and-left, and-right}
-use Rattle.bflan.proofs.reader.InfoParts.{infoAfter, widths as infoWidths}
+use Rattle.bflan.proofs.reader.InfoParts.{infoAfter, infoWidths}
 use Rattle.bflan.proofs.reader.KeyRuns.{many-on}
 use Rattle.bflan.proofs.reader.Rows.{rowThen, fieldsAt}
-use Rattle.bflan.proofs.reader.SectionParts.{headOf, widths as headWidths}
-use Rattle.bflan.proofs.reader.TargetParts.{targetAfter, widths as targetWidths}
+use Rattle.bflan.proofs.reader.SectionParts.{headOf, headWidths}
+use Rattle.bflan.proofs.reader.TargetParts.{targetAfter, targetWidths}
 use Rattle.bflan.proofs.reader.Unstopped.{If, if-ok, yes, no, weaker, sure, next, after, number, head, sought, table, name, visited}
 use Rattle.bflan.proofs.reader.Walks.{before, on-no, on-place}
 

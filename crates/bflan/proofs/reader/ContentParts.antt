@@ -61,8 +61,8 @@ contentAfter base name vs =
     _>>=_ (infoTable base (getD vs 1 0))
     (λ at. _>>=_ (numbers (getD vs 0 0)) (λ offsets. _>>=_ (visit base info offsets) (λ is. ret (name ∷ word (typeOf (getD vs 1 0)) ∷ word (getD vs 0 0) ∷ is))))
 
-abbrev pub widths : List ℕ
-widths = 1 ∷ 1 ∷ 2 ∷ []
+abbrev pub contentWidths : List ℕ
+contentWidths = 1 ∷ 1 ∷ 2 ∷ []
 
 module _ (base : ℕ) (s : List ℕ) (i : ℕ) where
   whole-name : base + 28 ≤ length s → fixedText 28 s base ≡ ok (text base (nameSize s base)) (base + 28)
@@ -84,9 +84,9 @@ module _ (base : ℕ) (s : List ℕ) (i : ℕ) where
     content-unended a f = rw (sought-on s base i p e, f)
 
     -- its three numbers are a row
-    pub content-short : {len q : ℕ} {a : Fault} → fixedOf 28 s p ≡ Text len q → length s < q + 4 → a ≡ cutIn widths s q → content base s i ≡ stop a
+    pub content-short : {len q : ℕ} {a : Fault} → fixedOf 28 s p ≡ Text len q → length s < q + 4 → a ≡ cutIn contentWidths s q → content base s i ≡ stop a
     unfolding content fixedText rowThen total
-    content-short {len} {q} f h d = rw (d, sought-on s base i p e, f) (row-cut s widths (contentAfter base (text p len)) q (omega arith) h)
+    content-short {len} {q} f h d = rw (d, sought-on s base i p e, f) (row-cut s contentWidths (contentAfter base (text p len)) q (omega arith) h)
 
   -- ---- behind them
 
@@ -100,7 +100,7 @@ module _ (base : ℕ) (s : List ℕ) (i : ℕ) where
 
   pub content-there : base + 32 ≤ length s → content base s i ≡ contentRest (get 1 s (base + 28)) (get 1 s (base + 29))
   unfolding content rowThen total fieldsAt
-  content-there h = rw (sought-there s base i (omega arith), whole-name (omega arith)) (row-there s widths (contentAfter base (text base (nameSize s base))) base 28 h)
+  content-there h = rw (sought-there s base i (omega arith), whole-name (omega arith)) (row-there s contentWidths (contentAfter base (text base (nameSize s base))) base 28 h)
 
   pub rest-at : (n type q : ℕ) → infoTable base type s (base + 32) ≡ ok q q → contentRest n type ≡ contentTable n type q
   rest-at n type q e = rw e
