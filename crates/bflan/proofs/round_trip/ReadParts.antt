@@ -33,7 +33,7 @@ use Rattle.bflan.proofs.reader.InfoParts.{infoAfter, infoWidths}
 use Rattle.bflan.proofs.reader.Rows.{rowThen, fieldsAt}
 use Rattle.bflan.proofs.reader.SectionParts.{headOf, headWidths}
 use Rattle.bflan.proofs.reader.TargetParts.{targetAfter, targetWidths}
-use Rattle.bflan.proofs.reader.Unstopped.{If, if-ok, yes, next, after, number, head, sought, table, name}
+use Rattle.bflan.proofs.reader.Unstopped.{If, if-ok, yes, no, next, after, number, head, sought, table, name}
 use Rattle.bflan.proofs.round_trip.ReadBack.{shownIn, shown-append, shown-words}
 
 module _ (s : List ℕ) where
@@ -81,8 +81,8 @@ module _ (s : List ℕ) where
     where
       go : (r : TextAt) → endedOf s i ≡ r → If (Shows textCells (endedAt s i)) (andThen (asText i r) (λ t. ret (t ∷ [])) s)
       go (Text n q) e = yes (rw (ended-text s i n q e .text))
-      go (TextPast o k) e = record { holds = tt }
-      go (Unended a) e = record { holds = tt }
+      go (TextPast o k) e = no _
+      go (Unended a) e = no _
 
   texture-shown : (b i : ℕ) → If (Shows textCells (endedAt s b)) (texture b s i)
   unfolding texture
@@ -231,7 +231,7 @@ module _ (s : List ℕ) where
     where
       kind : (t : Bool) → If (Shows cells (recordAt s)) (given t (body (get 4 s 4)) (fail (OtherLetters (get 4 s 0))) s 8)
       kind true = body-shown (get 4 s 4)
-      kind false = record { holds = tt }
+      kind false = no _
 
   -- what reads is the record that the bytes are
   pub section-shown : (is : List Item) (end : ℕ) → section s 0 ≡ ok is end → shownIn s is ≡ cells (recordAt s)
