@@ -27,13 +27,13 @@ use Rattle.bflan.specs.Cells.{Cell, word as wordCell, chars, each, textC
 use Rattle.bflan.specs.Items.{shownAt}
 use Rattle.bflan.proofs.place.Locating.{stride-three, table-at}
 use Rattle.bflan.specs.inner.SectionParts.{afterHead}
-use Rattle.bflan.proofs.reader.ContentParts.{contentAfter, contentWidths}
+use Rattle.bflan.proofs.reader.ContentParts.{name, contentAfter, contentWidths}
 use Rattle.bflan.proofs.reader.DatumParts.{fieldsIn, datumAfter, datumWidths}
 use Rattle.bflan.proofs.reader.InfoParts.{infoAfter, infoWidths}
 use Rattle.bflan.proofs.reader.Rows.{rowThen, fieldsAt}
 use Rattle.bflan.proofs.reader.SectionParts.{headOf, headWidths}
 use Rattle.bflan.proofs.reader.TargetParts.{targetAfter, targetWidths}
-use Rattle.bflan.proofs.reader.Unstopped.{If, if-ok, yes, no, next, after, number, head, sought, table, name}
+use Rattle.bflan.proofs.reader.Unstopped.{If, if-ok, yes, no, next, after, number, head, sought, table}
 use Rattle.bflan.proofs.round_trip.ReadBack.{shownIn, shown-append, shown-words}
 
 module _ (s : List ℕ) where
