@@ -173,7 +173,7 @@ module _ (s : List ℕ) where
 
   section-if : If (λ is j. SectionAt s) (section s 0)
   unfolding section
-  section-if = number s 4 0 4 _ refl (λ l4. number s 4 4 8 _ refl (λ l8. kind (eqb (get 4 s 0) ownLetters)))
+  section-if = number s 4 0 _ (λ l4. number s 4 4 _ (λ l8. kind (eqb (get 4 s 0) ownLetters)))
     where
       kind : (t : Bool) → If (λ is j. SectionAt s) (given t (body (get 4 s 4)) (fail (OtherLetters (get 4 s 0))) s 8)
       kind true = body-at (get 4 s 4)

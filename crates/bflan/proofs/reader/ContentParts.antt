@@ -163,7 +163,7 @@ module _ (base type : ℕ) (s : List ℕ) (p : ℕ) where
     where
       kind : (t : Bool) → eqb type 2 ≡ t
           → If (λ v j. (j ≡ pick t (base + get 4 s p) p) × (pick t (base + get 4 s p) p ≤ length s) × (type ≡ 2 → p + 4 ≤ length s)) (given t (_>>=_ (num 4) (λ offset. seekTo (base + offset))) here s p)
-      kind true e = number s 4 p (p + 4) _ refl (λ l. weaker _ (landed s (base + get 4 s p) (p + 4)) (λ v j k. (k .1, k .2, λ x. l)))
+      kind true e = number s 4 p _ (λ l. weaker _ (landed s (base + get 4 s p) (p + 4)) (λ v j k. (k .1, k .2, λ x. l)))
       kind false e = yes (refl, h, λ x. absurd (eqb-false type 2 e x))
 
   pub table-within : (q : ℕ) → p ≤ length s → infoTable base type s p ≡ ok q q → q ≤ length s

@@ -69,11 +69,11 @@ landed s to i = go (leb to (length s)) refl
     go false t = rw (sought-over s to i (leb-false to (length s) t)) (no _)
 
 module _ (s : List ℕ) {B : Type 0} {Q : B → ℕ → Type 0} where
-  pub number : (k i p : ℕ) (q : ℕ → P B) → i + k ≡ p → (p ≤ length s → If Q (q (get k s i) s p)) → If Q (andThen (num k s i) q s)
-  number k i p q e f = go (leb (i + k) (length s)) refl
+  pub number : (k i : ℕ) (q : ℕ → P B) → (i + k ≤ length s → If Q (q (get k s i) s (i + k))) → If Q (andThen (num k s i) q s)
+  number k i q f = go (leb (i + k) (length s)) refl
     where
       go : (b : Bool) → leb (i + k) (length s) ≡ b → If Q (andThen (num k s i) q s)
-      go true t = let h = leb-true (i + k) (length s) t in rw (num-there k s i h, e) (f (omega (arith, h, e)))
+      go true t = let h = leb-true (i + k) (length s) t in rw (num-there k s i h) (f h)
       go false t = rw (num-short k s i (leb-false (i + k) (length s) t)) (no _)
 
   -- a head of fixed fields, whose first number stands o behind b

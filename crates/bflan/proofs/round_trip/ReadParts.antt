@@ -136,7 +136,7 @@ module _ (s : List ℕ) where
   datum-shown p =
       head s datumWidths (λ vs. datumAfter (fieldsIn vs)) p 0 (omega arith) (λ l16.
       table s (3 * get 4 s (p + 8)) (p + 16) _ l16 (λ l.
-      number s 4 (p + 16 + 4 * (3 * get 4 s (p + 8))) (p + 16 + 4 * (3 * get 4 s (p + 8)) + 4) _ refl (λ m.
+      number s 4 (p + 16 + 4 * (3 * get 4 s (p + 8))) _ (λ m.
       sought s (p + 16 + 4 * (3 * get 4 s (p + 8)) + get 4 s (p + 16 + 4 * (3 * get 4 s (p + 8)))) (p + 16 + 4 * (3 * get 4 s (p + 8)) + 4) _ (λ k.
       after s (oneEnded s (p + 16 + 4 * (3 * get 4 s (p + 8)) + get 4 s (p + 16 + 4 * (3 * get 4 s (p + 8))))) _
       (ended-shown (p + 16 + 4 * (3 * get 4 s (p + 8)) + get 4 s (p + 16 + 4 * (3 * get 4 s (p + 8)))))
@@ -227,7 +227,7 @@ module _ (s : List ℕ) where
 
   section-shows : If (Shows cells (recordAt s)) (section s 0)
   unfolding section
-  section-shows = number s 4 0 4 _ refl (λ l4. number s 4 4 8 _ refl (λ l8. kind (eqb (get 4 s 0) ownLetters)))
+  section-shows = number s 4 0 _ (λ l4. number s 4 4 _ (λ l8. kind (eqb (get 4 s 0) ownLetters)))
     where
       kind : (t : Bool) → If (Shows cells (recordAt s)) (given t (body (get 4 s 4)) (fail (OtherLetters (get 4 s 0))) s 8)
       kind true = body-shown (get 4 s 4)
