@@ -19,16 +19,16 @@ use Rattle.bflan.specs.Judge.{Judged, fine, badWord, badText, J, andThen
 use Rattle.bflan.specs.pai1.Judge.{target, datum, info, content, pane}
 use Rattle.bflan.specs.pai1.Letters.{fleu}
 use Rattle.bflan.specs.Layout.{zeros, number, size, parts, ended}
-use Rattle.bflan.specs.pai1.Layout.{targetLay, datumLay, infoHead, infoLay, infosOut, tableFrom, infosFrom, contentBody, contentLay, namesEnd, contentTable, sectionLay, keySkip, keyLay}
+use Rattle.bflan.specs.pai1.Layout.{targetLay, datumLay, infoHead, infoLay, infosOut, tableFrom, infosFrom, contentBody, contentLay, namesEnd, contentTable, sectionSize, sectionLay, keySkip, keyLay}
 use Rattle.bflan.specs.inner.Measure.{verdictOf}
 use Rattle.bflan.specs.inner.Measure.{fits, grown, filledUp, padded}
 use Rattle.bflan.specs.inner.JudgeParts.{ValuesAndKey, valuesAndKey, afterName, afterHead}
 use Rattle.bflan.specs.pai1.Places.{total}
 use Rattle.bflan.specs.pai1.Record.{AnimTarget, Standard, AnimInfo, AnimContent, PaneAnimInfo, keyWidths}
 use Rattle.bflan.specs.inner.Walk.{sat}
-use Rattle.bflan.proofs.Layouts.{size-row, size-table, user-size}
+use Rattle.bflan.proofs.Layouts.{size-row, size-table, user-size, section-size}
 use Rattle.bflan.proofs.judge.Inversion.{times-length, targetTests, targetThen, datumTests, datumThen, infoTests, infoThen, namedTests, namedThen, paneTests, paneThen}
-use Rattle.bflan.proofs.judge.Measures.{testsThen, Tested, Fitting, tests-fine, bad-at, marked, measured-padded, sat-filled, grown-sat, was-word, was-text, was-fine, measured-by, measured-grown, measured-made, then-grown, word-fine, word-bad, times-none, times-turn, steps-as, steps-word, steps-row, steps-times, ran, steps-measured, size-parts, size-numbers}
+use Rattle.bflan.proofs.judge.Measures.{testsThen, Tested, Fitting, tests-fine, bad-at, marked, measured-padded, sat-filled, grown-sat, was-word, was-text, was-then, measured-by, measured-grown, measured-made, then-grown, word-fine, word-bad, times-none, times-turn, steps-as, steps-word, steps-row, steps-times, ran, steps-measured, size-parts, size-numbers}
 
 -- ---- texts
 
@@ -201,12 +201,10 @@ module _ (n : ℕ) (w x : List ℕ) (i j : ℕ) where
   pub behind-fine : (m : Mark) (v : Verdict) → verdictOf (λ vs. size (parts (number 4) vs)) (times n (nextWord (wide 4)) w x i j) ≡ Fine m
       → v ≡ verdictOf (λ t. size (ended t)) (nextText (wide 4) w x (m .word) (m .byte)) → grown (m .size) v ≡ verdictOf behindSize (valuesAndKey n w x i j)
   unfolding valuesAndKey
-  behind-fine m v e ev = let z = was-fine (λ vs. size (parts (number 4) vs)) (times n (nextWord (wide 4)) w x i j) m e in go (z .value) (z .is) (z .sized)
-    where
-      go : (vs : List ℕ) → times n (nextWord (wide 4)) w x i j ≡ fine vs (m .word) (m .byte) → m .size ≡ sat (size (parts (number 4) vs)) → grown (m .size) v ≡ verdictOf behindSize (valuesAndKey n w x i j)
-      go vs is sized =
-          ap (λ (k : ℕ). grown k v) sized ∙ grown-sat (size (parts (number 4) vs)) v
-          ∙ rw is (then-grown behindSize (λ t. size (ended t)) (nextText (wide 4) w x (m .word) (m .byte)) w x (size (parts (number 4) vs)) v _ ev (λ t u u′ d. refl))
+  behind-fine m v e ev =
+      was-then (λ vs. size (parts (number 4) vs)) (times n (nextWord (wide 4)) w x i j) m e λ vs is sized.
+      ap (λ (k : ℕ). grown k v) sized ∙ grown-sat (size (parts (number 4) vs)) v
+      ∙ rw is (then-grown behindSize (λ t. size (ended t)) (nextText (wide 4) w x (m .word) (m .byte)) w x (size (parts (number 4) vs)) v _ ev (λ t u u′ d. refl))
 
 module _ (w x : List ℕ) (i j : ℕ) where
   pub datum-bad : {k : ℕ} → Tested datumTests datumThen w x i j (badWord k) → BadWord k ≡ verdictOf (λ d. size (datumLay d)) (datum w x i j)
@@ -308,10 +306,9 @@ module _ (w x : List ℕ) (i j : ℕ) where
   pub content-fine : (m : Mark) (v : Verdict) → verdictOf (λ (t : List ℕ). length t) (nextText (λ n. leb n 28) w x i j) ≡ Fine m
       → ((name : List ℕ) → length name ≤ 28 → v ≡ verdictOf (λ c. size (contentLay c)) (afterName name w x (m .word) (m .byte))) → v ≡ verdictOf (λ c. size (contentLay c)) (content w x i j)
   unfolding content afterName
-  content-fine m v e f = let z = was-fine (λ (t : List ℕ). length t) (nextText (λ n. leb n 28) w x i j) m e in go (z .value) (z .is)
-    where
-      go : (name : List ℕ) → nextText (λ n. leb n 28) w x i j ≡ fine name (m .word) (m .byte) → v ≡ verdictOf (λ c. size (contentLay c)) (content w x i j)
-      go name is = rw is (f name (leb-true (length name) 28 (text-fits (λ n. leb n 28) w x i j name (m .word) (m .byte) is)))
+  content-fine m v e f =
+      was-then (λ (t : List ℕ). length t) (nextText (λ n. leb n 28) w x i j) m e λ name is sized.
+      rw is (f name (leb-true (length name) 28 (text-fits (λ n. leb n 28) w x i j name (m .word) (m .byte) is)))
 
 -- ---- the end
 
@@ -341,27 +338,20 @@ module _ {A : Type 0} (s : A → ℕ) (p : J A) (w x : List ℕ) (i j : ℕ) whe
   pub whole-fine : (m : Mark) (v : Verdict) → verdictOf s (p w x i j) ≡ Fine m → v ≡ verdictOf (λ z. 0) (ends w x (m .word) (m .byte))
       → grown (m .size) v ≡ verdictOf s (whole p w x i j)
   unfolding whole
-  whole-fine m v e ev = let z = was-fine s (p w x i j) m e in go (z .value) (z .is) (z .sized)
-    where
-      go : (a : A) → p w x i j ≡ fine a (m .word) (m .byte) → m .size ≡ sat (s a) → grown (m .size) v ≡ verdictOf s (whole p w x i j)
-      go a is sized =
-          ap (λ (k : ℕ). grown k v) sized ∙ grown-sat (s a) v
-          ∙ rw is (then-grown s (λ z. 0) (ends w x (m .word) (m .byte)) w x (s a) v (λ z. a) ev (λ z u u′ d. omega arith))
+  whole-fine m v e ev =
+      was-then s (p w x i j) m e λ a is sized.
+      ap (λ (k : ℕ). grown k v) sized ∙ grown-sat (s a) v
+      ∙ rw is (then-grown s (λ z. 0) (ends w x (m .word) (m .byte)) w x (s a) v (λ z. a) ev (λ z u u′ d. omega arith))
 
 -- ---- a section
 
 abbrev made : ℕ → ℕ → List (List ℕ) → List AnimContent → PaneAnimInfo
 made frames looping ts cs = record { frames = frames; looping = looping; textures = ts; contents = cs }
 
-section-size : (r : PaneAnimInfo)
+filled-size : (r : PaneAnimInfo)
     → filledUp (20 + (4 * length (r .textures) + size (parts ended (r .textures)))) + 4 * length (r .contents) + size (parts contentLay (r .contents)) ≡ size (sectionLay r)
-unfolding sectionLay contentTable namesEnd size filledUp
-section-size r =
-    let n : ℕ = 20 + (4 * length (r .textures) + size (parts ended (r .textures))) in
-    let z : length (replicate {A = ℕ} (paddingOf n) 0) ≡ paddingOf n = length-replicate (paddingOf n) 0 in
-    let a = size-table ended (4 * length (r .textures)) (r .textures) in
-    let b = size-table contentLay (contentTable r + 4 * length (r .contents)) (r .contents) in
-    omega (arith, z, a, b)
+unfolding sectionSize contentTable namesEnd filledUp
+filled-size r = omega (arith, section-size r)
 
 module _ (frames looping nt nc : ℕ) (w x : List ℕ) (i j : ℕ) where
   pub headed-word : (k : ℕ) → verdictOf (λ ts. size (parts ended ts)) (times nt (nextText (wide 4)) w x i j) ≡ BadWord k → BadWord k ≡ verdictOf (λ (a : PaneAnimInfo). size (sectionLay a)) (afterHead frames looping nt nc w x i j)
@@ -376,22 +366,19 @@ module _ (frames looping nt nc : ℕ) (w x : List ℕ) (i j : ℕ) where
       → k ≡ sat (t + 4 * nc) → v ≡ verdictOf (λ cs. size (parts contentLay cs)) (times nc content w x (m .word) (m .byte))
       → grown k v ≡ verdictOf (λ (a : PaneAnimInfo). size (sectionLay a)) (afterHead frames looping nt nc w x i j)
   unfolding afterHead
-  headed-fine m t k v e et ek ev = let z = was-fine (λ ts. size (parts ended ts)) (times nt (nextText (wide 4)) w x i j) m e in go (z .value) (z .is) (z .sized)
-    where
-      go : (ts : List (List ℕ)) → times nt (nextText (wide 4)) w x i j ≡ fine ts (m .word) (m .byte) → m .size ≡ sat (size (parts ended ts))
-          → grown k v ≡ verdictOf (λ (a : PaneAnimInfo). size (sectionLay a)) (afterHead frames looping nt nc w x i j)
-      go ts is sized =
-          let l = times-length (nextText (wide 4)) w x nt i j is in
-          let n : ℕ = 20 + (4 * length ts + size (parts ended ts)) in
-          let o : ℕ = 20 + (4 * nt + m .size) in
-          let s : sat o ≡ sat n = omega (arith, sized, l) in
-          let q : t ≡ sat (filledUp n) = et ∙ sym (sat-filled o) ∙ ap (λ (z : ℕ). sat (filledUp z)) s ∙ sat-filled n in
-          let f : ℕ = filledUp n in
-          let d : k ≡ sat (f + 4 * nc) = omega (arith, ek, q) in
-          ap (λ (k : ℕ). grown k v) d ∙ grown-sat (f + 4 * nc) v
-          ∙ rw is
-          (then-grown (λ (a : PaneAnimInfo). size (sectionLay a)) (λ cs. size (parts contentLay cs)) (times nc content w x (m .word) (m .byte)) w x (f + 4 * nc) v (made frames looping ts) ev
-          (λ cs u u′ d. ap (λ (k : ℕ). f + 4 * k + size (parts contentLay cs)) (sym (times-length content w x nc (m .word) (m .byte) d)) ∙ section-size (made frames looping ts cs)))
+  headed-fine m t k v e et ek ev =
+      was-then (λ ts. size (parts ended ts)) (times nt (nextText (wide 4)) w x i j) m e λ ts is sized.
+      let l = times-length (nextText (wide 4)) w x nt i j is in
+      let n : ℕ = 20 + (4 * length ts + size (parts ended ts)) in
+      let o : ℕ = 20 + (4 * nt + m .size) in
+      let s : sat o ≡ sat n = omega (arith, sized, l) in
+      let q : t ≡ sat (filledUp n) = et ∙ sym (sat-filled o) ∙ ap (λ (z : ℕ). sat (filledUp z)) s ∙ sat-filled n in
+      let f : ℕ = filledUp n in
+      let d : k ≡ sat (f + 4 * nc) = omega (arith, ek, q) in
+      ap (λ (k : ℕ). grown k v) d ∙ grown-sat (f + 4 * nc) v
+      ∙ rw is
+      (then-grown (λ (a : PaneAnimInfo). size (sectionLay a)) (λ cs. size (parts contentLay cs)) (times nc content w x (m .word) (m .byte)) w x (f + 4 * nc) v (made frames looping ts) ev
+      (λ cs u u′ d. ap (λ (k : ℕ). f + 4 * k + size (parts contentLay cs)) (sym (times-length content w x nc (m .word) (m .byte) d)) ∙ filled-size (made frames looping ts cs)))
 
 module _ (w x : List ℕ) (i j : ℕ) where
   pub pane-bad : {k : ℕ} → Tested paneTests paneThen w x i j (badWord k) → BadWord k ≡ verdictOf (λ (a : PaneAnimInfo). size (sectionLay a)) (pane w x i j)

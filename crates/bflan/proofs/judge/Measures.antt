@@ -129,6 +129,9 @@ module _ {A : Type 0} (s : A → ℕ) where
   was-fine (badWord i) m e = absurd (fine-word m i (sym e))
   was-fine (badText j) m e = absurd (fine-text m j (sym e))
 
+  pub was-then : {C : Type 0} (r : Judged A) (m : Mark) → verdictOf s r ≡ Fine m → ((a : A) → r ≡ fine a (m .word) (m .byte) → m .size ≡ sat (s a) → C) → C
+  was-then r m e f = let z = was-fine r m e in f (z .value) (z .is) (z .sized)
+
 -- ---- what is made of a part's value
 
 module _ {A B : Type 0} (all : B → ℕ) where

@@ -5,7 +5,7 @@ use mathlib.Core.Bool.{Bool, true, false, _&&_}
 use mathlib.Core.List.{List, [], _∷_, map}
 use native.Mathlib.Nat.{zero-add, suc-mul, mul-le-mul-right}
 use native.Mathlib.Omega.{arith}
-use borrow.Author.Tests.{leb-true, leb-false, le-leb, lt-leb, lt-ltb, le-ltb, ltb-true, eqb-true, eqb-false, eq-eqb, ne-eqb}
+use borrow.Author.Tests.{leb-true, le-leb, lt-leb, lt-ltb, le-ltb, ltb-true, eqb-true, eqb-false, eq-eqb, ne-eqb}
 use lib.Dec.{eqb, leb, ltb}
 use lib.ListN.{length}
 use Rattle.core.specs.Number.{get}
@@ -28,7 +28,7 @@ use Rattle.bflan.specs.Limits.{limit}
 use Rattle.bflan.specs.pai1.Locating.{ofSpot, locatingIn, locating}
 use Rattle.bflan.specs.inner.Path.{layerUnder, numberUnder, keyUnder, valueUnder, contentBase, infoBase, infoUnder, targetBase, afterBase, datumBase, TargetAt, DatumAt, InfoAt, ContentAt, SectionAt}
 use Rattle.bflan.specs.pai1.Places.{Spot, nowhere, spot, after as behind, widths, total, stride, trackAt, keyIn, valueIn, targetIn, datumIn, infoTableIn, infoIn, contentIn, locate}
-use Rattle.bflan.specs.Reader.{Res, ok, stop, _>>=_, ret, given, fail, here, Item, word, text, num, seekTo, skip, numbers, many, visit}
+use Rattle.bflan.specs.Reader.{Res, ok, stop, _>>=_, ret, given, fail, Item, word, text, skip, numbers, many, visit}
 use Rattle.bflan.specs.pai1.Reading.{keyOf, curveOf, countOf, keys, target, datum, info, typeOf, infoTable, content, texture, ownLetters, contents, body, section}
 use Rattle.bflan.specs.pai1.Record.{keyWidths}
 use Rattle.bflan.specs.inner.Walk.{emptyTally, walkOf, walked}
@@ -38,16 +38,15 @@ use Rattle.bflan.specs.declared.reader.tally.Walk.the-variants.{Went, St
 use Rattle.bflan.proofs.read.Answers.{told-answer, stopped, whole}
 use Rattle.bflan.specs.pai1.RecordAt.{nameSize}
 use Rattle.bflan.specs.inner.SectionParts.{afterHead}
-use Rattle.bflan.proofs.reader.ContentParts.{contentAfter, widths as contentWidths}
-use Rattle.bflan.proofs.reader.DatumParts.{fieldsIn, datumAfter, widths as datumWidths}
-use Rattle.bflan.proofs.reader.Emits.{sought-there, sought-over}
+use Rattle.bflan.proofs.reader.ContentParts.{name, contentAfter, contentWidths, table-if}
+use Rattle.bflan.proofs.reader.DatumParts.{fieldsIn, datumAfter, datumWidths}
 use Rattle.bflan.proofs.place.Fields.{and-left, and-right}
-use Rattle.bflan.proofs.reader.InfoParts.{infoAfter, widths as infoWidths}
+use Rattle.bflan.proofs.reader.InfoParts.{infoAfter, infoWidths}
 use Rattle.bflan.proofs.reader.KeyRuns.{many-on}
 use Rattle.bflan.proofs.reader.Rows.{rowThen, fieldsAt}
-use Rattle.bflan.proofs.reader.SectionParts.{headOf, widths as headWidths}
-use Rattle.bflan.proofs.reader.TargetParts.{targetAfter, widths as targetWidths}
-use Rattle.bflan.proofs.reader.Unstopped.{If, if-ok, yes, no, weaker, sure, next, after, number, head, sought, table, name, visited}
+use Rattle.bflan.proofs.reader.SectionParts.{headOf, headWidths}
+use Rattle.bflan.proofs.reader.TargetParts.{targetAfter, targetWidths}
+use Rattle.bflan.proofs.reader.Unstopped.{If, if-ok, yes, no, weaker, sure, next, after, number, head, sought, table, visited}
 use Rattle.bflan.proofs.reader.Walks.{before, on-no, on-place}
 
 -- ---- keys
@@ -136,22 +135,9 @@ module _ (s : List ℕ) where
   -- ---- contents
 
   pub table-at : (b : ℕ) → b + 32 ≤ length s
-      → If (λ v j. (j ≡ infoTableIn s b) × (infoTableIn s b ≤ length s) × (get 1 s (b + 29) ≡ 2 → b + 36 ≤ length s)) (infoTable b (get 1 s (b + 29)) s (b + 32))
-  unfolding infoTable infoTableIn
-  table-at b h = kind (eqb (get 1 s (b + 29)) 2) refl
-    where
-      kind : (t : Bool) → eqb (get 1 s (b + 29)) 2 ≡ t
-          → If (λ v j. (j ≡ pick t (b + get 4 s (b + 32)) (b + 32)) × (pick t (b + get 4 s (b + 32)) (b + 32) ≤ length s) × (get 1 s (b + 29) ≡ 2 → b + 36 ≤ length s))
-          (given t (_>>=_ (num 4) (λ offset. seekTo (b + offset))) here s (b + 32))
-      kind true e = number s 4 (b + 32) (b + 36) _ (omega arith) (λ l. last l (b + get 4 s (b + 32)) (b + 36))
-        where
-          last : b + 36 ≤ length s → (to i : ℕ) → If (λ v j. (j ≡ to) × (to ≤ length s) × (get 1 s (b + 29) ≡ 2 → b + 36 ≤ length s)) (seekTo to s i)
-          last l to i = go (leb to (length s)) refl
-            where
-              go : (t : Bool) → leb to (length s) ≡ t → If (λ v j. (j ≡ to) × (to ≤ length s) × (get 1 s (b + 29) ≡ 2 → b + 36 ≤ length s)) (seekTo to s i)
-              go true d = let m = leb-true to (length s) d in rw (sought-there s to i m) (yes (refl, m, λ x. l))
-              go false d = rw (sought-over s to i (leb-false to (length s) d)) (no _)
-      kind false e = yes (refl, h, λ x. absurd (eqb-false (get 1 s (b + 29)) 2 e x))
+      → If (λ v j. (j ≡ infoTableIn s b) × (infoTableIn s b ≤ length s) × (get 1 s (b + 29) ≡ 2 → b + 32 + 4 ≤ length s)) (infoTable b (get 1 s (b + 29)) s (b + 32))
+  unfolding infoTableIn
+  table-at b h = table-if b (get 1 s (b + 29)) s (b + 32) h
 
   content-at : (b i : ℕ) → If (λ is j. ContentAt s b) (content b s i)
   unfolding content rowThen total fieldsAt
@@ -159,7 +145,7 @@ module _ (s : List ℕ) where
       sought s b i _ (λ l. name s contentWidths (contentAfter b) b (omega arith) (λ l32.
       after s (infoTable b (get 1 s (b + 29)) s (b + 32)) _ (table-at b l32) (λ at j h. infos l32 j h)))
     where
-      infos : b + 32 ≤ length s → (j : ℕ) → (j ≡ infoTableIn s b) × (infoTableIn s b ≤ length s) × (get 1 s (b + 29) ≡ 2 → b + 36 ≤ length s)
+      infos : b + 32 ≤ length s → (j : ℕ) → (j ≡ infoTableIn s b) × (infoTableIn s b ≤ length s) × (get 1 s (b + 29) ≡ 2 → b + 32 + 4 ≤ length s)
           → If (λ is j. ContentAt s b)
           (_>>=_ (numbers (get 1 s (b + 28))) (λ offsets. _>>=_ (visit b info offsets) (λ is. ret (text b (nameSize s b) ∷ word (typeOf (get 1 s (b + 29))) ∷ word (get 1 s (b + 28)) ∷ is))) s j)
       infos l32 j h =
@@ -167,7 +153,7 @@ module _ (s : List ℕ) where
           (table s (get 1 s (b + 28)) (infoTableIn s b) _ (h .1) (λ l.
           after s (visit b info (numbersAt (get 1 s (b + 28)) s (infoTableIn s b)) s (infoTableIn s b + 4 * get 1 s (b + 28))) _
           (visited s b info (InfoAt s) info-at (get 1 s (b + 28)) (infoTableIn s b) (infoTableIn s b + 4 * get 1 s (b + 28))) (λ is k hs.
-          yes (record { head = l32; user = h .2; table = l; infos = hs }))))
+          yes (record { head = l32; user = λ x. omega (arith, h .2 x); table = l; infos = hs }))))
 
   -- ---- the section
 
@@ -187,7 +173,7 @@ module _ (s : List ℕ) where
 
   section-if : If (λ is j. SectionAt s) (section s 0)
   unfolding section
-  section-if = number s 4 0 4 _ refl (λ l4. number s 4 4 8 _ refl (λ l8. kind (eqb (get 4 s 0) ownLetters)))
+  section-if = number s 4 0 _ (λ l4. number s 4 4 _ (λ l8. kind (eqb (get 4 s 0) ownLetters)))
     where
       kind : (t : Bool) → If (λ is j. SectionAt s) (given t (body (get 4 s 4)) (fail (OtherLetters (get 4 s 0))) s 8)
       kind true = body-at (get 4 s 4)

@@ -20,28 +20,25 @@ use Rattle.core.proofs.Runs.{length-numbers, numbers-next}
 use Rattle.core.proofs.Zeros.{fixed-text, ended-text}
 use Rattle.bflan.specs.declared.fault.Fault.{Fault}
 use Rattle.bflan.specs.Items.{textsIn}
-use Rattle.bflan.specs.Reader.{Res, ok, stop, P, andThen, _>>=_, ret, given, fail, Item, word, text, asNumber, asText, num, fixedText, endedText, oneEnded, numbers, many, visit}
+use Rattle.bflan.specs.Reader.{ok, P, andThen, _>>=_, ret, given, fail, Item, word, text, asNumber, asText, num, fixedText, endedText, oneEnded, numbers, many, visit}
 use Rattle.bflan.proofs.reader.KeyRuns.{asNumbers, numbers-run}
+use Rattle.bflan.proofs.reader.Unstopped.{If, if-ok, yes, no, weaker, next as then, after}
 
 -- ---- what holds of what a reading gives, wherever it starts, unless it is stopped
 
-abbrev pub Known : {A : Type 0} → (A → Type 0) → Res A → Type 0
-Known Q (ok v p) = Q v
-Known Q (stop f) = Unit
-
 pub record Gives (s : List ℕ) {A : Type 0} (Q : A → Type 0) (p : P A) : Type 0 where
-  pub from : (i : ℕ) → Known Q (p s i)
+  pub from : (i : ℕ) → If (λ v j. Q v) (p s i)
 
 pub given-ok : {s : List ℕ} {A : Type 0} {Q : A → Type 0} {p : P A} {i j : ℕ} {v : A} → Gives s Q p → p s i ≡ ok v j → Q v
-given-ok {i = i} g e = rw e at (g .from i)
+given-ok {s} {Q = Q} {p} {i} g e = if-ok (λ v j. Q v) (p s i) (g .from i) e
 
 -- a reading's last line, and a stop
 module _ (s : List ℕ) {A : Type 0} {Q : A → Type 0} where
   pub done : (v : A) → Q v → Gives s Q (ret v)
-  done v h = record { from = λ i. h }
+  done v h = record { from = λ i. yes h }
 
   pub none : (f : Fault) → Gives s Q (fail f)
-  none f = record { from = λ i. tt }
+  none f = record { from = λ i. no f }
 
   pub either : (t : Bool) {p q : P A} → Gives s Q p → Gives s Q q → Gives s Q (given t p q)
   either true g h = g
@@ -50,18 +47,10 @@ module _ (s : List ℕ) {A : Type 0} {Q : A → Type 0} where
 -- one reading after another: what follows may use what the first gives
 module _ (s : List ℕ) {A B : Type 0} {Q : B → Type 0} where
   pub next : {R : A → Type 0} {p : P A} (q : A → P B) → Gives s R p → ((v : A) → R v → Gives s Q (q v)) → Gives s Q (_>>=_ p q)
-  next {R} {p} q g h = record { from = λ i. go (p s i) (g .from i) }
-    where
-      go : (r : Res A) → Known R r → Known Q (andThen r q s)
-      go (ok v j) k = h v k .from j
-      go (stop f) k = tt
+  next {p = p} q g h = record { from = λ i. after s (p s i) q (g .from i) (λ v j k. h v k .from j) }
 
   pub past : (p : P A) (q : A → P B) → ((v : A) → Gives s Q (q v)) → Gives s Q (_>>=_ p q)
-  past p q h = record { from = λ i. go (p s i) }
-    where
-      go : (r : Res A) → Known Q (andThen r q s)
-      go (ok v j) = h v .from j
-      go (stop f) = tt
+  past p q h = record { from = λ i. then s (p s i) q (λ v j e. h v .from j) }
 
 -- ---- items: how many they are, how many of them are texts, and where those lie
 
@@ -138,44 +127,40 @@ module _ (s : List ℕ) where
   unfolding oneEnded endedText
   ended-small = record { from = λ i. go i (endedOf s i) refl }
     where
-      go : (i : ℕ) (r : TextAt) → endedOf s i ≡ r → Known (Small s 1 1) (andThen (asText i r) (λ t. ret (t ∷ [])) s)
-      go i (Text n q) e = let f = ended-text s i n q e in small-text i n (omega (arith, f .after, f .fits))
-      go i (TextPast o k) e = tt
-      go i (Unended a) e = tt
+      go : (i : ℕ) (r : TextAt) → endedOf s i ≡ r → If (λ is j. Small s 1 1 is) (andThen (asText i r) (λ t. ret (t ∷ [])) s)
+      go i (Text n q) e = let f = ended-text s i n q e in yes (small-text i n (omega (arith, f .after, f .fits)))
+      go i (TextPast o k) e = no _
+      go i (Unended a) e = no _
 
   pub fixed-small : (n : ℕ) → Gives s (λ t. Small s 1 1 (t ∷ [])) (fixedText n)
   unfolding fixedText
   fixed-small n = record { from = λ i. go i (fixedOf n s i) refl }
     where
-      go : (i : ℕ) (r : TextAt) → fixedOf n s i ≡ r → Known (λ t. Small s 1 1 (t ∷ [])) (asText i r)
-      go i (Text m q) e = let f = fixed-text n s i m q e in small-text i m (omega (arith, f .within, f .fits))
-      go i (TextPast o k) e = tt
-      go i (Unended a) e = tt
+      go : (i : ℕ) (r : TextAt) → fixedOf n s i ≡ r → If (λ t j. Small s 1 1 (t ∷ [])) (asText i r)
+      go i (Text m q) e = let f = fixed-text n s i m q e in yes (small-text i m (omega (arith, f .within, f .fits)))
+      go i (TextPast o k) e = no _
+      go i (Unended a) e = no _
 
   pub numbers-fit : (n : ℕ) → Gives s (λ vs. (length vs ≡ n) × (4 * n ≤ length s)) (numbers n)
   numbers-fit n = record { from = λ i. rw (numbers-run n s i) (go i (numbersOf n s i) refl) }
     where
-      go : (i : ℕ) (r : Run) → numbersOf n s i ≡ r → Known (λ vs. (length vs ≡ n) × (4 * n ≤ length s)) (asNumbers r (numbersAt n s i))
-      go i (Next q) e = (length-numbers n s i, omega (arith, numbers-next n s i q e .0))
-      go i (Cut o k) e = tt
+      go : (i : ℕ) (r : Run) → numbersOf n s i ≡ r → If (λ vs j. (length vs ≡ n) × (4 * n ≤ length s)) (asNumbers r (numbersAt n s i))
+      go i (Next q) e = yes (length-numbers n s i, omega (arith, numbers-next n s i q e .0))
+      go i (Cut o k) e = no _
 
 -- ---- the counts
 
 pub wider-all : (s : List ℕ) {a b : ℕ} (c d : ℕ) {p : P (List Item)} → Gives s (Small s a b) p → a ≤ c → b ≤ d → Gives s (Small s c d) p
-wider-all s {a} {b} c d {p} g x y = record { from = λ i. go (p s i) (g .from i) }
-  where
-    go : (r : Res (List Item)) → Known (Small s a b) r → Known (Small s c d) r
-    go (ok is j) k = wider s k x y
-    go (stop f) k = tt
+wider-all s c d {p} g x y = record { from = λ i. weaker (p s i) (g .from i) (λ is j k. wider s k x y) }
 
 module _ (s : List ℕ) (bytes : Bytes s) where
   pub num-lt : (k : ℕ) → Gives s (λ v. v < 256 ^ k) (num k)
   unfolding num
   num-lt k = record { from = λ i. go i (readOf k s i) refl }
     where
-      go : (i : ℕ) (r : Read) → readOf k s i ≡ r → Known (λ v. v < 256 ^ k) (asNumber r)
-      go i (Value v q) e = read-lt k s i v q bytes e
-      go i (ReadPast o m) e = tt
+      go : (i : ℕ) (r : Read) → readOf k s i ≡ r → If (λ v j. v < 256 ^ k) (asNumber r)
+      go i (Value v q) e = yes (read-lt k s i v q bytes e)
+      go i (ReadPast o m) e = no _
 
 -- items whose counts a usize holds
 abbrev pub Countable : List ℕ → List Item → Type 0

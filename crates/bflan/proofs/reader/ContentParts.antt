@@ -5,10 +5,11 @@ use mathlib.Core.Path.{_≡_, refl, ap, sym, _∙_}
 use mathlib.Core.Bool.{Bool, true, false}
 use mathlib.Core.List.{List, [], _∷_}
 use native.Mathlib.Omega.{arith}
-use borrow.Author.Tests.{leb-true, leb-false, eqb-true, eqb-false, le-leb, lt-leb, eq-eqb, ne-eqb}
-use lib.Dec.{leb, eqb}
+use borrow.Author.Tests.{leb-true, leb-false, ltb-true, ltb-false, eqb-false, le-leb, lt-leb, eq-eqb, ne-eqb}
+use lib.Dec.{leb, ltb, eqb}
 use lib.ListN.{length, getD, set, take, drop, length-set, length-take, length-drop}
 use lib.Seq.{sets, length-sets}
+use Rattle.core.specs.Choice.{pick}
 use Rattle.core.specs.Number.{get}
 use Rattle.core.specs.Seek.{seekOf}
 use Rattle.core.specs.Text.{beforeZero, fixedOf}
@@ -16,12 +17,11 @@ use Rattle.core.specs.Run.{numbersAt, numbersOf}
 use Rattle.core.specs.declared.run.Run.the-variants.{Next, Cut}
 use Rattle.core.specs.declared.seek.Sought.the-variants.{At, Past as SoughtPast}
 use Rattle.core.specs.declared.text.TextAt.the-variants.{Text, Past as TextPast, Unended}
-use Rattle.core.proofs.Seeks.{seek-there, seek-over}
 use Rattle.core.proofs.Zeros.{before-le}
 use Rattle.bflan.specs.declared.fault.Fault.{Fault}
 use Rattle.bflan.specs.declared.fault.Fault.the-variants.{PastEnd, NoZero}
 use Rattle.bflan.specs.declared.reader.tally.Tally.{Tally}
-use Rattle.bflan.specs.Reader.{Res, ok, stop, andThen, _>>=_, ret, Item, word, text, fixedText, numbers, visit}
+use Rattle.bflan.specs.Reader.{Res, ok, stop, P, andThen, _>>=_, ret, given, here, Item, word, text, num, seekTo, fixedText, numbers, visit}
 use Rattle.bflan.specs.pai1.Reading.{info, typeOf, infoTable, content}
 use Rattle.bflan.specs.pai1.RecordAt.{nameSize}
 use Rattle.bflan.specs.Items.{shownAt}
@@ -31,6 +31,7 @@ use Rattle.bflan.specs.inner.Walk.{withWords, withText, walkOf}
 use Rattle.bflan.proofs.reader.Emits.{sought-on, sought-past, sought-there, run-put2, run-named}
 use Rattle.bflan.proofs.reader.KeyRuns.{num-there, num-short, numbers-run}
 use Rattle.bflan.proofs.reader.Rows.{rowThen, fieldsAt, row-there, row-cut}
+use Rattle.bflan.proofs.reader.Unstopped.{If, if-ok, yes, no, weaker, number, head, landed}
 use Rattle.bflan.proofs.reader.Walks.{before, before-before, put-before}
 
 -- ---- the name
@@ -55,14 +56,32 @@ name-within s base h =
 pub name-part : (s : List ℕ) (base r : ℕ) → r ≡ beforeZero (take (base + 28 - base) (drop base s)) → r ≡ nameSize s base
 name-part s base r e = let m : base + 28 - base ≡ 28 = omega arith in rw m at e
 
+module _ (s : List ℕ) {B : Type 0} {Q : B → ℕ → Type 0} where
+  -- a name and a head behind it: where the section's end cuts the name, the head is refused
+  pub name : (ks : List ℕ) (c : Item → List ℕ → P B) (b : ℕ) → 0 < total ks
+      → (b + (28 + total ks) ≤ length s → If Q (c (text b (nameSize s b)) (fieldsAt ks s b 28) s (b + (28 + total ks))))
+      → If Q (andThen (fixedText 28 s b) (λ t. rowThen ks (c t)) s)
+  name ks c b z f = go (leb (b + 28) (length s)) refl (ltb b (length s)) refl
+    where
+      go : (x : Bool) → leb (b + 28) (length s) ≡ x → (y : Bool) → ltb b (length s) ≡ y → If Q (andThen (fixedText 28 s b) (λ t. rowThen ks (c t)) s)
+      go x t false u = rw (name-none s b (ltb-false b (length s) u)) (no _)
+      go true t true u =
+          let h = leb-true (b + 28) (length s) t in
+          let e : b + min 28 (length s - b) ≡ b + 28 = omega arith in
+          rw (name-there s b (ltb-true b (length s) u), e) (head s ks (c (text b (nameSize s b))) b 28 z f)
+      go false t true u =
+          let h = leb-false (b + 28) (length s) t in
+          let e : b + min 28 (length s - b) ≡ length s = omega (arith, h, ltb-true b (length s) u) in
+          rw (name-there s b (ltb-true b (length s) u), e) (head s ks (c (text b (nameSize s b))) (length s) 0 z (λ l. absurd (omega arith)))
+
 -- what is read behind the numbers of a content's head
 abbrev pub contentAfter : ℕ → Item → List ℕ → List ℕ → ℕ → Res (List Item)
 contentAfter base name vs =
     _>>=_ (infoTable base (getD vs 1 0))
     (λ at. _>>=_ (numbers (getD vs 0 0)) (λ offsets. _>>=_ (visit base info offsets) (λ is. ret (name ∷ word (typeOf (getD vs 1 0)) ∷ word (getD vs 0 0) ∷ is))))
 
-abbrev pub widths : List ℕ
-widths = 1 ∷ 1 ∷ 2 ∷ []
+abbrev pub contentWidths : List ℕ
+contentWidths = 1 ∷ 1 ∷ 2 ∷ []
 
 module _ (base : ℕ) (s : List ℕ) (i : ℕ) where
   whole-name : base + 28 ≤ length s → fixedText 28 s base ≡ ok (text base (nameSize s base)) (base + 28)
@@ -84,9 +103,9 @@ module _ (base : ℕ) (s : List ℕ) (i : ℕ) where
     content-unended a f = rw (sought-on s base i p e, f)
 
     -- its three numbers are a row
-    pub content-short : {len q : ℕ} {a : Fault} → fixedOf 28 s p ≡ Text len q → length s < q + 4 → a ≡ cutIn widths s q → content base s i ≡ stop a
+    pub content-short : {len q : ℕ} {a : Fault} → fixedOf 28 s p ≡ Text len q → length s < q + 4 → a ≡ cutIn contentWidths s q → content base s i ≡ stop a
     unfolding content fixedText rowThen total
-    content-short {len} {q} f h d = rw (d, sought-on s base i p e, f) (row-cut s widths (contentAfter base (text p len)) q (omega arith) h)
+    content-short {len} {q} f h d = rw (d, sought-on s base i p e, f) (row-cut s contentWidths (contentAfter base (text p len)) q (omega arith) h)
 
   -- ---- behind them
 
@@ -100,7 +119,7 @@ module _ (base : ℕ) (s : List ℕ) (i : ℕ) where
 
   pub content-there : base + 32 ≤ length s → content base s i ≡ contentRest (get 1 s (base + 28)) (get 1 s (base + 29))
   unfolding content rowThen total fieldsAt
-  content-there h = rw (sought-there s base i (omega arith), whole-name (omega arith)) (row-there s widths (contentAfter base (text base (nameSize s base))) base 28 h)
+  content-there h = rw (sought-there s base i (omega arith), whole-name (omega arith)) (row-there s contentWidths (contentAfter base (text base (nameSize s base))) base 28 h)
 
   pub rest-at : (n type q : ℕ) → infoTable base type s (base + 32) ≡ ok q q → contentRest n type ≡ contentTable n type q
   rest-at n type q e = rw e
@@ -119,12 +138,6 @@ module _ (base : ℕ) (s : List ℕ) (i : ℕ) where
 
 -- ---- where the info table stands
 
-ok-place : (k q : ℕ) → _≡_ {A = Res ℕ} (ok k k) (ok q q) → k ≡ q
-ok-place k q e = cc
-
-ok-stop : (q : ℕ) (f : Fault) → _≡_ {A = Res ℕ} (ok q q) (stop f) → ⊥
-ok-stop q f e = let z : _≡_ {A = ℕ} 0 1 = cc in omega arith
-
 module _ (base type : ℕ) (s : List ℕ) (p : ℕ) where
   pub table-plain : (type ≡ 2 → ⊥) → infoTable base type s p ≡ ok p p
   unfolding infoTable
@@ -142,35 +155,19 @@ module _ (base type : ℕ) (s : List ℕ) (p : ℕ) where
   unfolding infoTable
   table-short e h = rw (eq-eqb type 2 e, num-short 4 s p h)
 
-  -- a table that was found stands in the section
-  pub table-within : (q : ℕ) → p ≤ length s → infoTable base type s p ≡ ok q q → q ≤ length s
-  table-within q h e = kind (eqb type 2) refl
+  -- where it was found, in the section
+  pub table-if : p ≤ length s
+      → If (λ v j. (j ≡ pick (eqb type 2) (base + get 4 s p) p) × (pick (eqb type 2) (base + get 4 s p) p ≤ length s) × (type ≡ 2 → p + 4 ≤ length s)) (infoTable base type s p)
+  unfolding infoTable
+  table-if h = kind (eqb type 2) refl
     where
-      same : (k : ℕ) → infoTable base type s p ≡ ok k k → k ≡ q
-      same k d = ok-place k q (sym d ∙ e)
+      kind : (t : Bool) → eqb type 2 ≡ t
+          → If (λ v j. (j ≡ pick t (base + get 4 s p) p) × (pick t (base + get 4 s p) p ≤ length s) × (type ≡ 2 → p + 4 ≤ length s)) (given t (_>>=_ (num 4) (λ offset. seekTo (base + offset))) here s p)
+      kind true e = number s 4 p _ (λ l. weaker _ (landed s (base + get 4 s p) (p + 4)) (λ v j k. (k .1, k .2, λ x. l)))
+      kind false e = yes (refl, h, λ x. absurd (eqb-false type 2 e x))
 
-      none : (f : Fault) → infoTable base type s p ≡ stop f → q ≤ length s
-      none f d = absurd (ok-stop q f (sym e ∙ d))
-
-      there : type ≡ 2 → p + 4 ≤ length s → (b : Bool) → leb (base + get 4 s p) (length s) ≡ b → q ≤ length s
-      there k l true d =
-          let to = base + get 4 s p in
-          let m = leb-true to (length s) d in
-          let z = same to (table-user k l to (seek-there s to m)) in
-          omega (arith, m, z)
-      there k l false d =
-          let to = base + get 4 s p in
-          none _ (table-past k l _ _ (seek-over s to (leb-false to (length s) d)))
-
-      user : type ≡ 2 → (b : Bool) → leb (p + 4) (length s) ≡ b → q ≤ length s
-      user k true d = there k (leb-true (p + 4) (length s) d) (leb (base + get 4 s p) (length s)) refl
-      user k false d = none _ (table-short k (leb-false (p + 4) (length s) d))
-
-      kind : (b : Bool) → eqb type 2 ≡ b → q ≤ length s
-      kind true d = user (eqb-true type 2 d) (leb (p + 4) (length s)) refl
-      kind false d =
-          let z = same p (table-plain (eqb-false type 2 d)) in
-          omega (arith, h, z)
+  pub table-within : (q : ℕ) → p ≤ length s → infoTable base type s p ≡ ok q q → q ≤ length s
+  table-within q h e = let f = if-ok _ (infoTable base type s p) (table-if h) e in rw (f .0) (f .1)
 
 -- ---- a content as the code has it: by the count, the type and the place of the table
 

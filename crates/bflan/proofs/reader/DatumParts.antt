@@ -29,22 +29,22 @@ use Rattle.bflan.proofs.reader.Walks.{before, joined, put-before, sets-
 abbrev pub fieldsIn : List ℕ → Fields
 fieldsIn vs = record { size = getD vs 0 0; one = getD vs 1 0; two = getD vs 2 0; base = getD vs 3 0; three = getD vs 4 0 }
 
-abbrev pub widths : List ℕ
-widths = 4 ∷ 2 ∷ 2 ∷ 4 ∷ 4 ∷ []
+abbrev pub datumWidths : List ℕ
+datumWidths = 4 ∷ 2 ∷ 2 ∷ 4 ∷ 4 ∷ []
 
-head-row : (s : List ℕ) (p : ℕ) → head s p ≡ rowThen widths (λ vs. ret (fieldsIn vs)) s p
+head-row : (s : List ℕ) (p : ℕ) → head s p ≡ rowThen datumWidths (λ vs. ret (fieldsIn vs)) s p
 unfolding head rowThen
 head-row s p = refl
 
 module _ (s : List ℕ) (p : ℕ) where
-  pub head-short : {f : Fault} → length s < p + 16 → f ≡ cutIn widths s p → stop f ≡ head s p
+  pub head-short : {f : Fault} → length s < p + 16 → f ≡ cutIn datumWidths s p → stop f ≡ head s p
   unfolding total
-  head-short h e = rw e (sym (head-row s p ∙ row-cut s widths (λ vs. ret (fieldsIn vs)) p (omega arith) h))
+  head-short h e = rw e (sym (head-row s p ∙ row-cut s datumWidths (λ vs. ret (fieldsIn vs)) p (omega arith) h))
 
   pub head-there : {a b c d e : ℕ} → p + 16 ≤ length s → a ≡ get 4 s p → b ≡ get 2 s (p + 4) → c ≡ get 2 s (p + 6) → d ≡ get 4 s (p + 8) → e ≡ get 4 s (p + 12)
       → ok (record { size = a; one = b; two = c; base = d; three = e }) (p + 16) ≡ head s p
   unfolding total fieldsAt
-  head-there h ea eb ec ed ee = rw (ea, eb, ec, ed, ee) (sym (head-row s p ∙ row-there s widths (λ vs. ret (fieldsIn vs)) p 0 h))
+  head-there h ea eb ec ed ee = rw (ea, eb, ec, ed, ee) (sym (head-row s p ∙ row-there s datumWidths (λ vs. ret (fieldsIn vs)) p 0 h))
 
 -- ---- the key text, by core's answer
 
@@ -110,17 +110,17 @@ after-is h s q = go (numbers (3 * h .base) s q)
     go (stop f) = refl
 
 module _ (s : List ℕ) (p : ℕ) where
-  datum-row : datum s p ≡ rowThen widths (λ vs. datumAfter (fieldsIn vs)) s p
+  datum-row : datum s p ≡ rowThen datumWidths (λ vs. datumAfter (fieldsIn vs)) s p
   unfolding datum rowThen
   datum-row = refl
 
   -- with all of them there it goes on with its values
-  pub datum-there : p + 16 ≤ length s → datum s p ≡ datumAfter (fieldsIn (fieldsAt widths s p 0)) s (p + 16)
+  pub datum-there : p + 16 ≤ length s → datum s p ≡ datumAfter (fieldsIn (fieldsAt datumWidths s p 0)) s (p + 16)
   unfolding total
-  datum-there h = datum-row ∙ row-there s widths (λ vs. datumAfter (fieldsIn vs)) p 0 h
+  datum-there h = datum-row ∙ row-there s datumWidths (λ vs. datumAfter (fieldsIn vs)) p 0 h
 
   datum-head : datum s p ≡ andThen (head s p) datumAfter s
-  datum-head = datum-row ∙ sym (row-bind widths (λ vs. ret (fieldsIn vs)) datumAfter s p) ∙ ap (λ (r : Res Fields). andThen r datumAfter s) (sym (head-row s p))
+  datum-head = datum-row ∙ sym (row-bind datumWidths (λ vs. ret (fieldsIn vs)) datumAfter s p) ∙ ap (λ (r : Res Fields). andThen r datumAfter s) (sym (head-row s p))
 
   -- the same for the arms over a head
   pub datum-on : (h : Fields) (q : ℕ) → ok h q ≡ head s p → datum s p ≡ before (map word (fieldsOf h)) (valuesAndKeyText (3 * h .base) s q)

@@ -28,18 +28,18 @@ infoAfter base vs =
     (_>>=_ (many (getD vs 1 0) datum) (λ ds. ret (word fleu ∷ word (getD vs 1 0) ∷ ds)))
     (_>>=_ (numbers (getD vs 1 0)) (λ offsets. _>>=_ (visit base (target (getD vs 0 0)) offsets) (λ ts. ret (word (lettersOf (getD vs 0 0)) ∷ word (getD vs 1 0) ∷ ts))))
 
-abbrev pub widths : List ℕ
-widths = 4 ∷ 1 ∷ 1 ∷ 2 ∷ []
+abbrev pub infoWidths : List ℕ
+infoWidths = 4 ∷ 1 ∷ 1 ∷ 2 ∷ []
 
 module _ (base : ℕ) (s : List ℕ) (i : ℕ) where
   -- a seek, its numbers as a row, and what is behind them
-  info-seek : info base s i ≡ andThen (seekTo base s i) (λ at. rowThen widths (infoAfter base)) s
+  info-seek : info base s i ≡ andThen (seekTo base s i) (λ at. rowThen infoWidths (infoAfter base)) s
   unfolding info rowThen
   info-seek = refl
 
-  pub info-short : {f : Fault} → length s < base + 8 → f ≡ soughtCut widths s base → info base s i ≡ stop f
+  pub info-short : {f : Fault} → length s < base + 8 → f ≡ soughtCut infoWidths s base → info base s i ≡ stop f
   unfolding total
-  info-short h e = rw e (info-seek ∙ sought-short s widths (infoAfter base) base i h)
+  info-short h e = rw e (info-seek ∙ sought-short s infoWidths (infoAfter base) base i h)
 
   -- what follows the head, by its letters and its count
   abbrev pub infoRest : ℕ → ℕ → Res (List Item)
@@ -47,7 +47,7 @@ module _ (base : ℕ) (s : List ℕ) (i : ℕ) where
 
   pub info-there : base + 8 ≤ length s → info base s i ≡ infoRest (get 4 s base) (get 1 s (base + 4))
   unfolding total fieldsAt
-  info-there h = info-seek ∙ sought-row s widths (infoAfter base) base i h
+  info-there h = info-seek ∙ sought-row s infoWidths (infoAfter base) base i h
 
   -- an extended info
   pub rest-extended : (letters n : ℕ) → letters ≡ fleu → infoRest letters n ≡ before (word fleu ∷ word n ∷ []) (many n datum s (base + 8))

@@ -115,35 +115,35 @@ module _ (s : List ℕ) (size table n : ℕ) where
 abbrev pub headOf : List ℕ → SectionHead
 headOf vs = record { frames = getD vs 0 0; looping = getD vs 1 0; textures = getD vs 3 0; contents = getD vs 4 0; table = getD vs 5 0 }
 
-abbrev pub widths : List ℕ
-widths = 2 ∷ 1 ∷ 1 ∷ 2 ∷ 2 ∷ 4 ∷ []
+abbrev pub headWidths : List ℕ
+headWidths = 2 ∷ 1 ∷ 1 ∷ 2 ∷ 2 ∷ 4 ∷ []
 
 module _ (s : List ℕ) where
   -- its reads are a row
-  head-row : head s 8 ≡ rowThen widths (λ vs. ret (headOf vs)) s 8
+  head-row : head s 8 ≡ rowThen headWidths (λ vs. ret (headOf vs)) s 8
   unfolding head rowThen
   head-row = refl
 
-  pub head-short : {f : Fault} → length s < 20 → f ≡ cutIn widths s 8 → stop f ≡ head s 8
+  pub head-short : {f : Fault} → length s < 20 → f ≡ cutIn headWidths s 8 → stop f ≡ head s 8
   unfolding total
-  head-short h e = rw e (sym (head-row ∙ row-cut s widths (λ vs. ret (headOf vs)) 8 (omega arith) h))
+  head-short h e = rw e (sym (head-row ∙ row-cut s headWidths (λ vs. ret (headOf vs)) 8 (omega arith) h))
 
   pub head-there : {a b c d e : ℕ} → 20 ≤ length s → a ≡ get 2 s 8 → b ≡ get 1 s 10 → c ≡ get 2 s 12 → d ≡ get 2 s 14 → e ≡ get 4 s 16
       → ok (record { frames = a; looping = b; textures = c; contents = d; table = e }) 20 ≡ head s 8
   unfolding total fieldsAt
-  head-there h ea eb ec ed ee = rw (ea, eb, ec, ed, ee) (sym (head-row ∙ row-there s widths (λ vs. ret (headOf vs)) 8 0 h))
+  head-there h ea eb ec ed ee = rw (ea, eb, ec, ed, ee) (sym (head-row ∙ row-there s headWidths (λ vs. ret (headOf vs)) 8 0 h))
 
   pub head-fits : (h : SectionHead) → ok h 20 ≡ head s 8 → 20 ≤ length s
   unfolding total
-  head-fits h e = row-fits s widths (λ vs. ret (headOf vs)) 8 (omega arith) (sym head-row ∙ sym e)
+  head-fits h e = row-fits s headWidths (λ vs. ret (headOf vs)) 8 (omega arith) (sym head-row ∙ sym e)
 
   module _ (size : ℕ) where
-    body-row : body size s 8 ≡ rowThen widths (λ vs. afterHead size (headOf vs)) s 8
+    body-row : body size s 8 ≡ rowThen headWidths (λ vs. afterHead size (headOf vs)) s 8
     unfolding body afterHead rowThen
     body-row = refl
 
     body-head : body size s 8 ≡ andThen (head s 8) (afterHead size) s
-    body-head = body-row ∙ sym (row-bind widths (λ vs. ret (headOf vs)) (afterHead size) s 8) ∙ ap (λ (r : Res SectionHead). andThen r (afterHead size) s) (sym head-row)
+    body-head = body-row ∙ sym (row-bind headWidths (λ vs. ret (headOf vs)) (afterHead size) s 8) ∙ ap (λ (r : Res SectionHead). andThen r (afterHead size) s) (sym head-row)
 
     pub body-stop : (f : Fault) → stop f ≡ head s 8 → body size s 8 ≡ stop f
     body-stop f e = body-head ∙ ap (λ (r : Res SectionHead). andThen r (afterHead size) s) (sym e)
@@ -181,7 +181,7 @@ module _ (s : List ℕ) where
     pub body-there : 20 ≤ length s → (q : ℕ) → numbersOf (get 2 s 12) s 20 ≡ Next q
         → body size s 8 ≡ before headItems (joined (visit 20 texture (numbersAt (get 2 s 12) s 20) s q) (λ j. joined (contents (get 4 s 16) (get 2 s 14) s j) (λ k. endAt (seekTo size s k))))
     unfolding total fieldsAt
-    body-there h q t = body-row ∙ row-there s widths (λ vs. afterHead size (headOf vs)) 8 0 h ∙ behind-chain (headOf (fieldsAt widths s 8 0)) q t
+    body-there h q t = body-row ∙ row-there s headWidths (λ vs. afterHead size (headOf vs)) 8 0 h ∙ behind-chain (headOf (fieldsAt headWidths s 8 0)) q t
 
 -- ---- the header, and what is behind it
 

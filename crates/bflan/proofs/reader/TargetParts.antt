@@ -38,23 +38,23 @@ targetAfter letters base vs =
     (λ at. _>>=_ (keys (getD vs 2 0) (getD vs 4 0))
     (λ ks. ret (word (getD vs 0 0) ∷ word (targetOf letters (getD vs 1 0)) ∷ word (curveOf (getD vs 2 0)) ∷ word (countOf (getD vs 2 0) (getD vs 4 0)) ∷ ks)))
 
-abbrev pub widths : List ℕ
-widths = 1 ∷ 1 ∷ 1 ∷ 1 ∷ 2 ∷ 2 ∷ 4 ∷ []
+abbrev pub targetWidths : List ℕ
+targetWidths = 1 ∷ 1 ∷ 1 ∷ 1 ∷ 2 ∷ 2 ∷ 4 ∷ []
 
 module _ (letters base : ℕ) (s : List ℕ) (i : ℕ) where
   -- a seek, its numbers as a row, and what is behind them
-  target-seek : target letters base s i ≡ andThen (seekTo base s i) (λ at. rowThen widths (targetAfter letters base)) s
+  target-seek : target letters base s i ≡ andThen (seekTo base s i) (λ at. rowThen targetWidths (targetAfter letters base)) s
   unfolding target rowThen
   target-seek = refl
 
-  pub target-short : {f : Fault} → length s < base + 12 → f ≡ soughtCut widths s base → target letters base s i ≡ stop f
+  pub target-short : {f : Fault} → length s < base + 12 → f ≡ soughtCut targetWidths s base → target letters base s i ≡ stop f
   unfolding total
-  target-short h e = rw e (target-seek ∙ sought-short s widths (targetAfter letters base) base i h)
+  target-short h e = rw e (target-seek ∙ sought-short s targetWidths (targetAfter letters base) base i h)
 
   -- with all of them there it goes on with its keys, where its offset is in the section
-  pub target-there : base + 12 ≤ length s → target letters base s i ≡ targetAfter letters base (fieldsAt widths s base 0) s (base + 12)
+  pub target-there : base + 12 ≤ length s → target letters base s i ≡ targetAfter letters base (fieldsAt targetWidths s base 0) s (base + 12)
   unfolding total
-  target-there h = target-seek ∙ sought-row s widths (targetAfter letters base) base i h
+  target-there h = target-seek ∙ sought-row s targetWidths (targetAfter letters base) base i h
 
   pub target-on : (p : ℕ) → base + 12 ≤ length s → seekOf s (base + get 4 s (base + 8)) ≡ At p
       → target letters base s i ≡ andThen (keys (get 1 s (base + 2)) (get 2 s (base + 4)) s p) (λ ks. ret (word (get 1 s base) ∷ word (targetOf letters (get 1 s (base + 1))) ∷ word (curveOf (get 1 s (base + 2))) ∷ word (countOf (get 1 s (base + 2)) (get 2 s (base + 4))) ∷ ks)) s
@@ -187,8 +187,8 @@ wordy-after letters base s vs j = go (seekTo (base + getD vs 6 0) s j)
 pub wordy-target : (letters base : ℕ) (s : List ℕ) (i : ℕ) → Wordy (target letters base s i)
 wordy-target letters base s i = wordy-same (target-seek letters base s i) (go (seekTo base s i))
   where
-    go : (r : Res ℕ) → Wordy (andThen r (λ at. rowThen widths (targetAfter letters base)) s)
-    go (ok p q) = wordy-row s widths (targetAfter letters base) (wordy-after letters base s) q
+    go : (r : Res ℕ) → Wordy (andThen r (λ at. rowThen targetWidths (targetAfter letters base)) s)
+    go (ok p q) = wordy-row s targetWidths (targetAfter letters base) (wordy-after letters base s) q
     go (stop f) = wordy-stop f
 
 -- the text bytes as a walk that has words alone leaves them

@@ -1,12 +1,12 @@
--- What holds of a reading that is not stopped: of single reads, heads and tables, and of readings one after another.
+-- What holds of a reading that is not stopped, of any format: of single reads, heads and tables, and of readings one after another.
 -- Assumes nothing.
-use Prim.Native.Nat.{ℕ, zero, suc, _+_, _-_, _*_, _<_, _≤_, min}
+use Prim.Native.Nat.{ℕ, zero, suc, _+_, _-_, _*_, _<_, _≤_}
 use mathlib.Core.Path.{_≡_, refl, _∙_}
 use mathlib.Core.Bool.{Bool, true, false}
 use mathlib.Core.List.{List}
 use native.Mathlib.Omega.{arith}
-use borrow.Author.Tests.{leb-true, leb-false, ltb-true, ltb-false}
-use lib.Dec.{leb, ltb}
+use borrow.Author.Tests.{leb-true, leb-false}
+use lib.Dec.{leb}
 use lib.ListN.{length}
 use Rattle.core.specs.Number.{get}
 use Rattle.core.specs.Run.{numbersAt, numbersOf}
@@ -15,9 +15,7 @@ use Rattle.core.specs.declared.run.Run.the-variants.{Next, Cut}
 use Rattle.core.proofs.Runs.{table-fits, numbers-next}
 use Rattle.bflan.specs.declared.fault.Fault.{Fault}
 use Rattle.bflan.specs.pai1.Places.{total}
-use Rattle.bflan.specs.Reader.{Res, ok, stop, P, andThen, Item, text, num, seekTo, fixedText, numbers, visit}
-use Rattle.bflan.specs.pai1.RecordAt.{nameSize}
-use Rattle.bflan.proofs.reader.ContentParts.{name-there, name-none}
+use Rattle.bflan.specs.Reader.{Res, ok, stop, P, andThen, Item, num, seekTo, numbers, visit}
 use Rattle.bflan.proofs.reader.Emits.{sought-there, sought-over}
 use Rattle.bflan.proofs.reader.KeyRuns.{asNumbers, num-there, num-short, numbers-run}
 use Rattle.bflan.proofs.reader.Rows.{rowThen, offsetBy, offset-is, fieldsAt, row-there, row-cut}
@@ -63,12 +61,19 @@ module _ (s : List ℕ) {A B : Type 0} {Q : B → ℕ → Type 0} (r : Res A) (q
 
 -- ---- single reads: what follows may use that they are in the section
 
+pub landed : (s : List ℕ) (to i : ℕ) → If (λ v j. (v ≡ to) × (j ≡ to) × (to ≤ length s)) (seekTo to s i)
+landed s to i = go (leb to (length s)) refl
+  where
+    go : (b : Bool) → leb to (length s) ≡ b → If (λ v j. (v ≡ to) × (j ≡ to) × (to ≤ length s)) (seekTo to s i)
+    go true t = let h = leb-true to (length s) t in rw (sought-there s to i h) (yes (refl, refl, h))
+    go false t = rw (sought-over s to i (leb-false to (length s) t)) (no _)
+
 module _ (s : List ℕ) {B : Type 0} {Q : B → ℕ → Type 0} where
-  pub number : (k i p : ℕ) (q : ℕ → P B) → i + k ≡ p → (p ≤ length s → If Q (q (get k s i) s p)) → If Q (andThen (num k s i) q s)
-  number k i p q e f = go (leb (i + k) (length s)) refl
+  pub number : (k i : ℕ) (q : ℕ → P B) → (i + k ≤ length s → If Q (q (get k s i) s (i + k))) → If Q (andThen (num k s i) q s)
+  number k i q f = go (leb (i + k) (length s)) refl
     where
       go : (b : Bool) → leb (i + k) (length s) ≡ b → If Q (andThen (num k s i) q s)
-      go true t = let h = leb-true (i + k) (length s) t in rw (num-there k s i h, e) (f (omega (arith, h, e)))
+      go true t = let h = leb-true (i + k) (length s) t in rw (num-there k s i h) (f h)
       go false t = rw (num-short k s i (leb-false (i + k) (length s) t)) (no _)
 
   -- a head of fixed fields, whose first number stands o behind b
@@ -84,11 +89,7 @@ module _ (s : List ℕ) {B : Type 0} {Q : B → ℕ → Type 0} where
           rw (row-cut s ks c (offsetBy b o) z (omega (arith, h, e))) (no _)
 
   pub sought : (to i : ℕ) (q : ℕ → P B) → (to ≤ length s → If Q (q to s to)) → If Q (andThen (seekTo to s i) q s)
-  sought to i q f = go (leb to (length s)) refl
-    where
-      go : (b : Bool) → leb to (length s) ≡ b → If Q (andThen (seekTo to s i) q s)
-      go true t = let h = leb-true to (length s) t in rw (sought-there s to i h) (f h)
-      go false t = rw (sought-over s to i (leb-false to (length s) t)) (no _)
+  sought to i q f = after s (seekTo to s i) q (landed s to i) (λ v j k. rw (k .0, k .1) (f (k .2)))
 
   pub table : (n i : ℕ) (q : List ℕ → P B) → i ≤ length s → (i + 4 * n ≤ length s → If Q (q (numbersAt n s i) s (i + 4 * n))) → If Q (andThen (numbers n s i) q s)
   table n i q h f = go (numbersOf n s i) refl
@@ -98,23 +99,6 @@ module _ (s : List ℕ) {B : Type 0} {Q : B → ℕ → Type 0} where
           let d : numbers n s i ≡ ok (numbersAt n s i) (i + 4 * n) = numbers-run n s i ∙ rw (e, numbers-next n s i p e .1) in
           rw d (f (table-fits n s i p h e))
       go (Cut o k) e = let d : numbers n s i ≡ asNumbers (Cut o k) (numbersAt n s i) = numbers-run n s i ∙ rw e in rw d (no _)
-
-  -- a name and a head behind it: where the section's end cuts the name, the head is refused
-  pub name : (ks : List ℕ) (c : Item → List ℕ → P B) (b : ℕ) → 0 < total ks
-      → (b + (28 + total ks) ≤ length s → If Q (c (text b (nameSize s b)) (fieldsAt ks s b 28) s (b + (28 + total ks))))
-      → If Q (andThen (fixedText 28 s b) (λ t. rowThen ks (c t)) s)
-  name ks c b z f = go (leb (b + 28) (length s)) refl (ltb b (length s)) refl
-    where
-      go : (x : Bool) → leb (b + 28) (length s) ≡ x → (y : Bool) → ltb b (length s) ≡ y → If Q (andThen (fixedText 28 s b) (λ t. rowThen ks (c t)) s)
-      go x t false u = rw (name-none s b (ltb-false b (length s) u)) (no _)
-      go true t true u =
-          let h = leb-true (b + 28) (length s) t in
-          let e : b + min 28 (length s - b) ≡ b + 28 = omega arith in
-          rw (name-there s b (ltb-true b (length s) u), e) (head ks (c (text b (nameSize s b))) b 28 z f)
-      go false t true u =
-          let h = leb-false (b + 28) (length s) t in
-          let e : b + min 28 (length s - b) ≡ length s = omega (arith, h, ltb-true b (length s) u) in
-          rw (name-there s b (ltb-true b (length s) u), e) (head ks (c (text b (nameSize s b))) (length s) 0 z (λ l. absurd (omega arith)))
 
 -- ---- parts at the offsets of a table
 

@@ -6,7 +6,7 @@ use Prim.Native.Nat.{ℕ, suc, _*_}
 use mathlib.Core.Path.{_≡_, refl, ap, ap₂, sym, _∙_}
 use mathlib.Core.List.{List, [], _∷_, _++_, map, append-assoc, append-nil}
 use native.Mathlib.Omega.{arith}
-use lib.ListN.{length}
+use lib.ListN.{length, getD}
 use Rattle.bflan.specs.pai1.Letters.{fleu}
 use Rattle.bflan.specs.Limits.{All, Fits}
 use Rattle.bflan.specs.pai1.Limits.{FineTarget, FineDatum, FineInfo, FineNamed, FineBut}
@@ -110,13 +110,11 @@ same-target {x} {y} e1 e2 e3 e4 =
 target-once : Once targetCells TargetShape
 unfolding targetCells
 target-once x y p q a b h =
-    let h1 = same-first-word (x .layer) (y .layer) _ _ h in
-    let h2 = same-first-word (x .target) (y .target) _ _ (h1 .1) in
-    let h3 = same-first-word (x .curve) (y .curve) _ _ (h2 .1) in
-    let h4 = same-first-word (length (x .keys)) (length (y .keys)) _ _ (h3 .1) in
-    let q′ : All (KeyShape (x .curve)) (y .keys) = rw (h3 .0) q in
-    let h5 = each-once (map word) (KeyShape (x .curve)) (key-once (x .curve)) (x .keys) (y .keys) (h4 .0) p q′ a b (h4 .1) in
-    (same-target (h1 .0) (h2 .0) (h3 .0) (h5 .0), h5 .1)
+    let f = same-first-words (x .layer ∷ x .target ∷ x .curve ∷ length (x .keys) ∷ []) (y .layer ∷ y .target ∷ y .curve ∷ length (y .keys) ∷ []) refl _ _ h in
+    let at : (k : ℕ) → _ = λ k. ap (λ (vs : List ℕ). getD vs k 0) (f .0) in
+    let q′ : All (KeyShape (x .curve)) (y .keys) = rw (at 2) q in
+    let g = each-once (map word) (KeyShape (x .curve)) (key-once (x .curve)) (x .keys) (y .keys) (at 3) p q′ a b (f .1) in
+    (same-target (at 0) (at 1) (at 2) (g .0), g .1)
 
 same-datum : {x y : ExtendedUserDataAnim} → x .headerSize ≡ y .headerSize → x .unk1 ≡ y .unk1 → x .unk2 ≡ y .unk2 → x .baseCount ≡ y .baseCount → x .unk3 ≡ y .unk3
     → x .values ≡ y .values → x .key ≡ y .key → x ≡ y
@@ -129,16 +127,13 @@ same-datum {x} {y} e1 e2 e3 e4 e5 e6 e7 =
 datum-once : Once datumCells DatumShape
 unfolding datumCells
 datum-once x y p q a b h =
-    let h1 = same-first-word (x .headerSize) (y .headerSize) _ _ h in
-    let h2 = same-first-word (x .unk1) (y .unk1) _ _ (h1 .1) in
-    let h3 = same-first-word (x .unk2) (y .unk2) _ _ (h2 .1) in
-    let h4 = same-first-word (x .baseCount) (y .baseCount) _ _ (h3 .1) in
-    let h5 = same-first-word (x .unk3) (y .unk3) _ _ (h4 .1) in
+    let f = same-first-words (x .headerSize ∷ x .unk1 ∷ x .unk2 ∷ x .baseCount ∷ x .unk3 ∷ []) (y .headerSize ∷ y .unk1 ∷ y .unk2 ∷ y .baseCount ∷ y .unk3 ∷ []) refl _ _ h in
+    let at : (k : ℕ) → _ = λ k. ap (λ (vs : List ℕ). getD vs k 0) (f .0) in
     let z : Same (map word (x .values) ++ (chars (x .key) ∷ a)) (map word (y .values) ++ (chars (y .key) ∷ b)) =
-    rw (← append-assoc (map word (x .values)) (chars (x .key) ∷ []) a, ← append-assoc (map word (y .values)) (chars (y .key) ∷ []) b) (h5 .1) in
-    let h6 = same-first-words (x .values) (y .values) (p ∙ ap (λ (n : ℕ). 3 * n) (h4 .0) ∙ sym q) _ _ z in
-    let h7 = same-first-text (x .key) (y .key) a b (h6 .1) in
-    (same-datum (h1 .0) (h2 .0) (h3 .0) (h4 .0) (h5 .0) (h6 .0) (h7 .0), h7 .1)
+    rw (← append-assoc (map word (x .values)) (chars (x .key) ∷ []) a, ← append-assoc (map word (y .values)) (chars (y .key) ∷ []) b) (f .1) in
+    let g = same-first-words (x .values) (y .values) (p ∙ ap (λ (n : ℕ). 3 * n) (at 3) ∙ sym q) _ _ z in
+    let k = same-first-text (x .key) (y .key) a b (g .1) in
+    (same-datum (at 0) (at 1) (at 2) (at 3) (at 4) (g .0) (k .0), k .1)
 
 info-once : Once infoCells InfoShape
 unfolding infoCells
@@ -182,14 +177,12 @@ pub shape-once : (r q : PaneAnimInfo) → Shape r → Shape q → words r ≡ wo
 unfolding cells
 shape-once r q f g ew et =
     let h : Same (cells r) (cells q) = record { sameWords = ew; sameBytes = et } in
-    let h1 = same-first-word (r .frames) (q .frames) _ _ h in
-    let h2 = same-first-word (r .looping) (q .looping) _ _ (h1 .1) in
-    let h3 = same-first-word (length (r .textures)) (length (q .textures)) _ _ (h2 .1) in
-    let h4 = same-first-word (length (r .contents)) (length (q .contents)) _ _ (h3 .1) in
-    let h5 = each-once textCells (λ t. Unit) text-once (r .textures) (q .textures) (h3 .0) (all-any (r .textures)) (all-any (q .textures)) _ _ (h4 .1) in
-    let z : Same (each contentCells (r .contents) ++ []) (each contentCells (q .contents) ++ []) = rw (append-nil (each contentCells (r .contents)), append-nil (each contentCells (q .contents))) (h5 .1) in
-    let h6 = each-once contentCells ContentShape content-once (r .contents) (q .contents) (h4 .0) f g [] [] z in
-    same-record (h1 .0) (h2 .0) (h5 .0) (h6 .0)
+    let c = same-first-words (r .frames ∷ r .looping ∷ length (r .textures) ∷ length (r .contents) ∷ []) (q .frames ∷ q .looping ∷ length (q .textures) ∷ length (q .contents) ∷ []) refl _ _ h in
+    let at : (k : ℕ) → _ = λ k. ap (λ (vs : List ℕ). getD vs k 0) (c .0) in
+    let d = each-once textCells (λ t. Unit) text-once (r .textures) (q .textures) (at 2) (all-any (r .textures)) (all-any (q .textures)) _ _ (c .1) in
+    let z : Same (each contentCells (r .contents) ++ []) (each contentCells (q .contents) ++ []) = rw (append-nil (each contentCells (r .contents)), append-nil (each contentCells (q .contents))) (d .1) in
+    let e = each-once contentCells ContentShape content-once (r .contents) (q .contents) (at 3) f g [] [] z in
+    same-record (at 0) (at 1) (d .0) (e .0)
 
 -- ---- a record within the limits, whatever the length of its names, is of this shape
 

@@ -27,13 +27,13 @@ use Rattle.bflan.specs.Cells.{Cell, word as wordCell, chars, each, textC
 use Rattle.bflan.specs.Items.{shownAt}
 use Rattle.bflan.proofs.place.Locating.{stride-three, table-at}
 use Rattle.bflan.specs.inner.SectionParts.{afterHead}
-use Rattle.bflan.proofs.reader.ContentParts.{contentAfter, widths as contentWidths}
-use Rattle.bflan.proofs.reader.DatumParts.{fieldsIn, datumAfter, widths as datumWidths}
-use Rattle.bflan.proofs.reader.InfoParts.{infoAfter, widths as infoWidths}
+use Rattle.bflan.proofs.reader.ContentParts.{name, contentAfter, contentWidths}
+use Rattle.bflan.proofs.reader.DatumParts.{fieldsIn, datumAfter, datumWidths}
+use Rattle.bflan.proofs.reader.InfoParts.{infoAfter, infoWidths}
 use Rattle.bflan.proofs.reader.Rows.{rowThen, fieldsAt}
-use Rattle.bflan.proofs.reader.SectionParts.{headOf, widths as headWidths}
-use Rattle.bflan.proofs.reader.TargetParts.{targetAfter, widths as targetWidths}
-use Rattle.bflan.proofs.reader.Unstopped.{If, if-ok, yes, next, after, number, head, sought, table, name}
+use Rattle.bflan.proofs.reader.SectionParts.{headOf, headWidths}
+use Rattle.bflan.proofs.reader.TargetParts.{targetAfter, targetWidths}
+use Rattle.bflan.proofs.reader.Unstopped.{If, if-ok, yes, no, next, after, number, head, sought, table}
 use Rattle.bflan.proofs.round_trip.ReadBack.{shownIn, shown-append, shown-words}
 
 module _ (s : List ℕ) where
@@ -81,8 +81,8 @@ module _ (s : List ℕ) where
     where
       go : (r : TextAt) → endedOf s i ≡ r → If (Shows textCells (endedAt s i)) (andThen (asText i r) (λ t. ret (t ∷ [])) s)
       go (Text n q) e = yes (rw (ended-text s i n q e .text))
-      go (TextPast o k) e = record { holds = tt }
-      go (Unended a) e = record { holds = tt }
+      go (TextPast o k) e = no _
+      go (Unended a) e = no _
 
   texture-shown : (b i : ℕ) → If (Shows textCells (endedAt s b)) (texture b s i)
   unfolding texture
@@ -136,7 +136,7 @@ module _ (s : List ℕ) where
   datum-shown p =
       head s datumWidths (λ vs. datumAfter (fieldsIn vs)) p 0 (omega arith) (λ l16.
       table s (3 * get 4 s (p + 8)) (p + 16) _ l16 (λ l.
-      number s 4 (p + 16 + 4 * (3 * get 4 s (p + 8))) (p + 16 + 4 * (3 * get 4 s (p + 8)) + 4) _ refl (λ m.
+      number s 4 (p + 16 + 4 * (3 * get 4 s (p + 8))) _ (λ m.
       sought s (p + 16 + 4 * (3 * get 4 s (p + 8)) + get 4 s (p + 16 + 4 * (3 * get 4 s (p + 8)))) (p + 16 + 4 * (3 * get 4 s (p + 8)) + 4) _ (λ k.
       after s (oneEnded s (p + 16 + 4 * (3 * get 4 s (p + 8)) + get 4 s (p + 16 + 4 * (3 * get 4 s (p + 8))))) _
       (ended-shown (p + 16 + 4 * (3 * get 4 s (p + 8)) + get 4 s (p + 16 + 4 * (3 * get 4 s (p + 8)))))
@@ -227,11 +227,11 @@ module _ (s : List ℕ) where
 
   section-shows : If (Shows cells (recordAt s)) (section s 0)
   unfolding section
-  section-shows = number s 4 0 4 _ refl (λ l4. number s 4 4 8 _ refl (λ l8. kind (eqb (get 4 s 0) ownLetters)))
+  section-shows = number s 4 0 _ (λ l4. number s 4 4 _ (λ l8. kind (eqb (get 4 s 0) ownLetters)))
     where
       kind : (t : Bool) → If (Shows cells (recordAt s)) (given t (body (get 4 s 4)) (fail (OtherLetters (get 4 s 0))) s 8)
       kind true = body-shown (get 4 s 4)
-      kind false = record { holds = tt }
+      kind false = no _
 
   -- what reads is the record that the bytes are
   pub section-shown : (is : List Item) (end : ℕ) → section s 0 ≡ ok is end → shownIn s is ≡ cells (recordAt s)

@@ -27,8 +27,9 @@ use Rattle.bflan.specs.pai1.Reading.{keyOf, curveOf, countOf, keys, targ
 use Rattle.bflan.specs.pai1.Record.{Standard, ExtendedUserData, PaneAnimInfo, keyWidths, targetCells, datumCells, infoCells, contentCells, cells, words, texts}
 use Rattle.bflan.specs.Cells.{Cell, word as wordCell, wordsIn, bytesIn, each, textCells}
 use Rattle.bflan.specs.Items.{shownAt, wordsOf, textsOf}
-use Rattle.bflan.proofs.reader.Bounds.{Known, Gives, done, none, either, next, past, num-lt}
+use Rattle.bflan.proofs.reader.Bounds.{Gives, given-ok, done, none, either, next, past, num-lt}
 use Rattle.bflan.proofs.reader.SectionBounds.{count-le}
+use Rattle.bflan.proofs.reader.Unstopped.{If, yes, no}
 use Rattle.bflan.proofs.letters.Codes.{letters-fit, target-fits, target-fits-kept, letters-is}
 use Rattle.bflan.proofs.reader.Emits.{shown-part}
 use Rattle.bflan.proofs.judge.Laws.{free-none, AllOf}
@@ -174,12 +175,12 @@ module _ (s : List ℕ) (bytes : Bytes s) (short : length s ≤ limit) where
   unfolding oneEnded endedText
   ended-tree = record { from = λ i. go i (endedOf s i) refl }
     where
-      go : (i : ℕ) (r : TextAt) → endedOf s i ≡ r → Known (Tree s textCells FineText) (andThen (asText i r) (λ t. ret (t ∷ [])) s)
+      go : (i : ℕ) (r : TextAt) → endedOf s i ≡ r → If (λ is j. Tree s textCells FineText is) (andThen (asText i r) (λ t. ret (t ∷ [])) s)
       go i (Text n q) e =
           let f = ended-text s i n q e in
-          text-tree i n (shown-fine s i n short (rw (f .text) (before-text (drop i s))) (rw (f .text) (before-le (drop i s))) .0)
-      go i (TextPast o k) e = tt
-      go i (Unended a) e = tt
+          yes (text-tree i n (shown-fine s i n short (rw (f .text) (before-text (drop i s))) (rw (f .text) (before-le (drop i s))) .0))
+      go i (TextPast o k) e = no _
+      go i (Unended a) e = no _
 
   texture-tree : (base : ℕ) → Gives s (Tree s textCells FineText) (texture base)
   unfolding texture
@@ -205,10 +206,10 @@ module _ (s : List ℕ) (bytes : Bytes s) (short : length s ≤ limit) where
   unfolding fixedText textCells shownIn
   fixed-tree n = record { from = λ i. go i (fixedOf n s i) refl }
     where
-      go : (i : ℕ) (r : TextAt) → fixedOf n s i ≡ r → Known (λ t. Tree s textCells (Name n) (t ∷ [])) (asText i r)
-      go i (Text m q) e = record { tree = shownAt s i m; good = fixed-fine n i m (fixed-text n s i m q e .text); shows = refl }
-      go i (TextPast o k) e = tt
-      go i (Unended a) e = tt
+      go : (i : ℕ) (r : TextAt) → fixedOf n s i ≡ r → If (λ t j. Tree s textCells (Name n) (t ∷ [])) (asText i r)
+      go i (Text m q) e = yes (record { tree = shownAt s i m; good = fixed-fine n i m (fixed-text n s i m q e .text); shows = refl })
+      go i (TextPast o k) e = no _
+      go i (Unended a) e = no _
 
   -- keys
   key-tree : (c : ℕ) → Gives s (Tree s (map wordCell) (Fits (keyWidths c))) (keyOf c)
@@ -368,7 +369,7 @@ module _ (s : List ℕ) (bytes : Bytes s) (short : length s ≤ limit) where
   -- what reading gives are the words and the texts of a record within the limits but for the length of names
   pub read-tree : (is : List Item) (end : ℕ) → section s 0 ≡ ok is end → ReadTree s is
   read-tree is end e =
-      let t : Tree s cells Readable is = rw e at (section-tree .from 0) in
+      let t : Tree s cells Readable is = given-ok section-tree e in
       record {
         tree = t .tree;
         readable = t .good;

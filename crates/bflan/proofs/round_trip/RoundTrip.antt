@@ -37,8 +37,8 @@ use Rattle.bflan.specs.Items.{shownAt, wordsOf, textsOf, replacementsOf}
 use Rattle.bflan.proofs.read.Answers.{reading-gives}
 use Rattle.bflan.proofs.letters.Codes.{fleu-lt, fits-lt, fits-own, fit-lt, letters-own}
 use Rattle.bflan.specs.pai1.RecordAt.{nameSize}
-use Rattle.bflan.proofs.reader.ContentParts.{widths as contentWidths, contentRest, content-there, rest-at}
-use Rattle.bflan.proofs.reader.DatumParts.{fieldsIn, datumAfter, widths as datumWidths, datum-there}
+use Rattle.bflan.proofs.reader.ContentParts.{contentWidths, contentRest, content-there, rest-at}
+use Rattle.bflan.proofs.reader.DatumParts.{fieldsIn, datumAfter, datumWidths, datum-there}
 use Rattle.bflan.proofs.reader.Emits.{sought-there, ended-on, shown-part}
 use Rattle.bflan.proofs.reader.InfoParts.{info-extended, info-standard}
 use Rattle.bflan.proofs.reader.KeyRuns.{asNumbers, numbers-run}
@@ -46,7 +46,7 @@ use Rattle.bflan.proofs.reader.Rows.{fieldsAt}
 use Rattle.bflan.proofs.reader.SectionParts.{endAt, headItems, section-body, body-there, contents-on}
 use Rattle.bflan.proofs.Layouts.{Stands, stands-left, stands-right, stands-to, stands-all, stands-num, stands-get, size-table, size-written, offsets, table-reads, user-size, section-sizes, section-size, stands-code, fields-stand}
 use Rattle.bflan.proofs.round_trip.ReadBack.{shownIn, Reads, reads-as, reads-none, reads-before, reads-joined, ReadsPart, ReadsAt, many-reads, visit-reads, key-reads, shown-words, count-words, words-shown, texts-shown}
-use Rattle.bflan.proofs.reader.TargetParts.{targetAfter, widths as targetWidths, target-there, curve-low, count-low}
+use Rattle.bflan.proofs.reader.TargetParts.{targetAfter, targetWidths, target-there, curve-low, count-low}
 use Rattle.bflan.proofs.reader.Walks.{before, joined, put-before}
 
 -- ---- texts

@@ -30,7 +30,7 @@ use Rattle.bflan.proofs.judge.Inversion.{text-at, times-none, times-mor
 use Rattle.bflan.proofs.Layouts.{size-written, section-size}
 use Rattle.bflan.proofs.judge.Measures.{size-parts, size-numbers}
 use Rattle.bflan.proofs.writer.Stored.{text-fits, text-done}
-use Rattle.bflan.proofs.writer.Pens.{laid-fine, behind-fine, listed-size, Wrote, wrote-number, wrote-bytes, wrote-then, wrote-like, wrote-patched, Splits, split-behind, head-ready, head-done, whole-laid, whole-behind, like-ready, like-behind, like-laid, wrote-code}
+use Rattle.bflan.proofs.writer.Pens.{laid-fine, behind-fine, listed-size, Wrote, wrote-number, wrote-bytes, wrote-then, wrote-like, wrote-patched, Splits, split-behind, head-splits, head-ready, ready-within, head-done, whole-laid, whole-behind, like-ready, like-behind, like-laid, wrote-code}
 
 -- ---- a name
 
@@ -237,19 +237,7 @@ module _ (letters : ℕ) (w x : List ℕ) (i j at : ℕ) {most : ℕ} (h : Ready
     target-splits =
         let k : times n (row (keyWidths c)) w x (i + 4) j ≡ fine (h .value .keys) (h .word) (h .byte) = rw (ec, en) (t-at .keys) in
         let z : length (h .value .keys) ≡ n = times-length (row (keyWidths c)) w x n (i + 4) j k in
-        record {
-          whole = h .value;
-          first = targetHead a b c n;
-          rest = h .value .keys;
-          word = h .word;
-          byte = h .byte;
-          next-word = i + 4;
-          next-byte = j;
-          all = h .judged;
-          starts = refl;
-          goes-on = k;
-          same = rw (z, t-at .layer ∙ sym ea, t-at .number ∙ sym eb, t-at .curve ∙ sym ec) (simp append-assoc);
-        }
+        head-splits h (h .value .keys) k (rw (z, t-at .layer ∙ sym ea, t-at .number ∙ sym eb, t-at .curve ∙ sym ec) (simp append-assoc))
 
     twelve : 12 ≡ size (targetHead a b c n)
     unfolding targetHead rowLay size
@@ -296,20 +284,7 @@ module _ (w x : List ℕ) (i j at : ℕ) {most : ℕ} (h : Ready datumLay (datum
   datum-splits : Splits datumLay (datum w x i j) (λ (l : Layout). l) (fine (datumFront w i) (i + 5 + 3 * getD w (i + 3) 0) j)
       ended (nextText (wide 4) w x (i + 5 + 3 * getD w (i + 3) 0) j)
   unfolding datumLay datumFront datumHead rowLay written
-  datum-splits =
-      record {
-        whole = h .value;
-        first = datumFront w i;
-        rest = h .value .key;
-        word = h .word;
-        byte = h .byte;
-        next-word = i + 5 + 3 * getD w (i + 3) 0;
-        next-byte = j;
-        all = h .judged;
-        starts = refl;
-        goes-on = d .key;
-        same = rw (d .headerSize, d .unk1, d .unk2, d .baseCount, d .unk3, d .values) (simp append-assoc);
-      }
+  datum-splits = head-splits h (h .value .key) (d .key) (rw (d .headerSize, d .unk1, d .unk2, d .baseCount, d .unk3, d .values) (simp append-assoc))
 
   -- what its needs ask
   pub datum-fits : (i + 5 + 3 * getD w (i + 3) 0 < length w) × (at + 20 + 4 * (3 * getD w (i + 3) 0) ≤ limit)
@@ -351,31 +326,13 @@ module _ (w x : List ℕ) (i j at : ℕ) {most : ℕ} (h : Ready infoLay (info w
       go (ExtendedUserData ds) k = omega (arith, k)
 
   module _ (l n : ℕ) (el : l ≡ getD w i 0) (en : n ≡ getD w (i + 1) 0) where
-    -- the head, and what follows it
-    head-splits : {Y : Type 0} {lay : Y → Layout} {r : Judged Y} (ys : Y) → r ≡ fine ys (h .word) (h .byte) → written (infoLay (h .value)) ≡ written (infoHead l n) ++ written (lay ys)
-        → Splits infoLay (info w x i j) (λ (z : Layout). z) (fine (infoHead l n) (i + 2) j) lay r
-    head-splits ys k e =
-        record {
-          whole = h .value;
-          first = infoHead l n;
-          rest = ys;
-          word = h .word;
-          byte = h .byte;
-          next-word = i + 2;
-          next-byte = j;
-          all = h .judged;
-          starts = refl;
-          goes-on = k;
-          same = e;
-        }
-
     extended-splits : l ≡ fleu → Splits infoLay (info w x i j) (λ (z : Layout). z) (fine (infoHead l n) (i + 2) j) (parts datumLay) (times n datum w x (i + 2) j)
     unfolding infoLay written
     extended-splits f =
         info-extended w x i j (h .judged) (sym el ∙ f) λ ds q r.
         let k : times n datum w x (i + 2) j ≡ fine ds (h .word) (h .byte) = rw en r in
         let z : length ds ≡ n = times-length datum w x n (i + 2) j k in
-        head-splits ds k (ap (λ (a : AnimInfo). written (infoLay a)) q ∙ rw (z, f))
+        head-splits h ds k (ap (λ (a : AnimInfo). written (infoLay a)) q ∙ rw (z, f))
 
     standard-splits : (l ≡ fleu → ⊥) → Splits infoLay (info w x i j) (λ (z : Layout). z) (fine (infoHead l n) (i + 2) j)
         (listed targetLay (at + 8 + 4 * n - at)) (times n (target l) w [] (i + 2) j)
@@ -385,7 +342,7 @@ module _ (w x : List ℕ) (i j at : ℕ) {most : ℕ} (h : Ready infoLay (info w
         let k : times n (target l) w [] (i + 2) j ≡ fine ts (h .word) (h .byte) = blind-times (target l) (blind-target l) n w [] x (i + 2) j ∙ rw (en, el) r in
         let z : length ts ≡ n = times-length (target l) w [] n (i + 2) j k in
         let m : at + 8 + 4 * n - at ≡ 8 + 4 * n = omega arith in
-        head-splits ts k (ap (λ (a : AnimInfo). written (infoLay a)) q ∙ rw (z, m, el))
+        head-splits h ts k (ap (λ (a : AnimInfo). written (infoLay a)) q ∙ rw (z, m, el))
 
     eight : 8 ≡ size (infoHead l n)
     unfolding infoHead size le
@@ -549,19 +506,7 @@ module _ (n : ℕ) (w x : List ℕ) (q : Pen) (start : ℕ) {most : ℕ} (h : Re
   user-splits =
       let c = times-length info w x n (q .word) (q .byte) (h .judged) in
       let m : q .at + 8 + 4 * n - start ≡ 40 + 4 * n = omega (arith, s) in
-      record {
-        whole = h .value;
-        first = number 4 40 ⨾ number 4 total;
-        rest = h .value;
-        word = h .word;
-        byte = h .byte;
-        next-word = q .word;
-        next-byte = q .byte;
-        all = h .judged;
-        starts = refl;
-        goes-on = h .judged;
-        same = rw (c, m);
-      }
+      head-splits h (h .value) (h .judged) (rw (c, m))
 
   pub user-ready : Ready (listed infoLay (q .at + 8 + 4 * n - start)) (times n info w x (q .word) (q .byte)) (q .at + 8) most
   user-ready = head-ready user-splits (q .at) 8 (unfold size in refl) h
@@ -626,15 +571,7 @@ module _ (w x : List ℕ) (i j at : ℕ) {most : ℕ} (h : Ready contentLay (con
   whole-size = ap (λ (k : ℕ). size (contentBody (h .value)) + k) (length-replicate {A = ℕ} (paddingOf (size (contentBody (h .value)))) 0)
 
   pub name-ready : Ready nameLay (nextText (λ n. leb n 28) w x i j) at most
-  name-ready =
-      record {
-        value = h .value .name;
-        word = c .word;
-        byte = c .byte;
-        judged = c .name;
-        room = omega (arith, name-size, body-size, whole-size, h .room);
-        short = omega (arith, name-size, body-size, whole-size, h .short);
-      }
+  name-ready = ready-within h (c .name) (omega (arith, name-size, body-size, whole-size))
 
   -- behind the name
   module _ (q : Pen) (eq : q ≡ penBehind nameLay (nextText (λ n. leb n 28) w x i j) at) where
@@ -653,15 +590,7 @@ module _ (w x : List ℕ) (i j at : ℕ) {most : ℕ} (h : Ready contentLay (con
       kind-is = c .type ∙ rw (ek, ap (λ (z : Pen). z .word) placed) refl
 
       pub body-ready : Ready (bodyLay kind) (times n info w x (q .word + 2) (q .byte)) (at + 32) most
-      body-ready =
-          record {
-            value = h .value .infos;
-            word = h .word;
-            byte = h .byte;
-            judged = infos-judged;
-            room = rw (← kind-is) (omega (arith, body-size, whole-size, h .room));
-            short = rw (← kind-is) (omega (arith, body-size, whole-size, h .short));
-          }
+      body-ready = ready-within h infos-judged (rw (← kind-is) (omega (arith, body-size, whole-size)))
 
       pub content-done : (l0 : List ℕ) {l1 l2 l3 l4 : List ℕ} {e u : Pen} → l1 ≡ laid nameLay (nextText (λ n. leb n 28) w x i j) at l0
           → l2 ≡ sets l1 (at + 28) (written (number 1 n ⨾ number 1 kind ⨾ number 2 0))
@@ -706,14 +635,7 @@ module _ (n : ℕ) (w x : List ℕ) {most : ℕ} (h : Ready namesLay (times n (n
   pub names-ready : Ready (listed ended (20 + 4 * n - 20)) (times n (nextText (wide 4)) w x 4 0) 20 most
   names-ready =
       let z = listed-size ended (20 + 4 * n - 20) (h .value) in
-      record {
-        value = h .value;
-        word = h .word;
-        byte = h .byte;
-        judged = h .judged;
-        room = omega (arith, names-size, names-count, z, h .room);
-        short = omega (arith, names-size, names-count, z, h .short);
-      }
+      ready-within h (h .judged) (omega (arith, names-size, names-count, z))
 
   pub names-done : (l0 : List ℕ) {l1 l2 : List ℕ} {q u : Pen} → q ≡ penBehind (listed ended (20 + 4 * n - 20)) (times n (nextText (wide 4)) w x 4 0) 20
       → l1 ≡ laid (listed ended (20 + 4 * n - 20)) (times n (nextText (wide 4)) w x 4 0) 20 l0
@@ -761,15 +683,7 @@ module _ (w x : List ℕ) {most : ℕ} (h : Ready sectionLay (section w x 0 0) 0
     names-judged = rw en (at .textures)
 
     pub names-there : Ready namesLay (times n (nextText (wide 4)) w x 4 0) 20 most
-    names-there =
-        record {
-          value = ts;
-          word = at .word;
-          byte = at .byte;
-          judged = names-judged;
-          room = omega (arith, names-end, contents-end, section-size (h .value), h .room);
-          short = omega (arith, names-end, contents-end, section-size (h .value), h .short);
-        }
+    names-there = ready-within h names-judged (omega (arith, names-end, contents-end, section-size (h .value)))
 
     module _ (q : Pen) (eq : q ≡ penBehind namesLay (times n (nextText (wide 4)) w x 4 0) 20) (k : ℕ) (ek : k ≡ getD w 3 0) where
       after-names : q ≡ record { word = at .word; byte = at .byte; at = 20 + size (namesLay ts) }
@@ -785,15 +699,7 @@ module _ (w x : List ℕ) {most : ℕ} (h : Ready sectionLay (section w x 0 0) 0
       from = omega (arith, table-at, times-length content w x k (q .word) (q .byte) contents-judged)
 
       pub contents-there : Ready (listed contentLay (q .at + 4 * k - 0)) (times k content w x (q .word) (q .byte)) (q .at) most
-      contents-there =
-          record {
-            value = cs;
-            word = h .word;
-            byte = h .byte;
-            judged = contents-judged;
-            room = rw (from, table-at) (omega (arith, contents-end, section-size (h .value), h .room));
-            short = rw (from, table-at) (omega (arith, contents-end, section-size (h .value), h .short));
-          }
+      contents-there = ready-within h contents-judged (rw (from, table-at) (omega (arith, contents-end, section-size (h .value))))
 
       pub section-done : (l0 : List ℕ) {l1 l2 l3 l4 l5 l6 : List ℕ} {e : Pen} {p s : ℕ}
           → l1 ≡ sets l0 0 (written (bytes ownBytes ⨾ number 4 0 ⨾ frameLay (getD w 0 0) (getD w 1 0) (getD w 2 0) (getD w 3 0))) → l2 ≡ put 4 l1 16 0

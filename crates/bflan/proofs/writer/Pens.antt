@@ -137,6 +137,11 @@ module _ {A B C : Type 0} {lay : A → Layout} {r : Judged A} {one : B → Layou
         )
 
 -- the same, the first being plain fields
+pub head-splits : {A C : Type 0} {lay : A → Layout} {r : Judged A} {at most : ℕ} (h : Ready lay r at most) {head : Layout} {i j : ℕ} {two : C → Layout} {t : Judged C} (rest : C)
+    → t ≡ fine rest (h .word) (h .byte) → written (lay (h .value)) ≡ written head ++ written (two rest) → Splits lay r (λ (l : Layout). l) (fine head i j) two t
+head-splits h {head} {i} {j} rest e d =
+    record { whole = h .value; first = head; rest = rest; word = h .word; byte = h .byte; next-word = i; next-byte = j; all = h .judged; starts = refl; goes-on = e; same = d }
+
 module _ {A C : Type 0} {lay : A → Layout} {r : Judged A} {head : Layout} {i j : ℕ} {two : C → Layout} {t : Judged C}
     (h : Splits lay r (λ (l : Layout). l) (fine head i j) two t) (at n : ℕ) (e : n ≡ size head) where
   here : record { word = i; byte = j; at = at + n } ≡ penBehind (λ (l : Layout). l) (fine head i j) at
@@ -182,6 +187,11 @@ pub behind-within : {A : Type 0} (lay : A → Layout) {r : Judged A} {at most : 
 behind-within lay {r} {at} h {u} e =
     let p : u .at ≡ at + size (lay (h .value)) = ap (λ (z : Pen). z .at) (e ∙ behind-fine lay (h .judged) at) in
     (omega (arith, p), omega (arith, p, h .short))
+
+-- a part within another one
+pub ready-within : {A B : Type 0} {lay : A → Layout} {r : Judged A} {at most : ℕ} (h : Ready lay r at most) {two : B → Layout} {t : Judged B} {v : B} {i j p : ℕ} → t ≡ fine v i j
+    → p + size (two v) ≤ at + size (lay (h .value)) → Ready two t p most
+ready-within h {v = v} {i} {j} e l = record { value = v; word = i; byte = j; judged = e; room = omega (arith, l, h .room); short = omega (arith, l, h .short) }
 
 pub ready-in : {A : Type 0} {lay : A → Layout} {r : Judged A} {at m n : ℕ} → n ≡ m → Ready lay r at m → Ready lay r at n
 ready-in e h = rw e h
