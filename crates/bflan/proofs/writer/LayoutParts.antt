@@ -31,7 +31,7 @@ use Rattle.bflan.proofs.judge.Inversion.{text-at, times-none, times-mor
 use Rattle.bflan.proofs.Layouts.{size-written, size-key, section-size}
 use Rattle.bflan.proofs.judge.Measures.{size-parts, size-numbers}
 use Rattle.bflan.proofs.writer.Stored.{text-fits, text-done}
-use Rattle.bflan.proofs.writer.Pens.{Done, laid-fine, behind-fine, listed-size, Wrote, wrote-number, wrote-bytes, wrote-then, wrote-like, wrote-patched, Splits, split-behind, head-splits, head-ready, ready-within, head-done, whole-laid, whole-behind, like-ready, like-behind, like-laid, wrote-code}
+use Rattle.bflan.proofs.writer.Pens.{Leaves, laid-fine, behind-fine, listed-size, Wrote, wrote-number, wrote-bytes, wrote-then, wrote-like, wrote-patched, Splits, split-behind, head-splits, head-ready, ready-within, head-done, whole-laid, whole-behind, like-ready, like-behind, like-laid, wrote-code}
 
 -- ---- a name
 
@@ -49,7 +49,7 @@ module _ (w x : List ℕ) (q : Pen) {most : ℕ} (h : Ready nameLay (nextText (�
 
   pub name-done : (out : List ℕ) {m o : List ℕ} {u : Pen} → m ≡ sets out (q .at) (take n (drop (q .byte) x)) → o ≡ sets m (q .at + n) (replicate (28 - n) 0)
       → u ≡ record { word = q .word + 1; byte = q .byte + n; at = q .at + 28 }
-      → Done nameLay (nextText (λ n. leb n 28) w x (q .word) (q .byte)) (q .at) out u o
+      → Leaves nameLay (nextText (λ n. leb n 28) w x (q .word) (q .byte)) (q .at) out u o
   unfolding size
   name-done out a b c =
       let m = name-fits .1 in
@@ -182,7 +182,7 @@ module _ {curve c m : ℕ} {enc : List ℕ → List ℕ} (code : Coded curve c m
 
     pub keys-done : (out : List ℕ) {o : List ℕ} {u : Pen} → o ≡ sets out at (enc (take (c * n) (drop i w)))
         → u ≡ record { word = i + c * n; byte = j; at = at + m * n }
-        → Done (parts (keyLay curve)) (times n (row (keyWidths curve)) w x i j) at out u o
+        → Leaves (parts (keyLay curve)) (times n (row (keyWidths curve)) w x i j) at out u o
     unfolding written
     keys-done out e f =
         let g = keys-at n w x i j (h .judged) in (
@@ -194,7 +194,7 @@ module _ {curve c m : ℕ} {enc : List ℕ → List ℕ} (code : Coded curve c m
 -- a key of one word
 module _ {curve : ℕ} (z : curve ≡ 0) (n : ℕ) (w x : List ℕ) (i j at : ℕ) {most : ℕ} (h : Ready (parts (keyLay curve)) (times n (row (keyWidths curve)) w x i j) at most) where
   pub constant-done : (out : List ℕ) {o : List ℕ} {u : Pen} → o ≡ sets out at (numbersLe (take n (drop i w))) → u ≡ record { word = i + n; byte = j; at = at + 4 * n }
-      → Done (parts (keyLay curve)) (times n (row (keyWidths curve)) w x i j) at out u o
+      → Leaves (parts (keyLay curve)) (times n (row (keyWidths curve)) w x i j) at out u o
   constant-done out {o} {u} e f =
       let k : 1 * n ≡ n = omega arith in
       let e1 : o ≡ sets out at (numbersLe (take (1 * n) (drop i w))) = rw k e in
@@ -227,7 +227,7 @@ module _ (letters : ℕ) (w x : List ℕ) (i j at : ℕ) {most : ℕ} (h : Ready
 
     pub target-done : (out : List ℕ) {m o : List ℕ} {u : Pen} → m ≡ sets out at (written (targetHead a b c n))
         → u ≡ penBehind (parts (keyLay c)) (times n (row (keyWidths c)) w x (i + 4) j) (at + 12) → o ≡ laid (parts (keyLay c)) (times n (row (keyWidths c)) w x (i + 4) j) (at + 12) m
-        → Done targetLay (target letters w x i j) at out u o
+        → Leaves targetLay (target letters w x i j) at out u o
     target-done out = head-done target-splits at 12 twelve out
 
 -- ---- an extended datum
@@ -282,7 +282,7 @@ module _ (w x : List ℕ) (i j at : ℕ) {most : ℕ} (h : Ready datumLay (datum
 
     pub datum-done : (out : List ℕ) {m o : List ℕ} {u : Pen} → m ≡ sets out at (written (datumFront w i))
         → u ≡ penBehind ended (nextText (wide 4) w x (q .word) (q .byte)) (q .at) → o ≡ laid ended (nextText (wide 4) w x (q .word) (q .byte)) (q .at) m
-        → Done datumLay (datum w x i j) at out u o
+        → Leaves datumLay (datum w x i j) at out u o
     datum-done out e f g = head-done datum-splits at (20 + 4 * (3 * getD w (i + 3) 0)) front out e (rw (a, b, c) at f) (rw (a, b, c) at g)
 
 -- ---- an info
@@ -332,7 +332,7 @@ module _ (w x : List ℕ) (i j at : ℕ) {most : ℕ} (h : Ready infoLay (info w
       data-ready = head-ready (extended-splits f) at 8 eight h
 
       pub data-done : (out : List ℕ) {m o : List ℕ} {u : Pen} → m ≡ sets out at (written (infoHead l n)) → u ≡ penBehind (parts datumLay) (times n datum w x (i + 2) j) (at + 8)
-          → o ≡ laid (parts datumLay) (times n datum w x (i + 2) j) (at + 8) m → Done infoLay (info w x i j) at out u o
+          → o ≡ laid (parts datumLay) (times n datum w x (i + 2) j) (at + 8) m → Leaves infoLay (info w x i j) at out u o
       data-done out = head-done (extended-splits f) at 8 eight out
 
     module _ (f : l ≡ fleu → ⊥) where
@@ -342,7 +342,7 @@ module _ (w x : List ℕ) (i j at : ℕ) {most : ℕ} (h : Ready infoLay (info w
       pub targets-done : (out : List ℕ) {m o : List ℕ} {u : Pen} → m ≡ sets out at (written (infoHead l n))
           → u ≡ penBehind (listed targetLay (at + 8 + 4 * n - at)) (times n (target l) w [] (i + 2) j) (at + 8)
           → o ≡ laid (listed targetLay (at + 8 + 4 * n - at)) (times n (target l) w [] (i + 2) j) (at + 8) m
-          → Done infoLay (info w x i j) at out u o
+          → Leaves infoLay (info w x i j) at out u o
       targets-done out = head-done (standard-splits f) at 8 eight out
 
 -- ---- what a total size leaves out
@@ -454,7 +454,7 @@ module _ (kind n : ℕ) (w x : List ℕ) (q : Pen) (start : ℕ) {most : ℕ} (h
 
     pub two-done : (out : List ℕ) {o : List ℕ} {u : Pen} → u ≡ penBehind (bodyLay 2) (times n info w x (q .word) (q .byte)) (q .at)
         → o ≡ laid (bodyLay 2) (times n info w x (q .word) (q .byte)) (q .at) out
-        → Done (bodyLay kind) (times n info w x (q .word) (q .byte)) (q .at) out u o
+        → Leaves (bodyLay kind) (times n info w x (q .word) (q .byte)) (q .at) out u o
     two-done out e f = (rw k e, rw k f)
 
   -- not of a User content: the infos
@@ -470,7 +470,7 @@ module _ (kind n : ℕ) (w x : List ℕ) (q : Pen) (start : ℕ) {most : ℕ} (h
 
     pub plain-done : (out : List ℕ) {o : List ℕ} {u : Pen} → u ≡ penBehind (listed infoLay (q .at + 4 * n - start)) (times n info w x (q .word) (q .byte)) (q .at)
         → o ≡ laid (listed infoLay (q .at + 4 * n - start)) (times n info w x (q .word) (q .byte)) (q .at) out
-        → Done (bodyLay kind) (times n info w x (q .word) (q .byte)) (q .at) out u o
+        → Leaves (bodyLay kind) (times n info w x (q .word) (q .byte)) (q .at) out u o
     plain-done out e f =
         (e ∙ like-behind (bodyLay kind) (listed infoLay (q .at + 4 * n - start)) h plain, f ∙ like-laid (bodyLay kind) (listed infoLay (q .at + 4 * n - start)) h plain out)
 
@@ -504,7 +504,7 @@ module _ (n : ℕ) (w x : List ℕ) (q : Pen) (start : ℕ) {most : ℕ} (h : Re
       → u ≡ penBehind (listed infoLay (q .at + 8 + 4 * n - start)) (times n info w x (q .word) (q .byte)) (q .at + 8)
       → l3 ≡ laid (listed infoLay (q .at + 8 + 4 * n - start)) (times n info w x (q .word) (q .byte)) (q .at + 8) l2
       → gone ≡ outOf (times n info w x (q .word) (q .byte)) → l4 ≡ put 4 l3 p (u .at - start - gone)
-      → Done (bodyLay 2) (times n info w x (q .word) (q .byte)) (q .at) l0 u l4
+      → Leaves (bodyLay 2) (times n info w x (q .word) (q .byte)) (q .at) l0 u l4
   unfolding bodyLay userLay tableFrom size written
   user-done l0 {l1} {l2} {l3} {l4} {u} {p} {gone} e1 ep e2 eu e3 eg e4 =
       let c = times-length info w x n (q .word) (q .byte) (h .judged) in
@@ -576,7 +576,7 @@ module _ (w x : List ℕ) (i j at : ℕ) {most : ℕ} (h : Ready contentLay (con
           → e ≡ penBehind (bodyLay kind) (times n info w x (q .word + 2) (q .byte)) (at + 32)
           → l3 ≡ laid (bodyLay kind) (times n info w x (q .word + 2) (q .byte)) (at + 32) l2
           → u .word ≡ e .word → u .byte ≡ e .byte → u .at ≡ e .at + paddingOf (e .at - at) → l4 ≡ sets l3 (e .at) (replicate (paddingOf (e .at - at)) 0)
-          → Done contentLay (content w x i j) at l0 u l4
+          → Leaves contentLay (content w x i j) at l0 u l4
       unfolding contentLay size written
       content-done l0 {l1} {l2} {l3} {l4} {e} {u} e1 e2 ee e3 uw ub ua e4 =
           let count : n ≡ length (h .value .infos) = sym (times-length info w x n (q .word + 2) (q .byte) infos-judged) in
@@ -619,7 +619,7 @@ module _ (n : ℕ) (w x : List ℕ) {most : ℕ} (h : Ready namesLay (times n (n
   pub names-done : (l0 : List ℕ) {l1 l2 : List ℕ} {q u : Pen} → q ≡ penBehind (listed ended (20 + 4 * n - 20)) (times n (nextText (wide 4)) w x 4 0) 20
       → l1 ≡ laid (listed ended (20 + 4 * n - 20)) (times n (nextText (wide 4)) w x 4 0) 20 l0
       → u .word ≡ q .word → u .byte ≡ q .byte → u .at ≡ q .at + paddingOf (q .at) → l2 ≡ sets l1 (q .at) (replicate (paddingOf (q .at)) 0)
-      → Done namesLay (times n (nextText (wide 4)) w x 4 0) 20 l0 u l2
+      → Leaves namesLay (times n (nextText (wide 4)) w x 4 0) 20 l0 u l2
   unfolding namesLay written size end
   names-done l0 {l1} {l2} {q} {u} e1 e2 uw ub ua e3 =
       let m : 20 + 4 * n - 20 ≡ 4 * length (h .value) = omega (arith, names-count) in

@@ -17,7 +17,7 @@ use Rattle.bflan.specs.Limits.{limit}
 use Rattle.bflan.specs.inner.Pen.{Ready}
 use Rattle.bflan.proofs.judge.Inversion.{TextAt, text-at}
 use Rattle.bflan.proofs.reader.Rows.{offsetBy, offset-is}
-use Rattle.bflan.proofs.writer.Pens.{Done, Wrote, wrote-number, wrote-bytes, wrote-then, whole-laid, whole-behind}
+use Rattle.bflan.proofs.writer.Pens.{Leaves, Wrote, wrote-number, wrote-bytes, wrote-then, whole-laid, whole-behind}
 
 -- ---- single fields
 
@@ -74,7 +74,7 @@ module _ (lay : List ℕ → Layout) (tail : ℕ → Layout) (shape : (t : List 
 
   pub text-done : (out : List ℕ) {m o : List ℕ} {u : Pen} → m ≡ sets out (q .at) (take n (drop (q .byte) x)) → Wrote m (q .at + n) (tail n) o
       → u ≡ record { word = q .word + 1; byte = q .byte + n; at = q .at + n + size (tail n) }
-      → Done lay (nextText test w x (q .word) (q .byte)) (q .at) out u o
+      → Leaves lay (nextText test w x (q .word) (q .byte)) (q .at) out u o
   unfolding size
   text-done out a b c =
       let v : take n (drop (q .byte) x) ≡ h .value = rw e (sym (t .bytes)) in
@@ -95,6 +95,6 @@ module _ (w x : List ℕ) (q : Pen) {most : ℕ} (h : Ready ended (nextText (wid
 
   pub ended-done : (out : List ℕ) {m o : List ℕ} {u : Pen} → m ≡ sets out (q .at) (take n (drop (q .byte) x)) → o ≡ put 1 m (q .at + n) 0
       → u ≡ record { word = q .word + 1; byte = q .byte + n; at = q .at + n + 1 }
-      → Done ended (nextText (wide 4) w x (q .word) (q .byte)) (q .at) out u o
+      → Leaves ended (nextText (wide 4) w x (q .word) (q .byte)) (q .at) out u o
   unfolding size
   ended-done out a b c = text-done ended (λ k. number 1 0) ended-shape (wide 4) w x q h n e out a (wrote-number b) c
