@@ -1,11 +1,12 @@
 -- Layouts: their sizes, and what it means that one stands somewhere among bytes.
 -- Assumes nothing.
-use Prim.Native.Nat.{ℕ, _+_, _*_, _^_, _≤_, _<_}
+use Prim.Native.Nat.{ℕ, suc, _+_, _*_, _^_, _≤_, _<_}
 use mathlib.Core.Path.{_≡_, refl, ap, ap₂, sym, subst, _∙_}
 use mathlib.Core.Bool.{Bool, true, false}
 use mathlib.Core.List.{List, [], _∷_, _++_}
 use native.Mathlib.Nat.{add-zero}
 use native.Mathlib.Omega.{arith}
+use borrow.Author.Tests.{ne-eqb}
 use lib.Dec.{eqb}
 use lib.ListN.{length, take, drop, length-append, length-replicate}
 use lib.Seq.{take-take, take-append-seam, drop-drop, take-add, take-length, drop-at}
@@ -14,11 +15,11 @@ use Rattle.core.specs.Fill.{paddingOf}
 use Rattle.core.specs.Number.{get, le}
 use Rattle.core.proofs.Numbers.{length-le, val-le}
 use Rattle.bflan.specs.Layout.{Layout, nothing, number, bytes, _⨾_, size, written, zeros, row, parts, table, ended}
-use Rattle.bflan.specs.pai1.Layout.{tableFrom, userLay, contentLay, namesEnd, contentTable, sectionSize, sectionLay}
-use Rattle.bflan.specs.pai1.Places.{total}
+use Rattle.bflan.specs.pai1.Layout.{keySkip, keyLay, tableFrom, userLay, contentLay, namesEnd, contentTable, sectionSize, sectionLay}
+use Rattle.bflan.specs.pai1.Places.{total, stride}
 use Rattle.bflan.specs.Limits.{Fits}
 use Rattle.bflan.specs.Reader.{ok, P, num, numbers}
-use Rattle.bflan.specs.pai1.Record.{PaneAnimInfo}
+use Rattle.bflan.specs.pai1.Record.{PaneAnimInfo, keyWidths}
 use Rattle.bflan.proofs.reader.KeyRuns.{num-there}
 use Rattle.bflan.proofs.reader.Rows.{rowThen, offsetBy, offset-is, fieldsAt, row-there}
 
@@ -34,6 +35,14 @@ unfolding size row total
 size-row [] vs = refl
 size-row (k ∷ ks) [] = ap (λ (n : ℕ). k + n) (size-row ks [])
 size-row (k ∷ ks) (v ∷ vs) = ap (λ (n : ℕ). k + n) (size-row ks vs)
+
+pub size-key : (curve : ℕ) (k : List ℕ) → size (keyLay curve k) ≡ stride curve
+unfolding keyLay size stride
+size-key curve k = ap₂ (λ (m n : ℕ). m + n) (size-row (keyWidths curve) k) (length-replicate (keySkip curve) 0)
+
+pub stride-three : (c : ℕ) → stride (suc (suc c)) ≡ 12
+unfolding stride total keyWidths keySkip
+stride-three c = let e : eqb (suc (suc c)) 1 ≡ false = ne-eqb (suc (suc c)) 1 (λ z. omega arith) in rw e
 
 -- the layout's bytes stand in s from i on
 pub record Stands (s : List ℕ) (i : ℕ) (l : Layout) : Type 0 where

@@ -20,7 +20,7 @@ use Rattle.bflan.specs.pai1.Record.{AnimTarget, ExtendedUserDataAnim, An
 use Rattle.bflan.specs.inner.JudgeParts.{afterHead}
 use Rattle.bflan.specs.inner.Measure.{fits}
 use Rattle.bflan.proofs.judge.Laws.{fine-to, no-word, no-text}
-use Rattle.bflan.proofs.judge.Measures.{fits-there, fits-holds, testsThen, Fitting, wordsOn, past}
+use Rattle.bflan.proofs.judge.Measures.{fits-there, fits-holds, testsThen, Fitting, wordsOn, wordsEnd}
 
 -- ---- a walk of two parts
 
@@ -48,7 +48,7 @@ module _ {Y C : Type 0} (w x : List ℕ) (i j : ℕ) {y : Y} {k l : ℕ} where
 
 -- words with a test each
 pub opened-words : {Y C : Type 0} (w x : List ℕ) (i j : ℕ) {y : Y} {k l : ℕ} (ts : List (ℕ → Bool)) (c : List ℕ → J Y) → testsThen ts c w x i j ≡ fine y k l
-    → (Fitting ts w i → c (wordsOn ts w i) w x (past ts i) j ≡ fine y k l → C)
+    → (Fitting ts w i → c (wordsOn ts w i) w x (wordsEnd ts i) j ≡ fine y k l → C)
     → C
 unfolding testsThen
 opened-words w x i j [] c e f = f tt e

@@ -23,10 +23,10 @@ use Rattle.bflan.specs.pai1.Layout.{targetLay, datumLay, infoHead, infoL
 use Rattle.bflan.specs.inner.Measure.{verdictOf}
 use Rattle.bflan.specs.inner.Measure.{fits, grown, filledUp, padded}
 use Rattle.bflan.specs.inner.JudgeParts.{ValuesAndKey, valuesAndKey, afterName, afterHead}
-use Rattle.bflan.specs.pai1.Places.{total}
+use Rattle.bflan.specs.pai1.Places.{total, stride}
 use Rattle.bflan.specs.pai1.Record.{AnimTarget, Standard, AnimInfo, AnimContent, PaneAnimInfo, keyWidths}
 use Rattle.bflan.specs.inner.Walk.{sat}
-use Rattle.bflan.proofs.Layouts.{size-row, size-table, user-size, section-size}
+use Rattle.bflan.proofs.Layouts.{size-key, stride-three, size-table, user-size, section-size}
 use Rattle.bflan.proofs.judge.Inversion.{times-length, targetTests, targetThen, datumTests, datumThen, infoTests, infoThen, namedTests, namedThen, paneTests, paneThen}
 use Rattle.bflan.proofs.judge.Measures.{testsThen, Tested, Fitting, tests-fine, bad-at, marked, measured-padded, sat-filled, grown-sat, was-word, was-text, was-then, measured-by, measured-grown, measured-made, then-grown, word-fine, word-bad, times-none, times-turn, steps-as, steps-word, steps-row, steps-times, ran, steps-measured, size-parts, size-numbers}
 
@@ -109,22 +109,22 @@ module _ (w : List ℕ) (small : (k : ℕ) → getD w k 0 < 4294967296) (x : Lis
 
 -- keys whose words are all of four bytes are a run of words
 module _ (w : List ℕ) (small : (k : ℕ) → getD w k 0 < 4294967296) (x : List ℕ) (i j : ℕ) where
-  keys-run : (curve k m n : ℕ) → keyWidths curve ≡ replicate k 4 → ((ks : List ℕ) → size (keyLay curve ks) ≡ k * 4) → n * k ≡ m → n * (k * 4) ≡ m * 4
+  keys-run : (curve k m n : ℕ) → keyWidths curve ≡ replicate k 4 → stride curve ≡ k * 4 → n * k ≡ m → n * (k * 4) ≡ m * 4
       → verdictOf (λ vs. size (parts (number 4) vs)) (times m (nextWord (wide 4)) w x i j) ≡ verdictOf (λ ks. size (parts (keyLay curve) ks)) (times n (row (keyWidths curve)) w x i j)
   keys-run curve k m n ew es em e4 =
       run-is w small x m i j ∙ sym (rw ew
       (steps-measured (times n (row (replicate k 4))) w x m (steps-as _ w x (n * k) m (steps-times (row (replicate k 4)) w x k (steps-row w small x k) n) em) (λ ks. size (parts (keyLay curve) ks)) (m * 4) i j
-      (λ ks u v e. size-parts (keyLay curve) (k * 4) es ks ∙ ap (λ (l : ℕ). l * (k * 4)) (times-length (row (replicate k 4)) w x n i j e) ∙ e4)))
+      (λ ks u v e. size-parts (keyLay curve) (k * 4) (λ k. size-key curve k ∙ es) ks ∙ ap (λ (l : ℕ). l * (k * 4)) (times-length (row (replicate k 4)) w x n i j e) ∙ e4)))
 
   pub keys-constant : (curve n : ℕ) → curve ≡ 0
       → verdictOf (λ vs. size (parts (number 4) vs)) (times n (nextWord (wide 4)) w x i j) ≡ verdictOf (λ ks. size (parts (keyLay curve) ks)) (times n (row (keyWidths curve)) w x i j)
-  keys-constant curve n e = rw e (keys-run 0 1 n n (unfold keyWidths in refl) (λ ks. unfold keyLay keyWidths keySkip size total in rw (size-row (4 ∷ []) ks)) (omega arith) (omega arith))
+  keys-constant curve n e = rw e (keys-run 0 1 n n (unfold keyWidths in refl) (unfold stride total keyWidths keySkip in refl) (omega arith) (omega arith))
 
   pub keys-hermite : (curve n : ℕ) → 2 ≤ curve
       → verdictOf (λ vs. size (parts (number 4) vs)) (times (3 * n) (nextWord (wide 4)) w x i j) ≡ verdictOf (λ ks. size (parts (keyLay curve) ks)) (times n (row (keyWidths curve)) w x i j)
   keys-hermite zero n h = absurd (omega arith)
   keys-hermite (suc zero) n h = absurd (omega arith)
-  keys-hermite (suc (suc c)) n h = keys-run (suc (suc c)) 3 (3 * n) n (unfold keyWidths in refl) (λ ks. unfold keyLay keyWidths keySkip size total in rw (size-row (4 ∷ 4 ∷ 4 ∷ []) ks, ne-eqb (suc (suc c)) 1 (λ e. omega arith))) (omega arith) (omega arith)
+  keys-hermite (suc (suc c)) n h = keys-run (suc (suc c)) 3 (3 * n) n (unfold keyWidths in refl) (stride-three c) (omega arith) (omega arith)
 
 -- pairs: the second word is of two bytes, and a loop looks at each
 module _ (w x : List ℕ) (left at j c : ℕ) (whole : Verdict) (e : verdictOf (λ ks. c) (times left (row (keyWidths 1)) w x at j) ≡ whole) where
@@ -152,7 +152,7 @@ pairs-size w x n i j =
     measured-by (λ ks. 8 * n) (λ ks. size (parts (keyLay 1) ks)) (times n (row (keyWidths 1)) w x i j)
     (λ ks u v e.
     let l = times-length (row (keyWidths 1)) w x n i j e in
-    let s = size-parts (keyLay 1) 8 (λ k. unfold keyLay keyWidths keySkip size total in rw (size-row (4 ∷ 2 ∷ []) k)) ks in
+    let s = size-parts (keyLay 1) 8 (λ k. unfold stride total keyWidths keySkip in size-key 1 k) ks in
     omega (arith, l, s))
 
 pub keys-step : (w x : List ℕ) (i j curve n : ℕ) → curve ≡ 1

@@ -20,7 +20,7 @@ use Rattle.bflan.specs.Judge.{Judged, fine, badWord, badText, J, andThen
 use Rattle.bflan.specs.Layout.{bytes, _⨾_, size, written}
 use Rattle.bflan.specs.Limits.{All, Fits, FineText}
 use Rattle.bflan.specs.Cells.{Cell, word as wordCell, chars as charsCell, wordsIn, bytesIn, textCells, each}
-use Rattle.bflan.proofs.judge.Measures.{testsThen, past}
+use Rattle.bflan.proofs.judge.Measures.{testsThen, wordsEnd}
 use Rattle.bflan.proofs.Layouts.{Stands, stands-left, stands-right}
 
 -- ---- texts
@@ -195,7 +195,7 @@ Pass (t ∷ ts) [] = ⊥
 Pass (t ∷ ts) (v ∷ vs) = (t v ≡ true) × Pass ts vs
 
 pub tests-law : {A : Type 0} {w x : List ℕ} {i j : ℕ} (ts : List (ℕ → Bool)) (c : List ℕ → J A) (vs : List ℕ) (cs : List Cell) → Pass ts vs → Place w x i j (map wordCell vs ++ cs)
-    → (testsThen ts c w x i j ≡ c vs w x (past ts i) j) × Place w x (past ts i) j cs
+    → (testsThen ts c w x i j ≡ c vs w x (wordsEnd ts i) j) × Place w x (wordsEnd ts i) j cs
 unfolding testsThen
 tests-law [] c [] cs q h = (refl, h)
 tests-law [] c (v ∷ vs) cs q h = absurd q

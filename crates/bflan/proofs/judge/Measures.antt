@@ -221,11 +221,11 @@ abbrev pub wordsOn : List (ℕ → Bool) → List ℕ → ℕ → List ℕ
 wordsOn [] w i = []
 wordsOn (t ∷ ts) w i = getD w i 0 ∷ wordsOn ts w (i + 1)
 
-abbrev pub past : List (ℕ → Bool) → ℕ → ℕ
-past [] i = i
-past (t ∷ ts) i = past ts (i + 1)
+abbrev pub wordsEnd : List (ℕ → Bool) → ℕ → ℕ
+wordsEnd [] i = i
+wordsEnd (t ∷ ts) i = wordsEnd ts (i + 1)
 
-pub tests-fine : {A : Type 0} (ts : List (ℕ → Bool)) (c : List ℕ → J A) (w x : List ℕ) (i j : ℕ) → Fitting ts w i → testsThen ts c w x i j ≡ c (wordsOn ts w i) w x (past ts i) j
+pub tests-fine : {A : Type 0} (ts : List (ℕ → Bool)) (c : List ℕ → J A) (w x : List ℕ) (i j : ℕ) → Fitting ts w i → testsThen ts c w x i j ≡ c (wordsOn ts w i) w x (wordsEnd ts i) j
 unfolding testsThen
 tests-fine [] c w x i j f = refl
 tests-fine (t ∷ ts) c w x i j f = rw (word-fine t w x i j (f .0)) (tests-fine ts (λ vs. c (getD w i 0 ∷ vs)) w x (i + 1) j (f .1))

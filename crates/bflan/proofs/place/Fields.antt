@@ -1,7 +1,7 @@
 -- A field that is found in a written section is the record's, and the section with other values there is the record's with these values.
 -- Assumes nothing.
 use Prim.Native.Nat.{ℕ, zero, suc, _+_, _-_, _*_, _^_, _≤_, _<_}
-use mathlib.Core.Path.{_≡_, refl, ap, ap₂, sym, _∙_}
+use mathlib.Core.Path.{_≡_, refl, ap, sym, _∙_}
 use mathlib.Core.Bool.{Bool, true, false, _&&_}
 use mathlib.Core.List.{List, [], _∷_}
 use native.Mathlib.Nat.{add-zero, zero-add, add-assoc}
@@ -18,7 +18,7 @@ use Rattle.bflan.specs.declared.place.Field.{Field}
 use Rattle.bflan.specs.declared.place.Field.the-variants.{FrameCount as framesField, Looping as loopingField, Layer as layerField, Target as numberField, Key as keyField, Value as valueField}
 use Rattle.bflan.specs.pai1.Letters.{fleu, lettersOf}
 use Rattle.bflan.specs.Layout.{Layout, nothing, number, _⨾_, size, written, row, parts, table}
-use Rattle.bflan.specs.pai1.Layout.{keySkip, keyLay, targetLay, datumLay, infoHead, infoLay, dataOut, infosOut, tableFrom, infosFrom, userLay, contentBody, contentLay, namesEnd, contentTable, sectionSize, sectionLay}
+use Rattle.bflan.specs.pai1.Layout.{keyLay, targetLay, datumLay, infoHead, infoLay, dataOut, infosOut, tableFrom, infosFrom, userLay, contentBody, contentLay, namesEnd, contentTable, sectionSize, sectionLay}
 use Rattle.bflan.specs.Limits.{All, Fits}
 use Rattle.bflan.specs.pai1.Limits.{FineTarget, FineDatum, FineInfo, FineContent, Fine, Within}
 use Rattle.bflan.specs.pai1.Places.{widths, total, fitWidths, first, allowed, fit, Spot, nowhere, spot, stride, keyIn, valueIn, after, targetIn, datumIn, infoTableIn, infoIn, contentIn, locate, ofElement, changed, Found, missing, found, atTarget, atDatum, atInfo, fieldOf, onTarget, onDatum, onContent, onInfo, replaced}
@@ -27,7 +27,7 @@ use Rattle.bflan.specs.pai1.Reading.{datum}
 use Rattle.bflan.specs.pai1.Record.{AnimTarget, ExtendedUserDataAnim, AnimInfo, Standard, ExtendedUserData, AnimContent, PaneAnimInfo, keyWidths, datumCells}
 use Rattle.bflan.specs.Cells.{Cell, each}
 use Rattle.bflan.proofs.letters.Codes.{fleu-lt, fit-lt, letters-own}
-use Rattle.bflan.proofs.Layouts.{size-written, size-row, Stands, stands-left, stands-right, stands-to, stands-all, stands-get, size-table, user-size, section-sizes}
+use Rattle.bflan.proofs.Layouts.{size-written, size-row, size-key, Stands, stands-left, stands-right, stands-to, stands-all, stands-get, size-table, user-size, section-sizes}
 use Rattle.bflan.proofs.reader.Rows.{fieldsAt}
 use Rattle.bflan.proofs.round_trip.ReadBack.{Reads, reads-as, reads-none, reads-joined, ReadsPart}
 use Rattle.bflan.proofs.place.Replacing.{Replaces, replaces-to, replaces-left, replaces-right, replaces-whole, replaces-number, length-row, length-changed, no-element, ahead, ahead-even, table-entry, Element, element}
@@ -109,10 +109,6 @@ module _ (letters b : ℕ) (y : AnimTarget) (f : FineTarget letters y) where
         replaces = λ vs. replaces-to (replaces-right _ (replaces-left _ (replaces-number 1 (y .target) vs))) (omega arith);
         fine = λ vs e. record { layer = f .layer; target = fit-allowed (numberField letters) vs e; curve = f .curve; count = f .count; keys = f .keys };
       })
-
-size-key : (curve : ℕ) (k : List ℕ) → size (keyLay curve k) ≡ stride curve
-unfolding keyLay size stride
-size-key curve k = ap₂ (λ (m n : ℕ). m + n) (size-row (keyWidths curve) k) (length-replicate (keySkip curve) 0)
 
 replaces-key : (curve : ℕ) (old vs : List ℕ) → Replaces (written (row (keyWidths curve) vs)) 0 (keyLay curve old) (keyLay curve vs)
 unfolding keyLay

@@ -35,6 +35,7 @@ use Rattle.bflan.specs.inner.Walk.{emptyTally, walkOf, walked}
 use Rattle.bflan.specs.declared.reader.tally.Tally.{Tally}
 use Rattle.bflan.specs.declared.reader.tally.Walk.{Walk}
 use Rattle.bflan.specs.declared.reader.tally.Walk.the-variants.{Went, Stopped}
+use Rattle.bflan.proofs.Layouts.{stride-three}
 use Rattle.bflan.proofs.read.Answers.{told-answer, stopped, whole}
 use Rattle.bflan.specs.pai1.RecordAt.{nameSize}
 use Rattle.bflan.specs.inner.SectionParts.{afterHead}
@@ -50,10 +51,6 @@ use Rattle.bflan.proofs.reader.Unstopped.{If, if-ok, yes, no, weaker, s
 use Rattle.bflan.proofs.reader.Walks.{before, on-no, on-place}
 
 -- ---- keys
-
-pub stride-three : (c : ℕ) → stride (suc (suc c)) ≡ 12
-unfolding stride total keyWidths keySkip
-stride-three c = let e : eqb (suc (suc c)) 1 ≡ false = ne-eqb (suc (suc c)) 1 (λ z. omega arith) in rw e
 
 module _ (s : List ℕ) where
   abbrev KeyAt : ℕ → ℕ → List Item → ℕ → Type 0

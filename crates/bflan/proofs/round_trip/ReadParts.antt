@@ -25,7 +25,8 @@ use Rattle.bflan.specs.pai1.RecordAt.{nameSize, reached, partsAt, endedA
 use Rattle.bflan.specs.pai1.Record.{Standard, ExtendedUserData, keyWidths, targetCells, datumCells, infoCells, contentCells, cells}
 use Rattle.bflan.specs.Cells.{Cell, word as wordCell, chars, each, textCells}
 use Rattle.bflan.specs.Items.{shownAt}
-use Rattle.bflan.proofs.place.Locating.{stride-three, table-at}
+use Rattle.bflan.proofs.Layouts.{stride-three}
+use Rattle.bflan.proofs.place.Locating.{table-at}
 use Rattle.bflan.specs.inner.SectionParts.{afterHead}
 use Rattle.bflan.proofs.reader.ContentParts.{name, contentAfter, contentWidths}
 use Rattle.bflan.proofs.reader.DatumParts.{fieldsIn, datumAfter, datumWidths}

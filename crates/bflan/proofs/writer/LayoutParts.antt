@@ -23,14 +23,15 @@ use Rattle.bflan.specs.pai1.Layout.{keySkip, keyLay, targetLay, datumLay
 use Rattle.bflan.specs.pai1.Letters.{fleu, targetFits}
 use Rattle.bflan.specs.Limits.{limit}
 use Rattle.bflan.specs.pai1.Reading.{ownBytes}
+use Rattle.bflan.specs.pai1.Places.{total as sum, stride}
 use Rattle.bflan.specs.pai1.Record.{ExtendedUserDataAnim, AnimInfo, Standard, ExtendedUserData, AnimContent, keyWidths}
 use Rattle.bflan.specs.inner.Pen.{Ready, laid, penBehind, listed}
 use Rattle.bflan.specs.inner.LayoutParts.{targetHead, datumHead, datumFront, nameLay, bodyLay, frameLay, namesLay, outOf, outBy}
 use Rattle.bflan.proofs.judge.Inversion.{text-at, times-none, times-more, times-length, WordsAt, row-at, DatumAt, datum-at, info-at, info-extended, info-standard, ContentAt, content-at, SectionAt, section-at, TargetAt, target-at}
-use Rattle.bflan.proofs.Layouts.{size-written, section-size}
+use Rattle.bflan.proofs.Layouts.{size-written, size-key, section-size}
 use Rattle.bflan.proofs.judge.Measures.{size-parts, size-numbers}
 use Rattle.bflan.proofs.writer.Stored.{text-fits, text-done}
-use Rattle.bflan.proofs.writer.Pens.{laid-fine, behind-fine, listed-size, Wrote, wrote-number, wrote-bytes, wrote-then, wrote-like, wrote-patched, Splits, split-behind, head-splits, head-ready, ready-within, head-done, whole-laid, whole-behind, like-ready, like-behind, like-laid, wrote-code}
+use Rattle.bflan.proofs.writer.Pens.{Leaves, laid-fine, behind-fine, listed-size, Wrote, wrote-number, wrote-bytes, wrote-then, wrote-like, wrote-patched, Splits, split-behind, head-splits, head-ready, ready-within, head-done, whole-laid, whole-behind, like-ready, like-behind, like-laid, wrote-code}
 
 -- ---- a name
 
@@ -48,7 +49,7 @@ module _ (w x : List ℕ) (q : Pen) {most : ℕ} (h : Ready nameLay (nextText (�
 
   pub name-done : (out : List ℕ) {m o : List ℕ} {u : Pen} → m ≡ sets out (q .at) (take n (drop (q .byte) x)) → o ≡ sets m (q .at + n) (replicate (28 - n) 0)
       → u ≡ record { word = q .word + 1; byte = q .byte + n; at = q .at + 28 }
-      → (u ≡ penBehind nameLay (nextText (λ n. leb n 28) w x (q .word) (q .byte)) (q .at)) × (o ≡ laid nameLay (nextText (λ n. leb n 28) w x (q .word) (q .byte)) (q .at) out)
+      → Leaves nameLay (nextText (λ n. leb n 28) w x (q .word) (q .byte)) (q .at) out u o
   unfolding size
   name-done out a b c =
       let m = name-fits .1 in
@@ -92,33 +93,26 @@ blind-target letters = blind-bind (nextWord (wide 1)) _ (blind-word (wide 1)) λ
 -- keys of a curve, each of c words and m bytes, written as `enc` says
 pub record Coded (curve c m : ℕ) (enc : List ℕ → List ℕ) : Type 0 where
   words : length (keyWidths curve) ≡ c
-  sizes : (vs : List ℕ) → size (keyLay curve vs) ≡ m
+  bytes : stride curve ≡ m
   none : enc [] ≡ []
   more : (vs us : List ℕ) → length vs ≡ c → enc (vs ++ us) ≡ enc vs ++ enc us
   key : (vs : List ℕ) → length vs ≡ c → written (keyLay curve vs) ≡ enc vs
 
-coded-constant : Coded 0 1 4 numbersLe
-unfolding keyWidths keyLay keySkip rowLay size written numbersLe
-coded-constant = record { words = refl; sizes = one-size; none = refl; more = λ vs us e. numbers-le-append vs us; key = one-key }
-  where
-    one-size : (vs : List ℕ) → size (keyLay 0 vs) ≡ 4
-    one-size [] = refl
-    one-size (v ∷ vs) = refl
+row-le : (vs : List ℕ) → written (rowLay (replicate (length vs) 4) vs) ≡ numbersLe vs
+unfolding rowLay written numbersLe
+row-le [] = refl
+row-le (v ∷ vs) = ap (λ (b : List ℕ). le 4 v ++ b) (row-le vs)
 
-    one-key : (vs : List ℕ) → length vs ≡ 1 → written (keyLay 0 vs) ≡ numbersLe vs
-    one-key [] e = absurd (omega arith)
-    one-key (a ∷ []) e = rw append-nil
-    one-key (a ∷ b ∷ vs) e = absurd (omega arith)
+-- of words of four bytes alone
+coded-words : {curve c m : ℕ} → keyWidths curve ≡ replicate c 4 → keySkip curve ≡ 0 → stride curve ≡ m → Coded curve c m numbersLe
+unfolding keyLay written numbersLe
+coded-words {c = c} ew ek em =
+    record { words = rw (ew, length-replicate {A = ℕ} c 4); bytes = em; none = refl; more = λ vs us e. numbers-le-append vs us; key = λ vs e. rw (ew, ek, ← e) (append-nil _ ∙ row-le vs) }
 
 coded-step : Coded 1 2 8 pairsLe
-unfolding keyWidths keyLay keySkip rowLay size written pairsLe
-coded-step = record { words = refl; sizes = two-size; none = refl; more = two-more; key = two-key }
+unfolding keyWidths keyLay keySkip stride sum rowLay written pairsLe
+coded-step = record { words = refl; bytes = refl; none = refl; more = two-more; key = two-key }
   where
-    two-size : (vs : List ℕ) → size (keyLay 1 vs) ≡ 8
-    two-size [] = refl
-    two-size (a ∷ []) = refl
-    two-size (a ∷ b ∷ vs) = refl
-
     two-more : (vs us : List ℕ) → length vs ≡ 2 → pairsLe (vs ++ us) ≡ pairsLe vs ++ pairsLe us
     two-more [] us e = absurd (omega arith)
     two-more (a ∷ []) us e = absurd (omega arith)
@@ -131,32 +125,17 @@ coded-step = record { words = refl; sizes = two-size; none = refl; more = two-mo
     two-key (a ∷ b ∷ []) e = rw (append-nil, append-assoc)
     two-key (a ∷ b ∷ c ∷ vs) e = absurd (omega arith)
 
-coded-hermite : Coded 2 3 12 numbersLe
-unfolding keyWidths keyLay keySkip rowLay size written numbersLe
-coded-hermite = record { words = refl; sizes = three-size; none = refl; more = λ vs us e. numbers-le-append vs us; key = three-key }
-  where
-    three-size : (vs : List ℕ) → size (keyLay 2 vs) ≡ 12
-    three-size [] = refl
-    three-size (a ∷ []) = refl
-    three-size (a ∷ b ∷ []) = refl
-    three-size (a ∷ b ∷ c ∷ vs) = refl
-
-    three-key : (vs : List ℕ) → length vs ≡ 3 → written (keyLay 2 vs) ≡ numbersLe vs
-    three-key [] e = absurd (omega arith)
-    three-key (a ∷ []) e = absurd (omega arith)
-    three-key (a ∷ b ∷ []) e = absurd (omega arith)
-    three-key (a ∷ b ∷ c ∷ []) e = append-nil _
-    three-key (a ∷ b ∷ c ∷ d ∷ vs) e = absurd (omega arith)
-
 module _ {curve : ℕ} where
   pub constant-coded : curve ≡ 0 → Coded curve 1 4 numbersLe
-  constant-coded e = rw e coded-constant
+  unfolding keyWidths keySkip stride sum
+  constant-coded e = rw e (coded-words refl refl refl)
 
   pub step-coded : curve ≡ 1 → Coded curve 2 8 pairsLe
   step-coded e = rw e coded-step
 
   pub hermite-coded : curve < 3 → (curve ≡ 0 → ⊥) → (curve ≡ 1 → ⊥) → Coded curve 3 12 numbersLe
-  hermite-coded l a b = let e : curve ≡ 2 = omega arith in rw e coded-hermite
+  unfolding keyWidths keySkip stride sum
+  hermite-coded l a b = let e : curve ≡ 2 = omega arith in rw e (coded-words refl refl refl)
 
 record KeysAt (enc : List ℕ → List ℕ) (bytes : List ℕ) (n c : ℕ) (w : List ℕ) (i j k l : ℕ) : Type 0 where
   same : bytes ≡ enc (take (c * n) (drop i w))
@@ -194,7 +173,7 @@ module _ {curve c m : ℕ} {enc : List ℕ → List ℕ} (code : Coded curve c m
 
   module _ (n : ℕ) (w x : List ℕ) (i j at : ℕ) {most : ℕ} (h : Ready (parts (keyLay curve)) (times n (row (keyWidths curve)) w x i j) at most) where
     keys-size : size (parts (keyLay curve) (h .value)) ≡ m * n
-    keys-size = size-parts (keyLay curve) m (code .sizes) (h .value) ∙ ap (λ (d : ℕ). d * m) (times-length (row (keyWidths curve)) w x n i j (h .judged)) ∙ mul-comm n m
+    keys-size = size-parts (keyLay curve) m (λ k. size-key curve k ∙ code .bytes) (h .value) ∙ ap (λ (d : ℕ). d * m) (times-length (row (keyWidths curve)) w x n i j (h .judged)) ∙ mul-comm n m
 
     pub keys-fit : (top : ℕ) → i ≤ top → length w ≤ top → (i + c * n ≤ top) × (at + m * n ≤ limit)
     keys-fit top a b =
@@ -203,7 +182,7 @@ module _ {curve c m : ℕ} {enc : List ℕ → List ℕ} (code : Coded curve c m
 
     pub keys-done : (out : List ℕ) {o : List ℕ} {u : Pen} → o ≡ sets out at (enc (take (c * n) (drop i w)))
         → u ≡ record { word = i + c * n; byte = j; at = at + m * n }
-        → (u ≡ penBehind (parts (keyLay curve)) (times n (row (keyWidths curve)) w x i j) at) × (o ≡ laid (parts (keyLay curve)) (times n (row (keyWidths curve)) w x i j) at out)
+        → Leaves (parts (keyLay curve)) (times n (row (keyWidths curve)) w x i j) at out u o
     unfolding written
     keys-done out e f =
         let g = keys-at n w x i j (h .judged) in (
@@ -215,7 +194,7 @@ module _ {curve c m : ℕ} {enc : List ℕ → List ℕ} (code : Coded curve c m
 -- a key of one word
 module _ {curve : ℕ} (z : curve ≡ 0) (n : ℕ) (w x : List ℕ) (i j at : ℕ) {most : ℕ} (h : Ready (parts (keyLay curve)) (times n (row (keyWidths curve)) w x i j) at most) where
   pub constant-done : (out : List ℕ) {o : List ℕ} {u : Pen} → o ≡ sets out at (numbersLe (take n (drop i w))) → u ≡ record { word = i + n; byte = j; at = at + 4 * n }
-      → (u ≡ penBehind (parts (keyLay curve)) (times n (row (keyWidths curve)) w x i j) at) × (o ≡ laid (parts (keyLay curve)) (times n (row (keyWidths curve)) w x i j) at out)
+      → Leaves (parts (keyLay curve)) (times n (row (keyWidths curve)) w x i j) at out u o
   constant-done out {o} {u} e f =
       let k : 1 * n ≡ n = omega arith in
       let e1 : o ≡ sets out at (numbersLe (take (1 * n) (drop i w))) = rw k e in
@@ -248,7 +227,7 @@ module _ (letters : ℕ) (w x : List ℕ) (i j at : ℕ) {most : ℕ} (h : Ready
 
     pub target-done : (out : List ℕ) {m o : List ℕ} {u : Pen} → m ≡ sets out at (written (targetHead a b c n))
         → u ≡ penBehind (parts (keyLay c)) (times n (row (keyWidths c)) w x (i + 4) j) (at + 12) → o ≡ laid (parts (keyLay c)) (times n (row (keyWidths c)) w x (i + 4) j) (at + 12) m
-        → (u ≡ penBehind targetLay (target letters w x i j) at) × (o ≡ laid targetLay (target letters w x i j) at out)
+        → Leaves targetLay (target letters w x i j) at out u o
     target-done out = head-done target-splits at 12 twelve out
 
 -- ---- an extended datum
@@ -303,7 +282,7 @@ module _ (w x : List ℕ) (i j at : ℕ) {most : ℕ} (h : Ready datumLay (datum
 
     pub datum-done : (out : List ℕ) {m o : List ℕ} {u : Pen} → m ≡ sets out at (written (datumFront w i))
         → u ≡ penBehind ended (nextText (wide 4) w x (q .word) (q .byte)) (q .at) → o ≡ laid ended (nextText (wide 4) w x (q .word) (q .byte)) (q .at) m
-        → (u ≡ penBehind datumLay (datum w x i j) at) × (o ≡ laid datumLay (datum w x i j) at out)
+        → Leaves datumLay (datum w x i j) at out u o
     datum-done out e f g = head-done datum-splits at (20 + 4 * (3 * getD w (i + 3) 0)) front out e (rw (a, b, c) at f) (rw (a, b, c) at g)
 
 -- ---- an info
@@ -353,7 +332,7 @@ module _ (w x : List ℕ) (i j at : ℕ) {most : ℕ} (h : Ready infoLay (info w
       data-ready = head-ready (extended-splits f) at 8 eight h
 
       pub data-done : (out : List ℕ) {m o : List ℕ} {u : Pen} → m ≡ sets out at (written (infoHead l n)) → u ≡ penBehind (parts datumLay) (times n datum w x (i + 2) j) (at + 8)
-          → o ≡ laid (parts datumLay) (times n datum w x (i + 2) j) (at + 8) m → (u ≡ penBehind infoLay (info w x i j) at) × (o ≡ laid infoLay (info w x i j) at out)
+          → o ≡ laid (parts datumLay) (times n datum w x (i + 2) j) (at + 8) m → Leaves infoLay (info w x i j) at out u o
       data-done out = head-done (extended-splits f) at 8 eight out
 
     module _ (f : l ≡ fleu → ⊥) where
@@ -363,7 +342,7 @@ module _ (w x : List ℕ) (i j at : ℕ) {most : ℕ} (h : Ready infoLay (info w
       pub targets-done : (out : List ℕ) {m o : List ℕ} {u : Pen} → m ≡ sets out at (written (infoHead l n))
           → u ≡ penBehind (listed targetLay (at + 8 + 4 * n - at)) (times n (target l) w [] (i + 2) j) (at + 8)
           → o ≡ laid (listed targetLay (at + 8 + 4 * n - at)) (times n (target l) w [] (i + 2) j) (at + 8) m
-          → (u ≡ penBehind infoLay (info w x i j) at) × (o ≡ laid infoLay (info w x i j) at out)
+          → Leaves infoLay (info w x i j) at out u o
       targets-done out = head-done (standard-splits f) at 8 eight out
 
 -- ---- what a total size leaves out
@@ -475,7 +454,7 @@ module _ (kind n : ℕ) (w x : List ℕ) (q : Pen) (start : ℕ) {most : ℕ} (h
 
     pub two-done : (out : List ℕ) {o : List ℕ} {u : Pen} → u ≡ penBehind (bodyLay 2) (times n info w x (q .word) (q .byte)) (q .at)
         → o ≡ laid (bodyLay 2) (times n info w x (q .word) (q .byte)) (q .at) out
-        → (u ≡ penBehind (bodyLay kind) (times n info w x (q .word) (q .byte)) (q .at)) × (o ≡ laid (bodyLay kind) (times n info w x (q .word) (q .byte)) (q .at) out)
+        → Leaves (bodyLay kind) (times n info w x (q .word) (q .byte)) (q .at) out u o
     two-done out e f = (rw k e, rw k f)
 
   -- not of a User content: the infos
@@ -491,7 +470,7 @@ module _ (kind n : ℕ) (w x : List ℕ) (q : Pen) (start : ℕ) {most : ℕ} (h
 
     pub plain-done : (out : List ℕ) {o : List ℕ} {u : Pen} → u ≡ penBehind (listed infoLay (q .at + 4 * n - start)) (times n info w x (q .word) (q .byte)) (q .at)
         → o ≡ laid (listed infoLay (q .at + 4 * n - start)) (times n info w x (q .word) (q .byte)) (q .at) out
-        → (u ≡ penBehind (bodyLay kind) (times n info w x (q .word) (q .byte)) (q .at)) × (o ≡ laid (bodyLay kind) (times n info w x (q .word) (q .byte)) (q .at) out)
+        → Leaves (bodyLay kind) (times n info w x (q .word) (q .byte)) (q .at) out u o
     plain-done out e f =
         (e ∙ like-behind (bodyLay kind) (listed infoLay (q .at + 4 * n - start)) h plain, f ∙ like-laid (bodyLay kind) (listed infoLay (q .at + 4 * n - start)) h plain out)
 
@@ -525,7 +504,7 @@ module _ (n : ℕ) (w x : List ℕ) (q : Pen) (start : ℕ) {most : ℕ} (h : Re
       → u ≡ penBehind (listed infoLay (q .at + 8 + 4 * n - start)) (times n info w x (q .word) (q .byte)) (q .at + 8)
       → l3 ≡ laid (listed infoLay (q .at + 8 + 4 * n - start)) (times n info w x (q .word) (q .byte)) (q .at + 8) l2
       → gone ≡ outOf (times n info w x (q .word) (q .byte)) → l4 ≡ put 4 l3 p (u .at - start - gone)
-      → (u ≡ penBehind (bodyLay 2) (times n info w x (q .word) (q .byte)) (q .at)) × (l4 ≡ laid (bodyLay 2) (times n info w x (q .word) (q .byte)) (q .at) l0)
+      → Leaves (bodyLay 2) (times n info w x (q .word) (q .byte)) (q .at) l0 u l4
   unfolding bodyLay userLay tableFrom size written
   user-done l0 {l1} {l2} {l3} {l4} {u} {p} {gone} e1 ep e2 eu e3 eg e4 =
       let c = times-length info w x n (q .word) (q .byte) (h .judged) in
@@ -597,7 +576,7 @@ module _ (w x : List ℕ) (i j at : ℕ) {most : ℕ} (h : Ready contentLay (con
           → e ≡ penBehind (bodyLay kind) (times n info w x (q .word + 2) (q .byte)) (at + 32)
           → l3 ≡ laid (bodyLay kind) (times n info w x (q .word + 2) (q .byte)) (at + 32) l2
           → u .word ≡ e .word → u .byte ≡ e .byte → u .at ≡ e .at + paddingOf (e .at - at) → l4 ≡ sets l3 (e .at) (replicate (paddingOf (e .at - at)) 0)
-          → (u ≡ penBehind contentLay (content w x i j) at) × (l4 ≡ laid contentLay (content w x i j) at l0)
+          → Leaves contentLay (content w x i j) at l0 u l4
       unfolding contentLay size written
       content-done l0 {l1} {l2} {l3} {l4} {e} {u} e1 e2 ee e3 uw ub ua e4 =
           let count : n ≡ length (h .value .infos) = sym (times-length info w x n (q .word + 2) (q .byte) infos-judged) in
@@ -640,7 +619,7 @@ module _ (n : ℕ) (w x : List ℕ) {most : ℕ} (h : Ready namesLay (times n (n
   pub names-done : (l0 : List ℕ) {l1 l2 : List ℕ} {q u : Pen} → q ≡ penBehind (listed ended (20 + 4 * n - 20)) (times n (nextText (wide 4)) w x 4 0) 20
       → l1 ≡ laid (listed ended (20 + 4 * n - 20)) (times n (nextText (wide 4)) w x 4 0) 20 l0
       → u .word ≡ q .word → u .byte ≡ q .byte → u .at ≡ q .at + paddingOf (q .at) → l2 ≡ sets l1 (q .at) (replicate (paddingOf (q .at)) 0)
-      → (u ≡ penBehind namesLay (times n (nextText (wide 4)) w x 4 0) 20) × (l2 ≡ laid namesLay (times n (nextText (wide 4)) w x 4 0) 20 l0)
+      → Leaves namesLay (times n (nextText (wide 4)) w x 4 0) 20 l0 u l2
   unfolding namesLay written size end
   names-done l0 {l1} {l2} {q} {u} e1 e2 uw ub ua e3 =
       let m : 20 + 4 * n - 20 ≡ 4 * length (h .value) = omega (arith, names-count) in

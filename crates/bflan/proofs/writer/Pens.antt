@@ -61,6 +61,10 @@ wrote-patched {l} {o} {at} {k} {m} {a} {b} h p n {r} e f =
     apart : (v : ℕ) → sets l at (written a ++ (le k v ++ written b)) ≡ sets (put k (sets l at (written a)) p v) (p + k) (written b)
     apart v = rw (sets-append l at (written a) (le k v ++ written b), size-written a, ← e, sets-append (sets l at (written a)) p (le k v) (written b), length-le)
 
+-- what a stored part leaves: the place behind it, and the bytes
+abbrev pub Leaves : {A : Type 0} → (A → Layout) → Judged A → ℕ → List ℕ → Pen → List ℕ → Type 0
+Leaves lay r at out u o = (u ≡ penBehind lay r at) × (o ≡ laid lay r at out)
+
 -- ---- what was judged fine
 
 module _ {A : Type 0} (lay : A → Layout) {r : Judged A} {a : A} {i j : ℕ} (e : r ≡ fine a i j) where
@@ -152,7 +156,7 @@ module _ {A C : Type 0} {lay : A → Layout} {r : Judged A} {head : Layout} {i j
   head-ready k = rest-ready h at k (record { word = i; byte = j; at = at + n }) here
 
   pub head-done : (out : List ℕ) {m o : List ℕ} {u : Pen} → m ≡ sets out at (written head) → u ≡ penBehind two t (at + n) → o ≡ laid two t (at + n) m
-      → (u ≡ penBehind lay r at) × (o ≡ laid lay r at out)
+      → Leaves lay r at out u o
   unfolding laid
   head-done out f g d = (g ∙ split-behind h at (record { word = i; byte = j; at = at + n }) here, d ∙ rw f (split-laid h at (record { word = i; byte = j; at = at + n }) here out))
 
@@ -250,7 +254,7 @@ module _ {X : Type 0} {p : J X} {lay : X → Layout} {w x : List ℕ} {n : ℕ} 
     pub running-first : 0 < left → Ready lay (p w x (q .word) (q .byte)) (q .at) (length out)
     running-first l = first-of p lay w x left (q .word) (q .byte) (q .at) l (h .ready)
 
-    pub running-turn : 0 < left → {u : Pen} {m : List ℕ} → (u ≡ penBehind lay (p w x (q .word) (q .byte)) (q .at)) × (m ≡ laid lay (p w x (q .word) (q .byte)) (q .at) out)
+    pub running-turn : 0 < left → {u : Pen} {m : List ℕ} → Leaves lay (p w x (q .word) (q .byte)) (q .at) out u m
         → length m ≡ length out → Running p lay w x n q₀ out₀ (left - 1) u m
     running-turn l {u} (e, f) g =
         let s = times-splits p lay w x left (q .word) (q .byte) (q .at) l (h .ready) u e in
@@ -262,7 +266,7 @@ module _ {X : Type 0} {p : J X} {lay : X → Layout} {w x : List ℕ} {n : ℕ} 
         }
 
     pub running-end : left ≤ 0
-        → (q ≡ penBehind (parts lay) (times n p w x (q₀ .word) (q₀ .byte)) (q₀ .at)) × (out ≡ laid (parts lay) (times n p w x (q₀ .word) (q₀ .byte)) (q₀ .at) out₀)
+        → Leaves (parts lay) (times n p w x (q₀ .word) (q₀ .byte)) (q₀ .at) out₀ q out
     running-end l =
         (sym (none-behind p lay w x left (q .word) (q .byte) (q .at) l) ∙ h .ends, sym (none-laid p lay w x left (q .word) (q .byte) (q .at) out l) ∙ h .same)
 
@@ -360,7 +364,7 @@ module _ {X : Type 0} {p : J X} {lay : X → Layout} {w x : List ℕ} {base n ta
   going-first e = ready-in e (first-of p lay w x (n - i) (q .word) (q .byte) (q .at) (omega arith) (h .ready))
 
   pub going-turn : {c : ℕ} → c ≡ n → {v m : List ℕ} {u : Pen} → v ≡ put 4 out (entryAt tab c i) (q .at - base)
-      → (u ≡ penBehind lay (p w x (q .word) (q .byte)) (q .at)) × (m ≡ laid lay (p w x (q .word) (q .byte)) (q .at) v) → length m ≡ length out
+      → Leaves lay (p w x (q .word) (q .byte)) (q .at) v u m → length m ≡ length out
       → Going p lay w x base n tab q₀ out₀ (i + 1) u m
   going-turn {c} ec {v} {m} {u} d (e, f) g =
       let k : 0 < n - i = omega (arith, l) in

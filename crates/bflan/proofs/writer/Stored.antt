@@ -14,10 +14,10 @@ use Rattle.bflan.specs.declared.writer.Pen.{Pen}
 use Rattle.bflan.specs.Judge.{nextText, wide}
 use Rattle.bflan.specs.Layout.{Layout, number, bytes, _⨾_, size, written, row as rowLay, ended}
 use Rattle.bflan.specs.Limits.{limit}
-use Rattle.bflan.specs.inner.Pen.{Ready, laid, penBehind}
+use Rattle.bflan.specs.inner.Pen.{Ready}
 use Rattle.bflan.proofs.judge.Inversion.{TextAt, text-at}
 use Rattle.bflan.proofs.reader.Rows.{offsetBy, offset-is}
-use Rattle.bflan.proofs.writer.Pens.{Wrote, wrote-number, wrote-bytes, wrote-then, whole-laid, whole-behind}
+use Rattle.bflan.proofs.writer.Pens.{Leaves, Wrote, wrote-number, wrote-bytes, wrote-then, whole-laid, whole-behind}
 
 -- ---- single fields
 
@@ -74,7 +74,7 @@ module _ (lay : List ℕ → Layout) (tail : ℕ → Layout) (shape : (t : List 
 
   pub text-done : (out : List ℕ) {m o : List ℕ} {u : Pen} → m ≡ sets out (q .at) (take n (drop (q .byte) x)) → Wrote m (q .at + n) (tail n) o
       → u ≡ record { word = q .word + 1; byte = q .byte + n; at = q .at + n + size (tail n) }
-      → (u ≡ penBehind lay (nextText test w x (q .word) (q .byte)) (q .at)) × (o ≡ laid lay (nextText test w x (q .word) (q .byte)) (q .at) out)
+      → Leaves lay (nextText test w x (q .word) (q .byte)) (q .at) out u o
   unfolding size
   text-done out a b c =
       let v : take n (drop (q .byte) x) ≡ h .value = rw e (sym (t .bytes)) in
@@ -95,6 +95,6 @@ module _ (w x : List ℕ) (q : Pen) {most : ℕ} (h : Ready ended (nextText (wid
 
   pub ended-done : (out : List ℕ) {m o : List ℕ} {u : Pen} → m ≡ sets out (q .at) (take n (drop (q .byte) x)) → o ≡ put 1 m (q .at + n) 0
       → u ≡ record { word = q .word + 1; byte = q .byte + n; at = q .at + n + 1 }
-      → (u ≡ penBehind ended (nextText (wide 4) w x (q .word) (q .byte)) (q .at)) × (o ≡ laid ended (nextText (wide 4) w x (q .word) (q .byte)) (q .at) out)
+      → Leaves ended (nextText (wide 4) w x (q .word) (q .byte)) (q .at) out u o
   unfolding size
   ended-done out a b c = text-done ended (λ k. number 1 0) ended-shape (wide 4) w x q h n e out a (wrote-number b) c
