@@ -228,9 +228,6 @@ module _ (s : List ℕ) (i end skip : ℕ) (h : i ≤ length s) (e : end ≡ i +
 abbrev pub Counted : List ℕ → ℕ → ℕ → Type 0
 Counted s i grown = (i ≤ length s) × (length (decode (drop i s)) + i + grown ≡ length (decode s)) × (grown ≤ 2 * i)
 
-pub counted-start : (s : List ℕ) → Counted s 0 0
-counted-start s = (omega arith, omega arith, omega arith)
-
 pub counted-run : (s : List ℕ) (i grown end skip : ℕ) → Counted s i grown → RunAt s i end skip → 0 < skip → Counted s (end + skip) (grown + (3 - skip))
 counted-run s i grown end skip c r h =
     let a = ap length (r .split h) in
