@@ -260,9 +260,6 @@ module _ (s j : List ℕ) (count : ℕ) (h : length s ≤ 16777216) where
     undo-above l = rw (le-leb (length s) limit h, ne-eqb count 0 k, lt-leb count (length j / entryWords) l)
 
     module _ (l : count ≤ length j / entryWords) where
-      pub undo-room : entryWords * (count - 1) + entryWords ≤ length j
-      undo-room = omega arith
-
       pub undo-bad : (e : Entry) (t : Bool) → entryList e ≡ entryAt j (count - 1) → t ≡ restorable (length s) (entryList e) → t ≡ false
           → (ofUndoing (BadJournal count), s) ≡ undoing s j count
       unfolding ofUndoing undoing capacity

@@ -244,9 +244,6 @@ module _ (s : List ℕ) (i end skip : ℕ) (h : i ≤ length s) (e : end ≡ i +
 abbrev pub Counted : List ℕ → ℕ → ℕ → ℕ → Type 0
 Counted s i grown n = (i ≤ length s) × (length (decode (drop i s)) + i + grown ≡ length (decode s)) × (grown ≤ 2 * i) × (n + replacements (drop i s) ≡ replacements s)
 
-pub counted-start : (s : List ℕ) → Counted s 0 0 0
-counted-start s = (omega arith, omega arith, omega arith, zero-add (replacements s))
-
 pub counted-run : (s : List ℕ) (i grown n end skip : ℕ) → Counted s i grown n → RunAt s i end skip → 0 < skip → Counted s (end + skip) (grown + (3 - skip)) (n + 1)
 counted-run s i grown n end skip c r h =
     let a = ap length (r .split h) in

@@ -34,9 +34,6 @@ loop-again c =
     let e : c .four .result ≡ getD v (c .before .before .loop .k) 0 = c .four .ensures ∙ sym (numbers-at _ _ _ _ (omega arith)) in
     (c .before .before .loop .inv .0, simp length-set (c .before .before .loop .inv .1), ap (λ (x : ℕ). sets (set (c .before .before .loop .out) (c .before .before .before .before .before .before .before .before .args .o + c .before .before .loop .k) x) (c .before .before .before .before .before .before .before .before .args .o + (c .before .before .loop .k + 1)) (drop (c .before .before .loop .k + 1) v)) e ∙ fill-turn _ _ _ v h ∙ c .before .before .loop .inv .2)
 
-same-length : tie.Need-same-length Inv-loop μ-loop
-same-length c = c .before .loop .inv .1
-
 returns-2 : tie.Need-returns-2 Inv-loop μ-loop
 returns-2 c =
     let v = numbersAt (c .before .before .before .before .before .before .before .args .n) (now (c .before .before .before .before .before .before .before .args .s)) (c .before .before .before .before .before .before .before .args .at) in
@@ -48,4 +45,4 @@ read-numbers-spec =
     tie.close
     (tie.spec Inv-loop μ-loop (search needs) (search needs) (search needs) returns (search needs) loop-holds (search needs)
     (search needs) (search needs) (search needs) (search needs) (λ c. omega arith) (search needs) (λ c. omega arith) loop-again
-    (search needs) (search needs) same-length returns-2)
+    (search needs) (search needs) (search needs) returns-2)

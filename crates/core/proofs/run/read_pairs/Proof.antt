@@ -41,9 +41,6 @@ loop-again c =
       pair-turn (c .before .before .before .loop .out) (c .before .before .before .before .before .before .before .before .before .args .o) (c .before .before .before .loop .k) _ _ v (omega (arith, l, c .before .before .before .loop .inv .0)) (c .before .four .ensures ∙ sym (pairs-first _ _ _ _ (omega arith))) (c .two .ensures .0 ∙ sym (pairs-second _ _ _ _ (omega arith))) ∙ c .before .before .before .loop .inv .3,
     )
 
-same-length : tie.Need-same-length Inv-loop μ-loop
-same-length c = c .before .before .put-word .kept .0 ∙ c .before .before .before .before .before .before .before .loop .inv .2
-
 returns-2 : tie.Need-returns-2 Inv-loop μ-loop
 returns-2 c =
     let v = pairsAt (c .before .before .before .before .before .before .before .before .before .before .before .before .before .args .n) (now (c .before .before .before .before .before .before .before .before .before .before .before .before .before .args .s)) (c .before .before .before .before .before .before .before .before .before .before .before .before .before .args .at) in
@@ -54,9 +51,6 @@ returns-2 c =
     let w : min (2 * c .before .before .before .before .before .before .before .before .before .before .before .before .before .args .n) (length (c .before .before .before .before .before .before .before .loop .out) - c .before .before .before .before .before .before .before .before .before .before .before .before .before .args .o) / 2 ≤ full = omega (arith, d, c .before .before .before .before .before .before .before .before .room .ensures) in
     let x = pair-last (c .before .before .before .before .before .before .before .loop .out) (c .before .before .before .before .before .before .before .before .before .before .before .before .before .args .o) full (c .before .before .before .before .before .before .before .before .before .before .before .before .before .args .n) _ v l (omega arith) w (c .before .before .before .four2 .ensures ∙ sym (pairs-first _ _ _ _ (omega arith))) in
     (sym (pairs-whole _ _ _ (omega arith)), c .before .before .put-word .ensures ∙ x ∙ ap (λ (k : ℕ). sets (c .before .before .before .before .before .before .before .loop .out) (c .before .before .before .before .before .before .before .before .before .before .before .before .before .args .o + 2 * k) (drop (2 * k) v)) e ∙ c .before .before .before .before .before .before .before .loop .inv .3 ∙ sym (stored-next _ _ _ _))
-
-same-length-2 : tie.Need-same-length-2 Inv-loop μ-loop
-same-length-2 c = c .before .before .loop .inv .2
 
 returns-3 : tie.Need-returns-3 Inv-loop μ-loop
 returns-3 c =
@@ -71,5 +65,5 @@ read-pairs-spec =
     (search needs) loop-holds (search needs) (search needs) (search needs) (search needs) (search needs) (search needs)
     (λ c. omega arith) (search needs) (search needs) (search needs) (search needs) (search needs) (search needs) (search needs)
     (search needs) (λ c. simp length-set (omega arith)) (search needs) (λ c. omega arith) loop-again (search needs) (search needs)
-    (search needs) (search needs) (search needs) (search needs) (search needs) (search needs) same-length returns-2 (search needs)
-    (search needs) same-length-2 returns-3)
+    (search needs) (search needs) (search needs) (search needs) (search needs) (search needs) (search needs) returns-2
+    (search needs) (search needs) (search needs) returns-3)

@@ -27,11 +27,8 @@ zero-in-requires-2 c κs =
     let h : c .before .clear-blocks2 .result + 8 ≤ length (now (c .before .before .before .before .before .args .text)) = omega (arith, c .if2 .taken, b .1, before-le (now (c .before .before .before .before .before .args .text))) in
     (b .1, b .2 h, h)
 
-zero-behind-requires : tie.Need-zero-behind-requires
-zero-behind-requires c κs = (c .before .clear-blocks2 .ensures .1, omega (arith, c .if2 .left, c .before .clear-blocks2 .ensures .1, before-le (now (c .before .before .before .before .before .args .text))))
-
 pub first-zero-spec : {M : Type 1} → statement M
 first-zero-spec =
     tie.close
     (tie.spec (search needs) sub-if1 zero-block-requires (search needs) (search needs) (search needs) sub-if2 zero-in-requires-2
-    (search needs) zero-behind-requires (search needs))
+    (search needs) (search needs) (search needs))

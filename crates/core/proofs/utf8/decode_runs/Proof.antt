@@ -1,14 +1,14 @@
 -- `utf8::decode_runs` meets its contract. The loop's invariant: what is still to be decoded, stored, makes the list that all of it makes.
 -- Assumes nothing.
 use Prim.Native.Nat.{ℕ, _-_, _<_}
-use mathlib.Core.Path.{_≡_, refl, sym, ap, _∙_}
+use mathlib.Core.Path.{_≡_, sym, ap, _∙_}
 use native.Mathlib.Omega.{arith}
 use mathlib.Core.List.{List}
 use denote.Ref.{now}
 use lib.ListN.{length, drop}
 use lib.Seq.{sets}
 use Rattle.core.specs.Utf8.{decode}
-use Rattle.core.proofs.utf8.Turns.{part-is, BadAt, RunAt, run-at, run-bad, lone-bad, Counted, counted-start, counted-most, counted-run, counted-last, counted-size, sets-run, sets-bad}
+use Rattle.core.proofs.utf8.Turns.{part-is, BadAt, RunAt, run-at, run-bad, lone-bad, Counted, counted-most, counted-run, counted-last, counted-size, sets-run, sets-bad}
 use borrow.Author.Needs.{needs}
 use Rattle.core.proofs.utf8.decode_runs.Statement.{statement}
 use Rattle.core.proofs.utf8.decode_runs.Tie as tie
@@ -28,20 +28,11 @@ run c = run-at _ _ _ _ (c .before .before .before .loop .inv .0 .0) (c .next-run
 some : (n : ℕ) → (n ≡ 0 → ⊥) → 0 < n
 some n h = omega arith
 
-loop-holds : tie.Need-loop-holds Inv-loop μ-loop
-loop-holds c = (counted-start _, refl, refl)
-
-lone-requires : tie.Need-lone-requires Inv-loop μ-loop
-lone-requires c κs = c .before .before .before .pre .0
-
 add-grown : tie.Need-add-grown Inv-loop μ-loop
 add-grown c = let b = bad (c .before .before .before .before) in let k = counted-run _ _ _ _ _ _ (c .before .before .before .before .before .before .loop .inv .0) (run-bad _ _ _ b) (b .some) in omega (arith, k .0, k .2, c .before .before .before .before .before .before .before .before .before .good)
 
 add-replaced : tie.Need-add-replaced Inv-loop μ-loop
 add-replaced c = let b = bad (c .before .before .before .before) in let m = counted-most _ _ _ _ (counted-run _ _ _ _ _ _ (c .before .before .before .before .before .before .loop .inv .0) (run-bad _ _ _ b) (b .some)) in omega (arith, m, c .before .before .before .before .before .before .before .before .before .good)
-
-add-i : tie.Need-add-i Inv-loop μ-loop
-add-i c = let b = bad (c .before .before .before .before) in omega (arith, b .reach)
 
 loop-less : tie.Need-loop-less Inv-loop μ-loop
 loop-less c = let b = bad (c .before .before .before .before) in omega (arith, b .reach)
@@ -54,20 +45,8 @@ loop-again c =
       sets-bad _ _ _ _ _ _ _ b (c .before .before .put-replacement .ensures .0) (c .before .before .put-replacement .ensures .1) ∙ c .before .before .before .before .before .before .loop .inv .2,
     )
 
-next-run-requires : tie.Need-next-run-requires Inv-loop μ-loop
-next-run-requires c κs = (c .before .before .loop .inv .0 .0, c .before .before .before .before .before .pre .0, c .before .before .before .before .before .pre .1)
-
-sub-copy-on : tie.Need-sub-copy-on Inv-loop μ-loop
-sub-copy-on c = let r = run c in omega (arith, r .start)
-
-part-copy-on-start : tie.Need-part-copy-on-start Inv-loop μ-loop
-part-copy-on-start c = let r = run c in omega (arith, r .start)
-
 part-copy-on-end : tie.Need-part-copy-on-end Inv-loop μ-loop
 part-copy-on-end c = let r = run c in omega (arith, r .reach)
-
-same-length : tie.Need-same-length Inv-loop μ-loop
-same-length c = c .before .before .before .before .copy-on .kept .1 .0 ∙ c .before .before .before .before .before .before .before .before .before .before .loop .inv .1
 
 returns : tie.Need-returns Inv-loop μ-loop
 returns c =
@@ -105,6 +84,6 @@ loop-again-2 c =
 pub decode-runs-spec : {M : Type 1} → statement M
 decode-runs-spec =
     tie.close
-    (tie.spec Inv-loop μ-loop loop-holds lone-requires (search needs) add-grown add-replaced add-i loop-less loop-again next-run-requires
-    sub-copy-on part-copy-on-start part-copy-on-end (search needs) (search needs) same-length returns (search needs) sub-grown
-    add-grown-2 add-replaced-2 add-i-2 loop-less-2 loop-again-2)
+    (tie.spec Inv-loop μ-loop (λ c. search needs) (λ c κs. search needs) (search needs) add-grown add-replaced (search needs) loop-less
+    loop-again (λ c κs. search needs) (search needs) (search needs) part-copy-on-end (search needs) (search needs) (search needs)
+    returns (search needs) sub-grown add-grown-2 add-replaced-2 add-i-2 loop-less-2 loop-again-2)

@@ -1,14 +1,14 @@
 -- `utf8::decode_steps` meets its contract. The loop's invariant: what is still to be decoded, stored, makes the list that all of it makes.
 -- Assumes nothing.
 use Prim.Native.Nat.{ℕ, _+_, _-_, _≤_}
-use mathlib.Core.Path.{_≡_, refl, sym, ap, _∙_}
+use mathlib.Core.Path.{_≡_, sym, ap, _∙_}
 use mathlib.Core.List.{List}
 use native.Mathlib.Omega.{arith}
 use denote.Ref.{now}
 use lib.ListN.{length, drop}
 use lib.Seq.{sets}
 use Rattle.core.specs.Utf8.{decode}
-use Rattle.core.proofs.utf8.Turns.{part-is, GoodAt, BadAt, good-at, bad-at, run-bad, Counted, counted-start, counted-good, counted-most, counted-run, counted-end, counted-size, decode-end, sets-good, sets-bad}
+use Rattle.core.proofs.utf8.Turns.{part-is, GoodAt, BadAt, good-at, bad-at, run-bad, Counted, counted-good, counted-most, counted-run, counted-end, counted-size, decode-end, sets-good, sets-bad}
 use borrow.Author.Needs.{needs}
 use Rattle.core.proofs.utf8.decode_steps.Statement.{statement}
 use Rattle.core.proofs.utf8.decode_steps.Tie as tie
@@ -25,23 +25,8 @@ good-arm c = good-at _ _ _ (search needs) _ (c .before .before .before .step-at 
 bad-arm : (c : tie.After-known-told2 Inv-loop μ-loop) → BadAt (now (c .before .before .before .before .before .before .before .before .args .text)) (c .before .before .before .before .before .loop .i) (c .before .k2 .given .0 .0)
 bad-arm c = bad-at _ _ _ (search needs) _ (c .before .before .before .step-at .ensures) (c .before .k2 .given .1)
 
-loop-holds : tie.Need-loop-holds Inv-loop μ-loop
-loop-holds c = (counted-start _, refl, refl)
-
-step-at-requires : tie.Need-step-at-requires Inv-loop μ-loop
-step-at-requires c κs = (c .loop-test .taken, c .before .before .before .before .pre)
-
-enum-known-k : tie.Need-enum-known-k Inv-loop μ-loop
-enum-known-k c = c .match .keys1
-
 add-next : tie.Need-add-next Inv-loop μ-loop
 add-next c = let g = good-arm c in omega (arith, g .reach)
-
-sub-copy-on : tie.Need-sub-copy-on Inv-loop μ-loop
-sub-copy-on c = let g = good-arm c in omega (arith, g .some)
-
-part-copy-on-start : tie.Need-part-copy-on-start Inv-loop μ-loop
-part-copy-on-start c = let g = good-arm c in omega (arith, g .some)
 
 part-copy-on-end : tie.Need-part-copy-on-end Inv-loop μ-loop
 part-copy-on-end c = let g = good-arm c in omega (arith, g .reach)
@@ -57,9 +42,6 @@ loop-again c =
       c .before .before .copy-on .kept .1 .0 ∙ c .before .before .before .before .before .before .before .before .before .before .loop .inv .1,
       sets-good _ _ _ _ _ _ _ _ g (part-is _ _ _ h) (c .before .before .copy-on .ensures .0) (c .before .before .copy-on .ensures .1) ∙ c .before .before .before .before .before .before .before .before .before .before .loop .inv .2,
     )
-
-enum-known-k-2 : tie.Need-enum-known-k-2 Inv-loop μ-loop
-enum-known-k-2 c = c .match .keys2
 
 sub-grown : tie.Need-sub-grown Inv-loop μ-loop
 sub-grown c = let b = run-bad _ _ _ (bad-arm (c .before .before .before .before)) in omega (arith, b .short)
@@ -84,9 +66,6 @@ loop-again-2 c =
       sets-bad _ _ _ _ _ _ _ b (c .before .before .put-replacement .ensures .0) (c .before .before .put-replacement .ensures .1) ∙ c .before .before .before .before .before .before .before .before .before .loop .inv .2,
     )
 
-same-length : tie.Need-same-length Inv-loop μ-loop
-same-length c = c .before .before .loop .inv .1
-
 returns : tie.Need-returns Inv-loop μ-loop
 returns c =
     let n = counted-end _ _ _ _ (c .before .before .loop .inv .0) (c .before .loop-test .left) in (
@@ -98,6 +77,6 @@ returns c =
 pub decode-steps-spec : {M : Type 1} → statement M
 decode-steps-spec =
     tie.close
-    (tie.spec Inv-loop μ-loop loop-holds step-at-requires enum-known-k add-next sub-copy-on part-copy-on-start part-copy-on-end
-    (search needs) loop-less loop-again enum-known-k-2 (search needs) sub-grown add-grown add-replaced add-i loop-less-2 loop-again-2
-    (search needs) same-length returns)
+    (tie.spec Inv-loop μ-loop (λ c. search needs) (λ c κs. search needs) (search needs) add-next (search needs) (search needs)
+    part-copy-on-end (search needs) loop-less loop-again (search needs) (search needs) sub-grown add-grown add-replaced add-i loop-less-2
+    loop-again-2 (search needs) (search needs) returns)

@@ -5,8 +5,7 @@ use Rattle.edit.proofs.undo.undo.Statement.{statement}
 use Rattle.edit.proofs.undo.undo.Tie as tie
 use mathlib.Core.Path.{sym, _∙_}
 use native.Mathlib.Omega.{arith}
-use denote.Ref.{now}
-use Rattle.edit.proofs.Calls.{undo-long, undo-none, undo-above, undo-room, undo-bad, undo-good}
+use Rattle.edit.proofs.Calls.{undo-long, undo-none, undo-above, undo-bad, undo-good}
 
 returns : tie.Need-returns
 returns c = undo-long _ _ _ (c .if1 .taken)
@@ -16,9 +15,6 @@ returns-2 c = undo-none _ _ _ (omega (arith, c .before .if1 .left)) (c .if2 .tak
 
 returns-3 : tie.Need-returns-3
 returns-3 c = undo-above _ _ _ (omega (arith, c .before .before .if1 .left)) (c .before .if2 .left) (c .if3 .taken)
-
-entry-at-requires : tie.Need-entry-at-requires
-entry-at-requires c κs = undo-room (now (c .before .before .before .before .before .args .section)) (now (c .before .before .before .before .before .args .journal)) _ (omega (arith, c .before .before .if1 .left)) (c .before .if2 .left) (omega (arith, c .if3 .left))
 
 restore-requires : tie.Need-restore-requires
 restore-requires c κs = sym (c .before .before .restorable .ensures) ∙ c .before .if4 .taken
@@ -32,5 +28,5 @@ returns-5 c = undo-bad _ _ _ (omega (arith, c .before .before .before .before .b
 pub undo-spec : {M : Type 1} → statement M
 undo-spec =
     tie.close
-    (tie.spec returns returns-2 returns-3 (search needs) entry-at-requires (search needs) restore-requires (search needs)
-    returns-4 returns-5)
+    (tie.spec returns returns-2 returns-3 (search needs) (search needs) (search needs) restore-requires (search needs) returns-4
+    returns-5)

@@ -4,7 +4,7 @@ use Prim.Native.Nat.{_-_, _≤_}
 use mathlib.Core.Path.{_≡_}
 use native.Mathlib.Omega.{arith}
 use Rattle.core.specs.inner.Flow.{Flow}
-use Rattle.core.proofs.utf8.Automaton.{flow-start, flow-turn}
+use Rattle.core.proofs.utf8.Automaton.{flow-turn}
 use borrow.Author.Needs.{needs}
 use Rattle.core.proofs.utf8.flow.flow_over.Statement.{statement}
 use Rattle.core.proofs.utf8.flow.flow_over.Tie as tie
@@ -15,12 +15,6 @@ Inv-loop s from stop state classes rows j₀ q₀ j q = (j ≤ stop) × Flow s f
 abbrev μ-loop : tie.MeasureT-loop
 μ-loop s from stop state classes rows j₀ q₀ j q = stop - j
 
-loop-holds : tie.Need-loop-holds Inv-loop μ-loop
-loop-holds c = (omega arith, flow-start _ _ _ (c .before .pre .2) (omega arith))
-
-next-state-requires : tie.Need-next-state-requires Inv-loop μ-loop
-next-state-requires c κs = (c .before .before .loop .inv .1 .held, c .before .before .before .before .pre .3, c .before .before .before .before .pre .4)
-
 loop-again : tie.Need-loop-again Inv-loop μ-loop
 loop-again c = (omega arith, flow-turn _ _ _ _ _ _ (c .before .before .before .loop .inv .1) (omega arith) (c .next-state .ensures .0) (c .next-state .ensures .1))
 
@@ -30,5 +24,5 @@ returns c = let e : c .before .loop .j ≡ c .before .before .before .args .stop
 pub flow-over-spec : {M : Type 1} → statement M
 flow-over-spec =
     tie.close
-    (tie.spec Inv-loop μ-loop loop-holds (λ c. omega arith) next-state-requires (search needs) (λ c. omega arith) loop-again
-    returns)
+    (tie.spec Inv-loop μ-loop (λ c. search needs) (λ c. omega arith) (λ c κs. search needs) (search needs) (λ c. omega arith)
+    loop-again returns)

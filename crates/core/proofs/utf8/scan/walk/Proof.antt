@@ -22,12 +22,6 @@ abbrev μ-loop : tie.MeasureT-loop
 loop-holds : tie.Need-loop-holds Inv-loop μ-loop
 loop-holds c = (omega arith, omega arith, zero-state, rw (state-zero 0 refl) (inside-start _ _ (omega arith)), refl)
 
-next-state-requires : tie.Need-next-state-requires Inv-loop μ-loop
-next-state-requires c κs = (c .before .before .loop .inv .2, c .before .before .before .before .pre .2, c .before .before .before .before .pre .3)
-
-sub-at-least-one : tie.Need-sub-at-least-one Inv-loop μ-loop
-sub-at-least-one c = omega (arith, c .before .before .before .before .loop .inv .3 .start)
-
 returns : tie.Need-returns Inv-loop μ-loop
 returns c =
     let b = inside-turn (now (c .before .before .before .before .before .before .before .args .s)) _ _ _ _ (c .before .before .before .before .before .loop .inv .3) (omega arith) (c .before .before .next-state .ensures .1) .lost (state-lost _ (c .before .if1 .taken)) in
@@ -45,9 +39,6 @@ loop-again-2 c =
     let n = c .before .before .next-state .ensures .0 in
     (c .before .before .before .before .before .loop .inv .0, omega arith, n, inside-on _ _ _ _ t (c .before .before .before .before .before .loop .inv .3 .start) (omega arith) (not-lost _ n (c .before .if1 .left)) (not-zero _ n (c .if2 .left)), c .before .before .before .before .before .loop .inv .4)
 
-sub-t17 : tie.Need-sub-t17 Inv-loop μ-loop
-sub-t17 c = omega (arith, c .before .before .loop .inv .3 .start)
-
 returns-2 : tie.Need-returns-2 Inv-loop μ-loop
 returns-2 c =
     let n = c .before .before .loop .inv .3 in
@@ -61,5 +52,5 @@ returns-3 c =
 pub walk-spec : {M : Type 1} → statement M
 walk-spec =
     tie.close
-    (tie.spec Inv-loop μ-loop loop-holds (λ c. omega arith) next-state-requires sub-at-least-one (search needs) returns
-    (λ c. omega arith) (λ c. omega arith) loop-again (λ c. omega arith) loop-again-2 sub-t17 returns-2 returns-3)
+    (tie.spec Inv-loop μ-loop loop-holds (λ c. omega arith) (λ c κs. search needs) (search needs) (search needs) returns
+    (λ c. omega arith) (λ c. omega arith) loop-again (λ c. omega arith) loop-again-2 (search needs) returns-2 returns-3)
