@@ -7,7 +7,7 @@ use lib.ListN.{length, getD}
 use Rattle.core.specs.Fill.{paddingOf}
 use Rattle.bflan.specs.declared.judge.Verdict.{Verdict}
 use Rattle.bflan.specs.declared.judge.Verdict.the-variants.{Fine, BadWord, BadText}
-use Rattle.bflan.specs.Judge.{Judged, fine, badWord, badText, nextWord}
+use Rattle.bflan.specs.Judge.{Judged, fine, badWord, badText}
 use Rattle.bflan.specs.inner.Walk.{sat}
 
 -- with the size that a value has
