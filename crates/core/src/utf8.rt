@@ -6,7 +6,7 @@ ghost use lib.Dec.{ltb, eqb};
 ghost use lib.ListN.{length, getD};
 ghost use lib.Seq.{sets};
 ghost use Rattle.core.specs.Choice.{pick};
-ghost use Rattle.core.specs.Utf8.{Classes, classOf, replacement, decode, decodedSize, validUpTo, replacements, wellFormed};
+ghost use Rattle.core.specs.Utf8.{Classes, classOf, replacement, decode, decodedSize, validUpTo, wellFormed};
 ghost use Rattle.core.specs.inner.Flow.{Rows};
 use crate::fill::ahead;
 use crate::fill::copy;
@@ -25,12 +25,6 @@ mod class;
 mod flow;
 pub(crate) mod scan;
 pub mod step;
-
-// What a decoding gives: how many bytes it has, and how many U+FFFD it put in.
-struct Decoded {
-    len: usize,
-    replaced: usize,
-}
 
 fn put_clipped(out: &mut [u8], at: usize) -> usize
     ensures { λ r. ⌜ (now (out .exit) ≡ sets (now (out .entry)) at replacement) × (r ≡ at + min 3 (length (now (out .entry)) - at)) ⌝ }
@@ -127,20 +121,17 @@ fn decode_runs(
     at: usize,
     classes: &[u8; 256],
     rows: &[u64; 16],
-) -> Decoded
+) -> usize
     requires { ⌜ Classes (now classes) × Rows (now rows) ⌝ }
-    ensures { λ r. ⌜ (r .len ≡ decodedSize (now (text .entry))) × (r .replaced ≡ replacements (now (text .entry)))
-        × (now (out .exit) ≡ sets (now (out .entry)) at (decode (now (text .entry)))) ⌝ }
+    ensures { λ r. ⌜ (r ≡ decodedSize (now (text .entry))) × (now (out .exit) ≡ sets (now (out .entry)) at (decode (now (text .entry)))) ⌝ }
 {
     let mut i = 0;
     let mut o = at;
     let mut grown: usize = 0;
-    let mut replaced: usize = 0;
     loop {
         if lone(text, i, classes) {
             o = put_replacement(out, o);
             grown += 2;
-            replaced += 1;
             i += 1;
             continue;
         }
@@ -149,39 +140,28 @@ fn decode_runs(
         let skip = run.skip;
         let next = copy_on(&text[i..end], out, o);
         if skip == 0 {
-            let len = total(text.len(), grown);
-            return Decoded { len, replaced };
+            return total(text.len(), grown);
         }
         o = put_replacement(out, next);
         grown += 3 - skip;
-        replaced += 1;
         i = end + skip;
     }
 }
 
 // A short text as a whole first here too.
-fn decode_by(
-    text: &[u8],
-    out: &mut [u8],
-    at: usize,
-    classes: &[u8; 256],
-    rows: &[u64; 16],
-) -> Decoded
+fn decode_by(text: &[u8], out: &mut [u8], at: usize, classes: &[u8; 256], rows: &[u64; 16]) -> usize
     requires { ⌜ Classes (now classes) × Rows (now rows) ⌝ }
-    ensures { λ r. ⌜ (r .len ≡ decodedSize (now (text .entry))) × (r .replaced ≡ replacements (now (text .entry)))
-        × (now (out .exit) ≡ sets (now (out .entry)) at (decode (now (text .entry)))) ⌝ }
+    ensures { λ r. ⌜ (r ≡ decodedSize (now (text .entry))) × (now (out .exit) ≡ sets (now (out .entry)) at (decode (now (text .entry)))) ⌝ }
 {
     if short_valid(text, classes, rows) {
         copy(text, out, at);
-        let len = text.len();
-        return Decoded { len, replaced: 0 };
+        return text.len();
     }
     decode_runs(text, out, at, classes, rows)
 }
 
-fn decode_mixed(text: &[u8], out: &mut [u8], at: usize) -> Decoded
-    ensures { λ r. ⌜ (r .len ≡ decodedSize (now (text .entry))) × (r .replaced ≡ replacements (now (text .entry)))
-        × (now (out .exit) ≡ sets (now (out .entry)) at (decode (now (text .entry)))) ⌝ }
+fn decode_mixed(text: &[u8], out: &mut [u8], at: usize) -> usize
+    ensures { λ r. ⌜ (r ≡ decodedSize (now (text .entry))) × (now (out .exit) ≡ sets (now (out .entry)) at (decode (now (text .entry)))) ⌝ }
 {
     let classes = CLASSES;
     let rows = ROWS;
@@ -196,8 +176,7 @@ pub fn decoded_len(text: &[u8]) -> usize
         return text.len();
     }
     let mut none = [0u8; 1];
-    let decoded = decode_mixed(text, &mut none, 1);
-    decoded.len
+    decode_mixed(text, &mut none, 1)
 }
 
 // The text is decoded and stored from `at` on; what would stand past the end is dropped. How many bytes it decodes to.
@@ -208,8 +187,7 @@ pub fn decode_into(text: &[u8], out: &mut [u8], at: usize) -> usize
         copy(text, out, at);
         return text.len();
     }
-    let decoded = decode_mixed(text, out, at);
-    decoded.len
+    decode_mixed(text, out, at)
 }
 
 // The same where the text may be known to be shown as it is: then it is stored as it is.
@@ -224,15 +202,13 @@ pub fn decode_known(text: &[u8], plain: bool, out: &mut [u8], at: usize) -> usiz
     decode_into(text, out, at)
 }
 
-fn decode_steps(text: &[u8], out: &mut [u8], at: usize, classes: &[u8; 256]) -> Decoded
+fn decode_steps(text: &[u8], out: &mut [u8], at: usize, classes: &[u8; 256]) -> usize
     requires { ⌜ Classes (now classes) ⌝ }
-    ensures { λ r. ⌜ (r .len ≡ decodedSize (now (text .entry))) × (r .replaced ≡ replacements (now (text .entry)))
-        × (now (out .exit) ≡ sets (now (out .entry)) at (decode (now (text .entry)))) ⌝ }
+    ensures { λ r. ⌜ (r ≡ decodedSize (now (text .entry))) × (now (out .exit) ≡ sets (now (out .entry)) at (decode (now (text .entry)))) ⌝ }
 {
     let mut i = 0;
     let mut o = at;
     let mut grown: usize = 0;
-    let mut replaced: usize = 0;
     while i < text.len() {
         match step_at(text, i, classes) {
             Step::Good(k) => {
@@ -243,13 +219,11 @@ fn decode_steps(text: &[u8], out: &mut [u8], at: usize, classes: &[u8; 256]) -> 
             Step::Bad(k) => {
                 o = put_replacement(out, o);
                 grown += 3 - k;
-                replaced += 1;
                 i += k;
             }
         }
     }
-    let len = total(text.len(), grown);
-    Decoded { len, replaced }
+    total(text.len(), grown)
 }
 
 // The same, one character at a time: the plain form that the other one is measured against.
@@ -257,6 +231,5 @@ pub fn decode_plain(text: &[u8], out: &mut [u8], at: usize) -> usize
     ensures { λ r. ⌜ (r ≡ decodedSize (now (text .entry))) × (now (out .exit) ≡ sets (now (out .entry)) at (decode (now (text .entry)))) ⌝ }
 {
     let classes = CLASSES;
-    let decoded = decode_steps(text, out, at, &classes);
-    decoded.len
+    decode_steps(text, out, at, &classes)
 }
