@@ -6,7 +6,7 @@ ghost use lib.Dec.{ltb, eqb};
 ghost use lib.ListN.{length, getD};
 ghost use lib.Seq.{sets};
 ghost use Rattle.core.specs.Choice.{pick};
-ghost use Rattle.core.specs.Utf8.{Classes, classOf, replacement, decode, decodedSize, validUpTo, wellFormed};
+ghost use Rattle.core.specs.Utf8.{Classes, classOf, replacement, decode, decodedSize, validUpTo, replacements, wellFormed};
 ghost use Rattle.core.specs.inner.Flow.{Rows};
 use crate::fill::ahead;
 use crate::fill::copy;
@@ -121,17 +121,21 @@ fn decode_runs(
     at: usize,
     classes: &[u8; 256],
     rows: &[u64; 16],
+    replaced: &mut usize,
 ) -> usize
     requires { ⌜ Classes (now classes) × Rows (now rows) ⌝ }
-    ensures { λ r. ⌜ (r ≡ decodedSize (now (text .entry))) × (now (out .exit) ≡ sets (now (out .entry)) at (decode (now (text .entry)))) ⌝ }
+    ensures { λ r. ⌜ (r ≡ decodedSize (now (text .entry))) × (now (replaced .exit) ≡ replacements (now (text .entry)))
+        × (now (out .exit) ≡ sets (now (out .entry)) at (decode (now (text .entry)))) ⌝ }
 {
     let mut i = 0;
     let mut o = at;
     let mut grown: usize = 0;
+    let mut count: usize = 0;
     loop {
         if lone(text, i, classes) {
             o = put_replacement(out, o);
             grown += 2;
+            count += 1;
             i += 1;
             continue;
         }
@@ -140,32 +144,44 @@ fn decode_runs(
         let skip = run.skip;
         let next = copy_on(&text[i..end], out, o);
         if skip == 0 {
+            *replaced = count;
             return total(text.len(), grown);
         }
         o = put_replacement(out, next);
         grown += 3 - skip;
+        count += 1;
         i = end + skip;
     }
 }
 
 // A short text as a whole first here too.
-fn decode_by(text: &[u8], out: &mut [u8], at: usize, classes: &[u8; 256], rows: &[u64; 16]) -> usize
+fn decode_by(
+    text: &[u8],
+    out: &mut [u8],
+    at: usize,
+    classes: &[u8; 256],
+    rows: &[u64; 16],
+    replaced: &mut usize,
+) -> usize
     requires { ⌜ Classes (now classes) × Rows (now rows) ⌝ }
-    ensures { λ r. ⌜ (r ≡ decodedSize (now (text .entry))) × (now (out .exit) ≡ sets (now (out .entry)) at (decode (now (text .entry)))) ⌝ }
+    ensures { λ r. ⌜ (r ≡ decodedSize (now (text .entry))) × (now (replaced .exit) ≡ replacements (now (text .entry)))
+        × (now (out .exit) ≡ sets (now (out .entry)) at (decode (now (text .entry)))) ⌝ }
 {
     if short_valid(text, classes, rows) {
         copy(text, out, at);
+        *replaced = 0;
         return text.len();
     }
-    decode_runs(text, out, at, classes, rows)
+    decode_runs(text, out, at, classes, rows, replaced)
 }
 
-fn decode_mixed(text: &[u8], out: &mut [u8], at: usize) -> usize
-    ensures { λ r. ⌜ (r ≡ decodedSize (now (text .entry))) × (now (out .exit) ≡ sets (now (out .entry)) at (decode (now (text .entry)))) ⌝ }
+fn decode_mixed(text: &[u8], out: &mut [u8], at: usize, replaced: &mut usize) -> usize
+    ensures { λ r. ⌜ (r ≡ decodedSize (now (text .entry))) × (now (replaced .exit) ≡ replacements (now (text .entry)))
+        × (now (out .exit) ≡ sets (now (out .entry)) at (decode (now (text .entry)))) ⌝ }
 {
     let classes = CLASSES;
     let rows = ROWS;
-    decode_by(text, out, at, &classes, &rows)
+    decode_by(text, out, at, &classes, &rows, replaced)
 }
 
 // How many bytes the text decodes to: it is decoded into nothing.
@@ -176,39 +192,59 @@ pub fn decoded_len(text: &[u8]) -> usize
         return text.len();
     }
     let mut none = [0u8; 1];
-    decode_mixed(text, &mut none, 1)
+    let mut replaced: usize = 0;
+    decode_mixed(text, &mut none, 1, &mut replaced)
 }
 
-// The text is decoded and stored from `at` on; what would stand past the end is dropped. How many bytes it decodes to.
-pub fn decode_into(text: &[u8], out: &mut [u8], at: usize) -> usize
-    ensures { λ r. ⌜ (r ≡ decodedSize (now (text .entry))) × (now (out .exit) ≡ sets (now (out .entry)) at (decode (now (text .entry)))) ⌝ }
+// The text is decoded and stored from `at` on; what would stand past the end is dropped. How many bytes it decodes to, and in `replaced` how many
+// U+FFFD that puts in.
+pub fn decode_into(text: &[u8], out: &mut [u8], at: usize, replaced: &mut usize) -> usize
+    ensures { λ r. ⌜ (r ≡ decodedSize (now (text .entry))) × (now (replaced .exit) ≡ replacements (now (text .entry)))
+        × (now (out .exit) ≡ sets (now (out .entry)) at (decode (now (text .entry)))) ⌝ }
 {
     if is_ascii(text) {
         copy(text, out, at);
+        *replaced = 0;
         return text.len();
     }
-    decode_mixed(text, out, at)
+    decode_mixed(text, out, at, replaced)
 }
 
 // The same where the text may be known to be shown as it is: then it is stored as it is.
-pub fn decode_known(text: &[u8], plain: bool, out: &mut [u8], at: usize) -> usize
+pub fn decode_known(
+    text: &[u8],
+    plain: bool,
+    out: &mut [u8],
+    at: usize,
+    replaced: &mut usize,
+) -> usize
     ensures { λ r. ⌜ (r ≡ pick plain (length (now (text .entry))) (decodedSize (now (text .entry))))
+        × (now (replaced .exit) ≡ pick plain 0 (replacements (now (text .entry))))
         × (now (out .exit) ≡ sets (now (out .entry)) at (pick plain (now (text .entry)) (decode (now (text .entry))))) ⌝ }
 {
     if plain {
         copy(text, out, at);
+        *replaced = 0;
         return text.len();
     }
-    decode_into(text, out, at)
+    decode_into(text, out, at, replaced)
 }
 
-fn decode_steps(text: &[u8], out: &mut [u8], at: usize, classes: &[u8; 256]) -> usize
+fn decode_steps(
+    text: &[u8],
+    out: &mut [u8],
+    at: usize,
+    classes: &[u8; 256],
+    replaced: &mut usize,
+) -> usize
     requires { ⌜ Classes (now classes) ⌝ }
-    ensures { λ r. ⌜ (r ≡ decodedSize (now (text .entry))) × (now (out .exit) ≡ sets (now (out .entry)) at (decode (now (text .entry)))) ⌝ }
+    ensures { λ r. ⌜ (r ≡ decodedSize (now (text .entry))) × (now (replaced .exit) ≡ replacements (now (text .entry)))
+        × (now (out .exit) ≡ sets (now (out .entry)) at (decode (now (text .entry)))) ⌝ }
 {
     let mut i = 0;
     let mut o = at;
     let mut grown: usize = 0;
+    let mut count: usize = 0;
     while i < text.len() {
         match step_at(text, i, classes) {
             Step::Good(k) => {
@@ -219,17 +255,20 @@ fn decode_steps(text: &[u8], out: &mut [u8], at: usize, classes: &[u8; 256]) -> 
             Step::Bad(k) => {
                 o = put_replacement(out, o);
                 grown += 3 - k;
+                count += 1;
                 i += k;
             }
         }
     }
+    *replaced = count;
     total(text.len(), grown)
 }
 
 // The same, one character at a time: the plain form that the other one is measured against.
-pub fn decode_plain(text: &[u8], out: &mut [u8], at: usize) -> usize
-    ensures { λ r. ⌜ (r ≡ decodedSize (now (text .entry))) × (now (out .exit) ≡ sets (now (out .entry)) at (decode (now (text .entry)))) ⌝ }
+pub fn decode_plain(text: &[u8], out: &mut [u8], at: usize, replaced: &mut usize) -> usize
+    ensures { λ r. ⌜ (r ≡ decodedSize (now (text .entry))) × (now (replaced .exit) ≡ replacements (now (text .entry)))
+        × (now (out .exit) ≡ sets (now (out .entry)) at (decode (now (text .entry)))) ⌝ }
 {
     let classes = CLASSES;
-    decode_steps(text, out, at, &classes)
+    decode_steps(text, out, at, &classes, replaced)
 }

@@ -13,7 +13,7 @@ use lib.ListN.{length, getD, take, drop, length-append, length-drop, drop-of-len
 use lib.Seq.{sets, slice, slice-empty, length-slice, drop-cons, drop-drop, take-nil}
 use Rattle.core.specs.declared.utf8.step.Step.{Step}
 use Rattle.core.specs.declared.utf8.step.Step.the-variants.{Good, Bad}
-use Rattle.core.specs.Utf8.{rows, classOf, laterOf, matched, more, good, stepOf, replacement, decode, decodedSize, validUpTo}
+use Rattle.core.specs.Utf8.{rows, classOf, laterOf, matched, more, good, stepOf, replacement, decode, decodedSize, validUpTo, replacements}
 use Rattle.core.specs.Choice.{pick}
 use Rattle.core.specs.Text.{beforeZero, firstFault, every, notZero, ascii, plain, isPlain, plainAt, endedOf}
 use Rattle.core.specs.inner.Scan.{illSize, asciiSeen}
@@ -22,8 +22,8 @@ use Rattle.core.proofs.Stores.{sets-on}
 use Rattle.core.proofs.Tests.{every-at}
 use Rattle.core.proofs.Zeros.{byte-some, free-of, ended-there}
 use Rattle.core.proofs.utf8.Steps.{matched-none, ascii-class, step-none}
-use Rattle.core.proofs.utf8.Pieces.{more-within, step-good, step-bad, decode-nil, decode-good, valid-nil, valid-good, valid-bad, ill-nil, ill-bad}
-use Rattle.core.proofs.utf8.Laws.{both-true, good-from, whole-well, decode-well, valid-le, decode-front, ill-short, ill-within, ill-or-end, decode-ill}
+use Rattle.core.proofs.utf8.Pieces.{more-within, step-good, step-bad, decode-nil, decode-good, valid-nil, valid-good, valid-bad, ill-nil, ill-bad, count-nil, count-good}
+use Rattle.core.proofs.utf8.Laws.{both-true, good-from, whole-well, decode-well, valid-le, decode-front, ill-short, ill-within, ill-or-end, decode-ill, count-front, count-ill, count-le, well-none}
 
 -- ---- parts of a list
 
@@ -45,6 +45,7 @@ pub record GoodAt (s : List ℕ) (i k : ℕ) : Type 0 where
   pub reach : i + k ≤ length s
   pub on : i + k + validUpTo (drop (i + k) s) ≡ i + validUpTo (drop i s)
   pub split : decode (drop i s) ≡ slice i (i + k) s ++ decode (drop (i + k) s)
+  pub count : replacements (drop i s) ≡ replacements (drop (i + k) s)
 
 pub record BadAt (s : List ℕ) (i k : ℕ) : Type 0 where
   pub some : 1 ≤ k
@@ -85,6 +86,7 @@ module _ (s : List ℕ) (i k : ℕ) (h : i < length s) where
             ∙ decode-good x xs (g .0)
             ∙ ap (λ (l : List ℕ). l ++ decode (drop (more x xs) xs)) w
             ∙ ap (λ (l : List ℕ). slice i (i + k) s ++ decode l) (rest (g .1));
+        count = ap replacements cut ∙ count-good x xs (g .0) ∙ ap replacements (rest (g .1));
       }
 
   pub bad-at : (r : Step) → r ≡ stepOf (getD s i 0) (drop (i + 1) s) → r ≡ Bad k → BadAt s i k
@@ -165,6 +167,9 @@ pub ascii-size : (s : List ℕ) → length s < 18446744073709551616 → ((j : �
 unfolding decodedSize
 ascii-size s h f = rw (ascii-decode s f) (omega arith)
 
+pub ascii-none : (s : List ℕ) → ((j : ℕ) → j < length s → getD s j 0 < 128) → 0 ≡ replacements s
+ascii-none s f = well-none s (whole-well s (ascii-valid s f))
+
 -- ---- a walk that came to an ill-formed subpart or to the end
 
 pub run-end : (s : List ℕ) (from end skip : ℕ) → end + validUpTo (drop end s) ≡ from + validUpTo (drop from s) → (skip ≡ 0 → length s ≤ end)
@@ -181,6 +186,8 @@ pub record RunAt (s : List ℕ) (i end skip : ℕ) : Type 0 where
   pub last : skip ≡ 0 → end ≡ length s
   pub whole : skip ≡ 0 → decode (drop i s) ≡ slice i end s
   pub split : 0 < skip → decode (drop i s) ≡ slice i end s ++ (replacement ++ decode (drop (end + skip) s))
+  pub none : skip ≡ 0 → replacements (drop i s) ≡ 0
+  pub one : 0 < skip → replacements (drop i s) ≡ suc (replacements (drop (end + skip) s))
 
 module _ (s : List ℕ) (i end skip : ℕ) (h : i ≤ length s) (e : end ≡ i + validUpTo (drop i s)) (k : skip ≡ illSize (drop end s)) where
   behind : drop (validUpTo (drop i s)) (drop i s) ≡ drop end s
@@ -194,6 +201,9 @@ module _ (s : List ℕ) (i end skip : ℕ) (h : i ≤ length s) (e : end ≡ i +
       decode-front (drop i s)
       ∙ ap (λ (l : List ℕ). l ++ decode (drop (validUpTo (drop i s)) (drop i s))) (take-drop i (validUpTo (drop i s)) s ∙ ap (λ (n : ℕ). slice i n s) (sym e))
       ∙ ap (λ (l : List ℕ). slice i end s ++ decode l) behind
+
+  count : replacements (drop i s) ≡ replacements (drop end s)
+  count = count-front (drop i s) ∙ ap replacements behind
 
   ended : skip ≡ 0 → end ≡ length s
   ended q =
@@ -212,39 +222,53 @@ module _ (s : List ℕ) (i end skip : ℕ) (h : i ≤ length s) (e : end ≡ i +
         reach = omega (arith, b .1, w, d, k);
         short = rw k (ill-short (drop end s));
         last = ended;
-        whole = λ q. front ∙ ap (λ (l : List ℕ). slice i end s ++ decode l) (none q) ∙ ap (λ (l : List ℕ). slice i end s ++ l) decode-nil ∙ append-nil (slice i end s);
+        whole = λ q. front ∙ ap (λ (l : List ℕ). slice i end s ++ decode l) (nothing q) ∙ ap (λ (l : List ℕ). slice i end s ++ l) decode-nil ∙ append-nil (slice i end s);
         split = λ q. front ∙ ap (λ (l : List ℕ). slice i end s ++ l) (there q);
+        none = λ q. count ∙ ap replacements (nothing q) ∙ count-nil;
+        one = λ q. count ∙ counted q;
       }
     where
-      none : skip ≡ 0 → drop end s ≡ []
-      none q = let w : length s ≤ end = omega (arith, ended q) in drop-of-length-le s w
+      nothing : skip ≡ 0 → drop end s ≡ []
+      nothing q = let w : length s ≤ end = omega (arith, ended q) in drop-of-length-le s w
+
+      passed : drop (illSize (drop end s)) (drop end s) ≡ drop (end + skip) s
+      passed = ap (λ (n : ℕ). drop n (drop end s)) (sym k) ∙ drop-drop skip end s
 
       there : 0 < skip → decode (drop end s) ≡ replacement ++ decode (drop (end + skip) s)
       there q =
           decode-ill (drop end s) (omega (arith, q, k))
-          ∙ ap (λ (l : List ℕ). replacement ++ decode l) (ap (λ (n : ℕ). drop n (drop end s)) (sym k) ∙ drop-drop skip end s)
+          ∙ ap (λ (l : List ℕ). replacement ++ decode l) passed
 
--- ---- lengths, for the loops that decode: `grown` is how much longer the decoding of what was passed is
+      counted : 0 < skip → replacements (drop end s) ≡ suc (replacements (drop (end + skip) s))
+      counted q = count-ill (drop end s) (omega (arith, q, k)) ∙ ap (λ (l : List ℕ). suc (replacements l)) passed
 
-abbrev pub Counted : List ℕ → ℕ → ℕ → Type 0
-Counted s i grown = (i ≤ length s) × (length (decode (drop i s)) + i + grown ≡ length (decode s)) × (grown ≤ 2 * i)
+-- ---- numbers, for the loops that decode: of what was passed, `grown` is how much longer its decoding is, and `n` how many U+FFFD that puts in
 
-pub counted-run : (s : List ℕ) (i grown end skip : ℕ) → Counted s i grown → RunAt s i end skip → 0 < skip → Counted s (end + skip) (grown + (3 - skip))
-counted-run s i grown end skip c r h =
+abbrev pub Counted : List ℕ → ℕ → ℕ → ℕ → Type 0
+Counted s i grown n = (i ≤ length s) × (length (decode (drop i s)) + i + grown ≡ length (decode s)) × (grown ≤ 2 * i) × (n + replacements (drop i s) ≡ replacements s)
+
+pub counted-run : (s : List ℕ) (i grown n end skip : ℕ) → Counted s i grown n → RunAt s i end skip → 0 < skip → Counted s (end + skip) (grown + (3 - skip)) (n + 1)
+counted-run s i grown n end skip c r h =
     let a = ap length (r .split h) in
     let b = length-append (slice i end s) (replacement ++ decode (drop (end + skip) s)) in
     let l = length-slice i end s (omega (arith, r .reach)) in
     let st = r .start in
     let sh = r .short in
-    (r .reach, omega (arith, c .1, a, b, l, st, sh), omega (arith, c .2, st, sh))
+    let o = r .one h in
+    (r .reach, omega (arith, c .1, a, b, l, st, sh), omega (arith, c .2, st, sh), omega (arith, c .3, o))
+
+-- no count of U+FFFD is above the text's length
+pub counted-most : (s : List ℕ) (i grown n : ℕ) → Counted s i grown n → n ≤ length s
+counted-most s i grown n c = let m = count-le s in omega (arith, c .3, m)
 
 -- at the end
-pub counted-last : (s : List ℕ) (i grown end skip : ℕ) → Counted s i grown → RunAt s i end skip → skip ≡ 0 → length s + grown ≡ length (decode s)
-counted-last s i grown end skip c r q =
+pub counted-last : (s : List ℕ) (i grown n end skip : ℕ) → Counted s i grown n → RunAt s i end skip → skip ≡ 0 → (length s + grown ≡ length (decode s)) × (n ≡ replacements s)
+counted-last s i grown n end skip c r q =
     let a = ap length (r .whole q) in
     let e = r .last q in
     let l = length-slice i end s (omega (arith, e)) in
-    omega (arith, c .0, c .1, a, l, e)
+    let o = r .none q in
+    (omega (arith, c .0, c .1, a, l, e), omega (arith, c .3, o))
 
 pub counted-size : (s : List ℕ) (n r : ℕ) → n ≡ length (decode s) → r ≡ min n 18446744073709551615 → r ≡ decodedSize s
 unfolding decodedSize
@@ -287,12 +311,13 @@ plain-text s at n e =
 
 -- ---- the same for one step at a time
 
-pub counted-good : (s : List ℕ) (i grown k : ℕ) → Counted s i grown → GoodAt s i k → Counted s (i + k) grown
-counted-good s i grown k c g =
+pub counted-good : (s : List ℕ) (i grown n k : ℕ) → Counted s i grown n → GoodAt s i k → Counted s (i + k) grown n
+counted-good s i grown n k c g =
     let a = ap length (g .split) in
     let b = length-append (slice i (i + k) s) (decode (drop (i + k) s)) in
     let l = length-slice i (i + k) s (g .reach) in
-    (g .reach, omega (arith, c .1, a, b, l), omega (arith, c .2))
+    let o = g .count in
+    (g .reach, omega (arith, c .1, a, b, l), omega (arith, c .2), omega (arith, c .3, o))
 
 -- an ill-formed subpart is a run of no characters with it behind
 pub run-bad : (s : List ℕ) (i k : ℕ) → BadAt s i k → RunAt s i i k
@@ -304,10 +329,11 @@ lone-bad s i e =
     let h = both-true (ltb i (length s)) (eqb (classOf (getD s i 0)) 0) e in
     bad-at s i 1 (ltb-true _ _ (h .0)) (Bad 1) (step-none _ _ (eqb-true _ _ (h .1))) refl
 
-pub counted-end : (s : List ℕ) (i grown : ℕ) → Counted s i grown → length s ≤ i → length s + grown ≡ length (decode s)
-counted-end s i grown c h =
+pub counted-end : (s : List ℕ) (i grown n : ℕ) → Counted s i grown n → length s ≤ i → (length s + grown ≡ length (decode s)) × (n ≡ replacements s)
+counted-end s i grown n c h =
     let a : length (decode (drop i s)) ≡ 0 = rw (drop-of-length-le s h, decode-nil) refl in
-    omega (arith, c .0, c .1, a)
+    let o : replacements (drop i s) ≡ 0 = rw (drop-of-length-le s h) count-nil in
+    (omega (arith, c .0, c .1, a), omega (arith, c .3, o))
 
 pub decode-end : (s : List ℕ) (i : ℕ) → length s ≤ i → decode (drop i s) ≡ []
 decode-end s i h = rw (drop-of-length-le s h) decode-nil

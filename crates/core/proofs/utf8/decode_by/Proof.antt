@@ -8,13 +8,14 @@ use native.Mathlib.Omega.{arith}
 use denote.Ref.{now}
 use lib.Seq.{sets}
 use Rattle.core.specs.Utf8.{decodedSize}
-use Rattle.core.proofs.utf8.Laws.{whole-well, decode-well}
+use Rattle.core.proofs.utf8.Laws.{whole-well, well-none, decode-well}
 
 returns : tie.Need-returns
 unfolding decodedSize
 returns c =
-    let d = decode-well _ (whole-well _ (c .before .before .before .before .before .short-valid .ensures (c .before .before .before .before .if1 .taken))) in
-    (rw d (omega (arith, c .before .before .before .before .before .before .before .before .good)), c .before .before .copy .ensures ∙ ap (sets (now (c .before .before .before .before .before .before .before .before .args .out)) (c .before .before .before .before .before .before .before .before .args .at)) (sym d))
+    let w = whole-well _ (c .before .before .before .before .before .short-valid .ensures (c .before .before .before .before .if1 .taken)) in
+    let d = decode-well _ w in
+    (rw d (omega (arith, c .before .before .before .before .before .before .before .before .good)), well-none _ w, c .before .before .copy .ensures ∙ ap (sets (now (c .before .before .before .before .before .before .before .before .args .out)) (c .before .before .before .before .before .before .before .before .args .at)) (sym d))
 
 pub decode-by-spec : {M : Type 1} → statement M
 decode-by-spec =

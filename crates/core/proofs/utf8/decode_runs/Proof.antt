@@ -8,16 +8,16 @@ use denote.Ref.{now}
 use lib.ListN.{length, drop}
 use lib.Seq.{sets}
 use Rattle.core.specs.Utf8.{decode}
-use Rattle.core.proofs.utf8.Turns.{part-is, BadAt, RunAt, run-at, run-bad, lone-bad, Counted, counted-run, counted-last, counted-size, sets-run, sets-bad}
+use Rattle.core.proofs.utf8.Turns.{part-is, BadAt, RunAt, run-at, run-bad, lone-bad, Counted, counted-most, counted-run, counted-last, counted-size, sets-run, sets-bad}
 use borrow.Author.Needs.{needs}
 use Rattle.core.proofs.utf8.decode_runs.Statement.{statement}
 use Rattle.core.proofs.utf8.decode_runs.Tie as tie
 
 abbrev Inv-loop : tie.InvT-loop
-Inv-loop text out₀ at classes rows i₀ o₀ grown₀ out i o grown = Counted text i grown × (length out ≡ length out₀) × (sets out o (decode (drop i text)) ≡ sets out₀ at (decode text))
+Inv-loop text out₀ at classes rows replaced₀ i₀ o₀ grown₀ count₀ out replaced i o grown count = Counted text i grown count × (length out ≡ length out₀) × (sets out o (decode (drop i text)) ≡ sets out₀ at (decode text))
 
 abbrev μ-loop : tie.MeasureT-loop
-μ-loop text out₀ at classes rows i₀ o₀ grown₀ out i o grown = length text - i
+μ-loop text out₀ at classes rows replaced₀ i₀ o₀ grown₀ count₀ out replaced i o grown count = length text - i
 
 bad : (c : tie.Then1 Inv-loop μ-loop) → BadAt (now (c .before .before .before .before .before .args .text)) (c .before .before .loop .i) 1
 bad c = lone-bad _ _ (sym (c .before .lone .ensures) ∙ c .if1 .taken)
@@ -29,7 +29,10 @@ some : (n : ℕ) → (n ≡ 0 → ⊥) → 0 < n
 some n h = omega arith
 
 add-grown : tie.Need-add-grown Inv-loop μ-loop
-add-grown c = let b = bad (c .before .before .before .before) in let k = counted-run _ _ _ _ _ (c .before .before .before .before .before .before .loop .inv .0) (run-bad _ _ _ b) (b .some) in omega (arith, k .0, k .2, c .before .before .before .before .before .before .before .before .before .good)
+add-grown c = let b = bad (c .before .before .before .before) in let k = counted-run _ _ _ _ _ _ (c .before .before .before .before .before .before .loop .inv .0) (run-bad _ _ _ b) (b .some) in omega (arith, k .0, k .2, c .before .before .before .before .before .before .before .before .before .good)
+
+add-count : tie.Need-add-count Inv-loop μ-loop
+add-count c = let b = bad (c .before .before .before .before) in let m = counted-most _ _ _ _ (counted-run _ _ _ _ _ _ (c .before .before .before .before .before .before .loop .inv .0) (run-bad _ _ _ b) (b .some)) in omega (arith, m, c .before .before .before .before .before .before .before .before .before .good)
 
 loop-less : tie.Need-loop-less Inv-loop μ-loop
 loop-less c = let b = bad (c .before .before .before .before) in omega (arith, b .reach)
@@ -37,7 +40,7 @@ loop-less c = let b = bad (c .before .before .before .before) in omega (arith, b
 loop-again : tie.Need-loop-again Inv-loop μ-loop
 loop-again c =
     let b = bad (c .before .before .before .before) in (
-      counted-run _ _ _ _ _ (c .before .before .before .before .before .before .loop .inv .0) (run-bad _ _ _ b) (b .some),
+      counted-run _ _ _ _ _ _ (c .before .before .before .before .before .before .loop .inv .0) (run-bad _ _ _ b) (b .some),
       c .before .before .put-replacement .kept .0 ∙ c .before .before .before .before .before .before .loop .inv .1,
       sets-bad _ _ _ _ _ _ _ b (c .before .before .put-replacement .ensures .0) (c .before .before .put-replacement .ensures .1) ∙ c .before .before .before .before .before .before .loop .inv .2,
     )
@@ -47,8 +50,10 @@ part-copy-on-end c = let r = run c in omega (arith, r .reach)
 
 returns : tie.Need-returns Inv-loop μ-loop
 returns c =
-    let r = run (c .before .before .before .before .before .before .before) in (
-      counted-size _ _ _ (counted-last _ _ _ _ _ (c .before .before .before .before .before .before .before .before .before .before .loop .inv .0) r (c .before .if2 .taken)) (c .total .ensures),
+    let r = run (c .before .before .before .before .before .before .before) in
+    let n = counted-last _ _ _ _ _ _ (c .before .before .before .before .before .before .before .before .before .before .loop .inv .0) r (c .before .if2 .taken) in (
+      counted-size _ _ _ (n .0) (c .total .ensures),
+      n .1,
       c .before .before .before .before .copy-on .ensures .0 ∙ ap (λ (l : List ℕ). sets (c .before .before .before .before .before .before .before .before .before .before .loop .out) (c .before .before .before .before .before .before .before .before .before .before .loop .o) l) (part-is _ _ _ (r .start) ∙ sym (r .whole (c .before .if2 .taken))) ∙ c .before .before .before .before .before .before .before .before .before .before .loop .inv .2,
     )
 
@@ -56,7 +61,10 @@ sub-grown : tie.Need-sub-grown Inv-loop μ-loop
 sub-grown c = let r = run (c .before .before .before .before .before .before .before .before .before .before) in omega (arith, r .short)
 
 add-grown-2 : tie.Need-add-grown-2 Inv-loop μ-loop
-add-grown-2 c = let k = counted-run _ _ _ _ _ (c .before .before .before .before .before .before .before .before .before .before .before .before .before .loop .inv .0) (run (c .before .before .before .before .before .before .before .before .before .before)) (some _ (c .before .before .before .before .if2 .left)) in omega (arith, k .0, k .2, c .before .before .before .before .before .before .before .before .before .before .before .before .before .before .before .before .good)
+add-grown-2 c = let k = counted-run _ _ _ _ _ _ (c .before .before .before .before .before .before .before .before .before .before .before .before .before .loop .inv .0) (run (c .before .before .before .before .before .before .before .before .before .before)) (some _ (c .before .before .before .before .if2 .left)) in omega (arith, k .0, k .2, c .before .before .before .before .before .before .before .before .before .before .before .before .before .before .before .before .good)
+
+add-count-2 : tie.Need-add-count-2 Inv-loop μ-loop
+add-count-2 c = let m = counted-most _ _ _ _ (counted-run _ _ _ _ _ _ (c .before .before .before .before .before .before .before .before .before .before .before .before .before .loop .inv .0) (run (c .before .before .before .before .before .before .before .before .before .before)) (some _ (c .before .before .before .before .if2 .left))) in omega (arith, m, c .before .before .before .before .before .before .before .before .before .before .before .before .before .before .before .before .good)
 
 add-i-2 : tie.Need-add-i-2 Inv-loop μ-loop
 add-i-2 c = let r = run (c .before .before .before .before .before .before .before .before .before .before) in omega (arith, r .reach)
@@ -68,7 +76,7 @@ loop-again-2 : tie.Need-loop-again-2 Inv-loop μ-loop
 loop-again-2 c =
     let r = run (c .before .before .before .before .before .before .before .before .before .before) in
     let h = some _ (c .before .before .before .before .if2 .left) in (
-      counted-run _ _ _ _ _ (c .before .before .before .before .before .before .before .before .before .before .before .before .before .loop .inv .0) r h,
+      counted-run _ _ _ _ _ _ (c .before .before .before .before .before .before .before .before .before .before .before .before .before .loop .inv .0) r h,
       c .before .before .put-replacement2 .kept .0 ∙ c .before .before .before .before .before .before .before .copy-on .kept .1 .0 ∙ c .before .before .before .before .before .before .before .before .before .before .before .before .before .loop .inv .1,
       sets-run _ _ _ _ _ _ _ _ _ _ _ r h (part-is _ _ _ (r .start)) (c .before .before .before .before .before .before .before .copy-on .ensures .0) (c .before .before .before .before .before .before .before .copy-on .ensures .1) (c .before .before .put-replacement2 .ensures .0) (c .before .before .put-replacement2 .ensures .1) ∙ c .before .before .before .before .before .before .before .before .before .before .before .before .before .loop .inv .2,
     )
@@ -76,6 +84,6 @@ loop-again-2 c =
 pub decode-runs-spec : {M : Type 1} → statement M
 decode-runs-spec =
     tie.close
-    (tie.spec Inv-loop μ-loop (λ c. search needs) (λ c κs. search needs) (search needs) add-grown (search needs) loop-less
+    (tie.spec Inv-loop μ-loop (λ c. search needs) (λ c κs. search needs) (search needs) add-grown add-count (search needs) loop-less
     loop-again (λ c κs. search needs) (search needs) (search needs) part-copy-on-end (search needs) (search needs) (search needs)
-    returns (search needs) sub-grown add-grown-2 add-i-2 loop-less-2 loop-again-2)
+    returns (search needs) sub-grown add-grown-2 add-count-2 add-i-2 loop-less-2 loop-again-2)

@@ -8,16 +8,16 @@ use denote.Ref.{now}
 use lib.ListN.{length, drop}
 use lib.Seq.{sets}
 use Rattle.core.specs.Utf8.{decode}
-use Rattle.core.proofs.utf8.Turns.{part-is, GoodAt, BadAt, good-at, bad-at, run-bad, Counted, counted-good, counted-run, counted-end, counted-size, decode-end, sets-good, sets-bad}
+use Rattle.core.proofs.utf8.Turns.{part-is, GoodAt, BadAt, good-at, bad-at, run-bad, Counted, counted-good, counted-most, counted-run, counted-end, counted-size, decode-end, sets-good, sets-bad}
 use borrow.Author.Needs.{needs}
 use Rattle.core.proofs.utf8.decode_steps.Statement.{statement}
 use Rattle.core.proofs.utf8.decode_steps.Tie as tie
 
 abbrev Inv-loop : tie.InvT-loop
-Inv-loop text out₀ at classes i₀ o₀ grown₀ out i o grown = Counted text i grown × (length out ≡ length out₀) × (sets out o (decode (drop i text)) ≡ sets out₀ at (decode text))
+Inv-loop text out₀ at classes replaced₀ i₀ o₀ grown₀ count₀ out i o grown count = Counted text i grown count × (length out ≡ length out₀) × (sets out o (decode (drop i text)) ≡ sets out₀ at (decode text))
 
 abbrev μ-loop : tie.MeasureT-loop
-μ-loop text out₀ at classes i₀ o₀ grown₀ out i o grown = length text - i
+μ-loop text out₀ at classes replaced₀ i₀ o₀ grown₀ count₀ out i o grown count = length text - i
 
 good-arm : (c : tie.After-known-told Inv-loop μ-loop) → GoodAt (now (c .before .before .before .before .before .before .before .before .args .text)) (c .before .before .before .before .before .loop .i) (c .before .k .given .0 .0)
 good-arm c = good-at _ _ _ (search needs) _ (c .before .before .before .step-at .ensures) (c .before .k .given .1)
@@ -38,7 +38,7 @@ loop-again : tie.Need-loop-again Inv-loop μ-loop
 loop-again c =
     let h : c .before .before .before .before .before .before .before .before .before .before .loop .i ≤ c .before .before .before .before .before .before .before .before .before .before .loop .i + c .before .before .before .before .before .before .k .given .0 .0 = omega arith in
     let g = good-arm (c .before .before .before .before .before) in (
-      counted-good _ _ _ _ (c .before .before .before .before .before .before .before .before .before .before .loop .inv .0) g,
+      counted-good _ _ _ _ _ (c .before .before .before .before .before .before .before .before .before .before .loop .inv .0) g,
       c .before .before .copy-on .kept .1 .0 ∙ c .before .before .before .before .before .before .before .before .before .before .loop .inv .1,
       sets-good _ _ _ _ _ _ _ _ g (part-is _ _ _ h) (c .before .before .copy-on .ensures .0) (c .before .before .copy-on .ensures .1) ∙ c .before .before .before .before .before .before .before .before .before .before .loop .inv .2,
     )
@@ -47,7 +47,10 @@ sub-grown : tie.Need-sub-grown Inv-loop μ-loop
 sub-grown c = let b = run-bad _ _ _ (bad-arm (c .before .before .before .before)) in omega (arith, b .short)
 
 add-grown : tie.Need-add-grown Inv-loop μ-loop
-add-grown c = let b = bad-arm (c .before .before .before .before) in let k = counted-run _ _ _ _ _ (c .before .before .before .before .before .before .before .before .before .loop .inv .0) (run-bad _ _ _ b) (b .some) in omega (arith, k .0, k .2, c .before .before .before .before .before .before .before .before .before .before .before .before .good)
+add-grown c = let b = bad-arm (c .before .before .before .before) in let k = counted-run _ _ _ _ _ _ (c .before .before .before .before .before .before .before .before .before .loop .inv .0) (run-bad _ _ _ b) (b .some) in omega (arith, k .0, k .2, c .before .before .before .before .before .before .before .before .before .before .before .before .good)
+
+add-count : tie.Need-add-count Inv-loop μ-loop
+add-count c = let b = bad-arm (c .before .before .before .before) in let m = counted-most _ _ _ _ (counted-run _ _ _ _ _ _ (c .before .before .before .before .before .before .before .before .before .loop .inv .0) (run-bad _ _ _ b) (b .some)) in omega (arith, m, c .before .before .before .before .before .before .before .before .before .before .before .before .good)
 
 add-i : tie.Need-add-i Inv-loop μ-loop
 add-i c = let b = bad-arm (c .before .before .before .before) in omega (arith, b .reach)
@@ -58,20 +61,22 @@ loop-less-2 c = let b = bad-arm (c .before .before .before .before) in omega (ar
 loop-again-2 : tie.Need-loop-again-2 Inv-loop μ-loop
 loop-again-2 c =
     let b = bad-arm (c .before .before .before .before) in (
-      counted-run _ _ _ _ _ (c .before .before .before .before .before .before .before .before .before .loop .inv .0) (run-bad _ _ _ b) (b .some),
+      counted-run _ _ _ _ _ _ (c .before .before .before .before .before .before .before .before .before .loop .inv .0) (run-bad _ _ _ b) (b .some),
       c .before .before .put-replacement .kept .0 ∙ c .before .before .before .before .before .before .before .before .before .loop .inv .1,
       sets-bad _ _ _ _ _ _ _ b (c .before .before .put-replacement .ensures .0) (c .before .before .put-replacement .ensures .1) ∙ c .before .before .before .before .before .before .before .before .before .loop .inv .2,
     )
 
 returns : tie.Need-returns Inv-loop μ-loop
-returns c = (
-  counted-size _ _ _ (counted-end _ _ _ (c .before .before .loop .inv .0) (c .before .loop-test .left)) (c .total .ensures),
-  ap (λ (l : List ℕ). sets (c .before .before .loop .out) (c .before .before .loop .o) l) (sym (decode-end _ _ (c .before .loop-test .left))) ∙ c .before .before .loop .inv .2,
-)
+returns c =
+    let n = counted-end _ _ _ _ (c .before .before .loop .inv .0) (c .before .loop-test .left) in (
+      counted-size _ _ _ (n .0) (c .total .ensures),
+      n .1,
+      ap (λ (l : List ℕ). sets (c .before .before .loop .out) (c .before .before .loop .o) l) (sym (decode-end _ _ (c .before .loop-test .left))) ∙ c .before .before .loop .inv .2,
+    )
 
 pub decode-steps-spec : {M : Type 1} → statement M
 decode-steps-spec =
     tie.close
     (tie.spec Inv-loop μ-loop (λ c. search needs) (λ c κs. search needs) (search needs) add-next (search needs) (search needs)
-    part-copy-on-end (search needs) loop-less loop-again (search needs) (search needs) sub-grown add-grown add-i loop-less-2
+    part-copy-on-end (search needs) loop-less loop-again (search needs) (search needs) sub-grown add-grown add-count add-i loop-less-2
     loop-again-2 (search needs) (search needs) returns)
