@@ -10,7 +10,7 @@ use lib.Seq.{slice, sets}
 use Rattle.core.specs.Choice.{pick}
 use Rattle.core.specs.Outcome.{Outcome, accepted, refused, refusedPast, refusedNoZero}
 use Rattle.core.specs.Part.{inside, partOf, partPtr}
-use Rattle.core.specs.Utf8.{decode, wellFormed}
+use Rattle.core.specs.Utf8.{decode, replacements, wellFormed}
 use Rattle.bflan.specs.declared.fault.Fault.{Fault}
 use Rattle.bflan.specs.declared.fault.Fault.the-variants.{PastEnd, NoZero, OtherLetters}
 use Rattle.bflan.specs.declared.read.ReadAnswer.{ReadAnswer}
@@ -19,7 +19,7 @@ use Rattle.bflan.specs.declared.find.FindAnswer.{FindAnswer}
 use Rattle.bflan.specs.declared.find.FindAnswer.the-variants.{Found, Refused as FindRefused, TooLong as FindTooLong, NoSuchText, ScratchTooShort}
 use Rattle.bflan.specs.Limits.{limit}
 use Rattle.bflan.specs.Reader.{Res, ok, stop, P, Item}
-use Rattle.bflan.specs.Items.{wordsOf, textsOf, textsIn}
+use Rattle.bflan.specs.Items.{wordsOf, textsOf, replacementsOf, textsIn}
 
 -- ---- numbers and values
 
@@ -41,13 +41,13 @@ ofFault (NoZero start) = refusedNoZero start
 ofFault (OtherLetters letters) = otherLetters letters
 
 unfoldable pub ofReading : ReadAnswer → Outcome
-ofReading (Accepted words bytes) = accepted (words ∷ bytes ∷ [])
+ofReading (Accepted words bytes replaced) = accepted (words ∷ bytes ∷ replaced ∷ [])
 ofReading (Refused f) = ofFault f
 ofReading (TooLong size) = tooLong size
 ofReading (TooShort words bytes) = tooShort words bytes
 
 unfoldable pub ofFinding : FindAnswer → Outcome
-ofFinding (Found source start len) = accepted (source ∷ start ∷ len ∷ [])
+ofFinding (Found source start len replaced) = accepted (source ∷ start ∷ len ∷ replaced ∷ [])
 ofFinding (FindRefused f) = ofFault f
 ofFinding (FindTooLong size) = tooLong size
 ofFinding NoSuchText = noPlace
@@ -59,7 +59,7 @@ unfoldable pub filled : List ℕ → List ℕ → List ℕ → Res (List Item) �
 filled s w x (stop f) = (ofFault f, w, x)
 filled s w x (ok is end) =
     pick (leb (length (wordsOf s is)) (length w) && leb (length (textsOf s is)) (length x))
-    (accepted (length (wordsOf s is) ∷ length (textsOf s is) ∷ []), sets w 0 (wordsOf s is), sets x 0 (textsOf s is))
+    (accepted (length (wordsOf s is) ∷ length (textsOf s is) ∷ replacementsOf s is ∷ []), sets w 0 (wordsOf s is), sets x 0 (textsOf s is))
     (tooShort (length (wordsOf s is)) (length (textsOf s is)), w, x)
 
 -- by the format's reader
@@ -71,8 +71,8 @@ readingBy p s w x = pick (leb (length s) limit) (filled s w x (p s 0)) (tooLong 
 -- a text of these bytes that starts at a: where it is well-formed it is shown where it stands
 unfoldable pub shown : ℕ → List ℕ → List ℕ → Outcome × List ℕ
 shown a bytes x =
-    pick (wellFormed bytes) (accepted (0 ∷ a ∷ length bytes ∷ []), x)
-    (pick (leb (length (decode bytes)) (length x)) (accepted (1 ∷ 0 ∷ length (decode bytes) ∷ []), sets x 0 (decode bytes))
+    pick (wellFormed bytes) (accepted (0 ∷ a ∷ length bytes ∷ 0 ∷ []), x)
+    (pick (leb (length (decode bytes)) (length x)) (accepted (1 ∷ 0 ∷ length (decode bytes) ∷ replacements bytes ∷ []), sets x 0 (decode bytes))
     (tooShort 0 (length (decode bytes)), x))
 
 abbrev pub shownIn : List ℕ → List ℕ → ℕ × ℕ → Outcome × List ℕ

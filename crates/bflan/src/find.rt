@@ -18,8 +18,8 @@ use core::utf8::decoded_len;
 use core::utf8::well_formed;
 
 pub enum FindAnswer {
-    // The source (0 the section, 1 the scratch), and the text's start and length there.
-    Found(usize, usize, usize),
+    // The source (0 the section, 1 the scratch), the text's start and length there, and how many U+FFFD were put in.
+    Found(usize, usize, usize, usize),
     Refused(Fault),
     // The section's length, above the limit.
     TooLong(usize),
@@ -36,14 +36,15 @@ fn show(s: &[u8], start: usize, len: usize, scratch: &mut [u8]) -> FindAnswer
 {
     let end = start + len;
     if well_formed(&s[start..end]) {
-        return FindAnswer::Found(0, start, len);
+        return FindAnswer::Found(0, start, len, 0);
     }
     let size = decoded_len(&s[start..end]);
     if scratch.len() < size {
         return FindAnswer::ScratchTooShort(size);
     }
-    decode_into(&s[start..end], scratch, 0);
-    FindAnswer::Found(1, 0, size)
+    let mut replaced: usize = 0;
+    decode_into(&s[start..end], scratch, 0, &mut replaced);
+    FindAnswer::Found(1, 0, size, replaced)
 }
 
 pub fn find_text(section: &[u8], text: usize, scratch: &mut [u8]) -> FindAnswer
@@ -96,7 +97,7 @@ pub fn of_finding(a: FindAnswer) -> Numbers
     ensures { λ r. ⌜ inOrder r ≡ flat 5 (ofFinding a) ⌝ }
 {
     match a {
-        FindAnswer::Found(source, start, len) => Numbers(0, source, start, len, 0),
+        FindAnswer::Found(source, start, len, replaced) => Numbers(0, source, start, len, replaced),
         FindAnswer::Refused(f) => of_fault(f),
         FindAnswer::TooLong(size) => Numbers(2, size, 0, 0, 0),
         FindAnswer::NoSuchText => Numbers(10, 0, 0, 0, 0),

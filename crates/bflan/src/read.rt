@@ -16,8 +16,8 @@ use crate::reader::tally::fresh;
 use core::outcome::Numbers;
 
 pub enum ReadAnswer {
-    // The words and the text bytes that were filled.
-    Accepted(usize, usize),
+    // The words and the text bytes that were filled, and how many U+FFFD were put into the texts.
+    Accepted(usize, usize, usize),
     Refused(Fault),
     // The section's length, above the limit.
     TooLong(usize),
@@ -51,6 +51,7 @@ pub fn read(section: &[u8], words: &mut [u32], texts: &mut [u8]) -> ReadAnswer
         Walk::Went(t, _p) => {
             let needs = t.words;
             let bytes = t.bytes;
+            let replaced = t.replaced;
             if words.len() < needs {
                 return ReadAnswer::TooShort(needs, bytes);
             }
@@ -58,7 +59,7 @@ pub fn read(section: &[u8], words: &mut [u32], texts: &mut [u8]) -> ReadAnswer
                 return ReadAnswer::TooShort(needs, bytes);
             }
             section_at(section, words, texts, fresh(0));
-            ReadAnswer::Accepted(needs, bytes)
+            ReadAnswer::Accepted(needs, bytes, replaced)
         }
     }
 }
@@ -68,7 +69,7 @@ pub fn of_reading(a: ReadAnswer) -> Numbers
     ensures { λ r. ⌜ inOrder r ≡ flat 5 (ofReading a) ⌝ }
 {
     match a {
-        ReadAnswer::Accepted(words, bytes) => Numbers(0, words, bytes, 0, 0),
+        ReadAnswer::Accepted(words, bytes, replaced) => Numbers(0, words, bytes, replaced, 0),
         ReadAnswer::Refused(f) => of_fault(f),
         ReadAnswer::TooLong(size) => Numbers(2, size, 0, 0, 0),
         ReadAnswer::TooShort(words, bytes) => Numbers(5, words, bytes, 0, 0),

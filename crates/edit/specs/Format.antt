@@ -46,12 +46,12 @@ pai1 =
 
 -- of any format, by its cells and its reader, or its layout and its judge
 module _ {A : Type 0} (cellsOf : A → List Cell) where
-  -- reading these bytes with long enough tables is accepted, and fills them with the record
+  -- reading these bytes with long enough tables is accepted, and fills them with the record; no character was replaced
   abbrev pub ReadsBy : P (List Item) → List ℕ → A → Type 0
   ReadsBy p s r =
       (w x : List ℕ) → length (wordsIn (cellsOf r)) ≤ length w → length (bytesIn (cellsOf r)) ≤ length x
       → readingBy p s w x
-      ≡ (accepted (length (wordsIn (cellsOf r)) ∷ length (bytesIn (cellsOf r)) ∷ []), sets w 0 (wordsIn (cellsOf r)), sets x 0 (bytesIn (cellsOf r)))
+      ≡ (accepted (length (wordsIn (cellsOf r)) ∷ length (bytesIn (cellsOf r)) ∷ 0 ∷ []), sets w 0 (wordsIn (cellsOf r)), sets x 0 (bytesIn (cellsOf r)))
 
   -- writing the record into a long enough output is accepted, and gives these bytes
   abbrev pub WritesBy : (A → Layout) → J A → List ℕ → A → Type 0

@@ -14,7 +14,7 @@ use lib.Seq.{slice, sets}
 use Rattle.core.specs.Choice.{pick}
 use Rattle.core.specs.Outcome.{Outcome, accepted}
 use Rattle.core.specs.Part.{partOf, partPtr}
-use Rattle.core.specs.Utf8.{decode, wellFormed}
+use Rattle.core.specs.Utf8.{decode, replacements, wellFormed}
 use Rattle.bflan.specs.declared.fault.Fault.{Fault}
 use Rattle.bflan.specs.declared.fault.Fault.the-variants.{PastEnd, NoZero, OtherLetters}
 use Rattle.bflan.specs.declared.reader.tally.Tally.{Tally}
@@ -23,14 +23,14 @@ use Rattle.bflan.specs.declared.reader.tally.Walk.the-variants.{Went, St
 use Rattle.bflan.specs.declared.read.ReadAnswer.the-variants.{Accepted, Refused, TooLong, TooShort}
 use Rattle.bflan.specs.declared.find.FindAnswer.the-variants.{Found, Refused as FindRefused, TooLong as FindTooLong, NoSuchText, ScratchTooShort}
 use Rattle.bflan.specs.Reader.{Res, ok, stop, P, Item}
-use Rattle.bflan.specs.Items.{wordsOf, textsOf}
+use Rattle.bflan.specs.Items.{wordsOf, textsOf, replacementsOf}
 use Rattle.bflan.specs.inner.Walk.{emptyTally, tallied, walkOf, walked}
 use Rattle.bflan.specs.Limits.{limit}
 use Rattle.bflan.specs.Answer.{tooLong, tooShort, ofFault, ofReading, ofFinding, shown, shownIn, filled, found, textPart, textPtr, findingBy, readingBy}
 use Rattle.bflan.specs.Items.{textsIn}
 use Rattle.bflan.proofs.reader.Bounds.{Gives, given-ok, Countable}
 use Rattle.bflan.proofs.reader.Walks.{on-no, on-tally, no-fault}
-use Rattle.bflan.proofs.reader.Counts.{Fresh, whole-words, whole-bytes, whole-texts, whole-start, whole-len, whole-inside}
+use Rattle.bflan.proofs.reader.Counts.{Fresh, whole-words, whole-bytes, whole-replaced, whole-texts, whole-start, whole-len, whole-inside}
 
 -- ---- a walk's answer, without the tables
 
@@ -65,7 +65,7 @@ unfolding walkOf
 went-not s u t f p e = on-no _ _ _ (sym e)
 
 new : (k : ℕ) → Fresh k (emptyTally k)
-new k = (refl, refl, refl, refl)
+new k = (refl, refl, refl, refl, refl)
 
 -- of any reader
 module _ (p : P (List Item)) where
@@ -93,6 +93,9 @@ module _ (p : P (List Item)) where
     whole-b : t .bytes ≡ length (textsOf s (m .items))
     whole-b = ap (λ (z : Tally). z .bytes) (m .counts) ∙ whole-bytes s h (m .items) held (emptyTally k) k (new k)
 
+    whole-r : t .replaced ≡ replacementsOf s (m .items)
+    whole-r = ap (λ (z : Tally). z .replaced) (m .counts) ∙ whole-replaced s h (m .items) held (emptyTally k) k (new k)
+
     whole-t : t .texts ≡ length (textsIn (m .items))
     whole-t = ap (λ (z : Tally). z .texts) (m .counts) ∙ whole-texts s h (m .items) held (emptyTally k) k (new k)
 
@@ -111,10 +114,10 @@ module _ (p : P (List Item)) where
 
 -- ---- reading
 
-filled-both : (s w x : List ℕ) (is : List Item) (p a b : ℕ) → a ≡ length (wordsOf s is) → b ≡ length (textsOf s is) → a ≤ length w → b ≤ length x
-    → (ofReading (Accepted a b), sets w 0 (wordsOf s is), sets x 0 (textsOf s is)) ≡ filled s w x (ok is p)
+filled-both : (s w x : List ℕ) (is : List Item) (p a b c : ℕ) → a ≡ length (wordsOf s is) → b ≡ length (textsOf s is) → c ≡ replacementsOf s is → a ≤ length w → b ≤ length x
+    → (ofReading (Accepted a b c), sets w 0 (wordsOf s is), sets x 0 (textsOf s is)) ≡ filled s w x (ok is p)
 unfolding ofReading filled
-filled-both s w x is p a b ea eb ha hb = rw (sym ea, sym eb, le-leb _ _ ha, le-leb _ _ hb)
+filled-both s w x is p a b c ea eb ec ha hb = rw (sym ea, sym eb, sym ec, le-leb _ _ ha, le-leb _ _ hb)
 
 filled-words : (s w x : List ℕ) (is : List Item) (p a b : ℕ) → a ≡ length (wordsOf s is) → b ≡ length (textsOf s is) → length w < a → (ofReading (TooShort a b), w, x) ≡ filled s w x (ok is p)
 unfolding ofReading filled
@@ -147,11 +150,11 @@ module _ (p : P (List Item)) (s w x : List ℕ) where
       by-items = by-result ∙ ap (filled s w x) (m .reads)
 
       pub reading-on : (r : Walk) (u : Tally) (w′ x′ : List ℕ) → t .words ≤ length w → t .bytes ≤ length x → u ≡ emptyTally k → walked r w′ x′ ≡ walkOf s u w x (p s 0)
-          → (ofReading (Accepted (t .words) (t .bytes)), w′, x′) ≡ readingBy p s w x
+          → (ofReading (Accepted (t .words) (t .bytes) (t .replaced)), w′, x′) ≡ readingBy p s w x
       reading-on r u w′ x′ ha hb eu er =
           let e′ : walked r w′ x′ ≡ walkOf s (emptyTally k) w x (ok (m .items) (m .last)) = er ∙ ap (λ (z : Tally). walkOf s z w x (p s 0)) eu ∙ ap (walkOf s (emptyTally k) w x) (m .reads) in
           let z = tables r s (emptyTally k) w x w′ x′ (m .items) (m .last) e′ in
-          rw (by-items, z .0, z .1) (filled-both s w x (m .items) (m .last) _ _ (whole-w p s h g k t m) (whole-b p s h g k t m) ha hb)
+          rw (by-items, z .0, z .1) (filled-both s w x (m .items) (m .last) _ _ _ (whole-w p s h g k t m) (whole-b p s h g k t m) (whole-r p s h g k t m) ha hb)
 
       pub reading-words : length w < t .words → (ofReading (TooShort (t .words) (t .bytes)), w, x) ≡ readingBy p s w x
       reading-words ha = filled-words s w x (m .items) (m .last) _ _ (whole-w p s h g k t m) (whole-b p s h g k t m) ha ∙ sym by-items
@@ -177,14 +180,14 @@ module _ (p : P (List Item)) (s w x : List ℕ) where
     pub reads : p s 0 ≡ ok items end
     pub roomWords : length (wordsOf s items) ≤ length w
     pub roomTexts : length (textsOf s items) ≤ length x
-    pub answer : readingBy p s w x ≡ (accepted (length (wordsOf s items) ∷ length (textsOf s items) ∷ []), sets w 0 (wordsOf s items), sets x 0 (textsOf s items))
+    pub answer : readingBy p s w x ≡ (accepted (length (wordsOf s items) ∷ length (textsOf s items) ∷ replacementsOf s items ∷ []), sets w 0 (wordsOf s items), sets x 0 (textsOf s items))
 
   pub accepted-filled : readingBy p s w x .0 .number ≡ 0 → Filled
   unfolding readingBy filled
   accepted-filled e = go (leb (length s) limit) refl (p s 0) refl e
     where
       on : length s ≤ limit → leb (length s) limit ≡ true → (is : List Item) (end : ℕ) → p s 0 ≡ ok is end → (a b : Bool) → leb (length (wordsOf s is)) (length w) ≡ a → leb (length (textsOf s is)) (length x) ≡ b
-          → pick {A = Outcome × List ℕ × List ℕ} (a && b) (accepted (length (wordsOf s is) ∷ length (textsOf s is) ∷ []), sets w 0 (wordsOf s is), sets x 0 (textsOf s is))
+          → pick {A = Outcome × List ℕ × List ℕ} (a && b) (accepted (length (wordsOf s is) ∷ length (textsOf s is) ∷ replacementsOf s is ∷ []), sets w 0 (wordsOf s is), sets x 0 (textsOf s is))
           (tooShort (length (wordsOf s is)) (length (textsOf s is)), w, x) .0 .number ≡ 0
           → Filled
       on h l is end r true true a b e =
@@ -208,10 +211,10 @@ module _ (p : P (List Item)) (s w x : List ℕ) where
       go false l r q e = absurd (omega arith)
 
   -- with long enough tables it is
-  pub reading-gives : (is : List Item) (end : ℕ) (ws xs : List ℕ) → length s ≤ limit → p s 0 ≡ ok is end → wordsOf s is ≡ ws → textsOf s is ≡ xs → length ws ≤ length w → length xs ≤ length x
-      → readingBy p s w x ≡ (accepted (length ws ∷ length xs ∷ []), sets w 0 ws, sets x 0 xs)
+  pub reading-gives : (is : List Item) (end : ℕ) (ws xs : List ℕ) (c : ℕ) → length s ≤ limit → p s 0 ≡ ok is end → wordsOf s is ≡ ws → textsOf s is ≡ xs → replacementsOf s is ≡ c → length ws ≤ length w → length xs ≤ length x
+      → readingBy p s w x ≡ (accepted (length ws ∷ length xs ∷ c ∷ []), sets w 0 ws, sets x 0 xs)
   unfolding readingBy filled
-  reading-gives is end ws xs h e ew ex hw hx = rw (le-leb (length s) limit h, e, ew, ex, le-leb (length ws) (length w) hw, le-leb (length xs) (length x) hx)
+  reading-gives is end ws xs c h e ew ex ec hw hx = rw (le-leb (length s) limit h, e, ew, ex, ec, le-leb (length ws) (length w) hw, le-leb (length xs) (length x) hx)
 
 -- ---- finding a text
 
@@ -264,7 +267,7 @@ module _ (p : P (List Item)) (s : List ℕ) (k : ℕ) (x : List ℕ) where
 
 -- a text of these bytes that starts at a
 module _ (a : ℕ) (bytes x : List ℕ) where
-  pub shown-well : (len : ℕ) → wellFormed bytes ≡ true → len ≡ length bytes → (ofFinding (Found 0 a len), x) ≡ shown a bytes x
+  pub shown-well : (len : ℕ) → wellFormed bytes ≡ true → len ≡ length bytes → (ofFinding (Found 0 a len 0), x) ≡ shown a bytes x
   unfolding ofFinding shown
   shown-well len e l = rw (e, sym l)
 
@@ -272,9 +275,9 @@ module _ (a : ℕ) (bytes x : List ℕ) where
   unfolding ofFinding shown
   shown-short size e l h = rw (e, sym l, lt-leb _ _ h)
 
-  pub shown-decoded : (size : ℕ) (x′ : List ℕ) → wellFormed bytes ≡ false → size ≡ length (decode bytes) → size ≤ length x → x′ ≡ sets x 0 (decode bytes) → (ofFinding (Found 1 0 size), x′) ≡ shown a bytes x
+  pub shown-decoded : (size count : ℕ) (x′ : List ℕ) → wellFormed bytes ≡ false → size ≡ length (decode bytes) → count ≡ replacements bytes → size ≤ length x → x′ ≡ sets x 0 (decode bytes) → (ofFinding (Found 1 0 size count), x′) ≡ shown a bytes x
   unfolding ofFinding shown
-  shown-decoded size x′ e l h d = ap (λ (y : List ℕ). (ofFinding (Found 1 0 size), y)) d ∙ rw (e, sym l, le-leb _ _ h)
+  shown-decoded size count x′ e l n h d = ap (λ (y : List ℕ). (ofFinding (Found 1 0 size count), y)) d ∙ rw (e, sym l, sym n, le-leb _ _ h)
 
 -- ---- the part that three numbers say
 

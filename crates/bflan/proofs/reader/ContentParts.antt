@@ -27,7 +27,7 @@ use Rattle.bflan.specs.pai1.RecordAt.{nameSize}
 use Rattle.bflan.specs.Items.{shownAt}
 use Rattle.bflan.specs.pai1.Places.{total}
 use Rattle.bflan.specs.inner.Row.{cutIn}
-use Rattle.bflan.specs.inner.Walk.{withWords, withText, walkOf}
+use Rattle.bflan.specs.inner.Walk.{withWords, withTextOf, walkOf}
 use Rattle.bflan.proofs.reader.Emits.{sought-on, sought-past, sought-there, run-put2, run-named}
 use Rattle.bflan.proofs.reader.KeyRuns.{num-there, num-short, numbers-run}
 use Rattle.bflan.proofs.reader.Rows.{rowThen, fieldsAt, row-there, row-cut}
@@ -192,7 +192,7 @@ module _ (base : ℕ) (s : List ℕ) (i : ℕ) (h : base + 32 ≤ length s) {n t
 
 -- the name and the two words of a content, stored, and what follows them
 pub run-content : (s : List ℕ) (t : Tally) (w x : List ℕ) (base kind n : ℕ) (r : Res (List Item)) {len type : ℕ} {u v : Tally} {w₁ w₂ x₁ : List ℕ} → length w ≤ 18446744073709551615 → length x ≤ 18446744073709551615
-    → len ≡ nameSize s base → type ≡ typeOf kind → u ≡ withText t base len (length (shownAt s base len)) → w₁ ≡ set w (t .words) (length (shownAt s base len)) → x₁ ≡ sets x (t .bytes) (shownAt s base len)
+    → len ≡ nameSize s base → type ≡ typeOf kind → u ≡ withTextOf s t base len → w₁ ≡ set w (t .words) (length (shownAt s base len)) → x₁ ≡ sets x (t .bytes) (shownAt s base len)
     → v ≡ withWords u 2 → w₂ ≡ sets w₁ (u .words) (type ∷ n ∷ [])
     → walkOf s v w₂ x₁ r ≡ walkOf s t w x (andThen r (λ is. ret (text base (nameSize s base) ∷ word (typeOf kind) ∷ word n ∷ is)) s)
 run-content s t w x base kind n r {len} {type} {u} {v} {w₁} {w₂} {x₁} hw hx el et eu e₁ ex ev e₂ =

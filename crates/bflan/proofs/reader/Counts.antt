@@ -7,12 +7,12 @@ use native.Mathlib.Omega.{arith}
 use borrow.Author.Tests.{eq-eqb, ne-eqb}
 use lib.ListN.{length, getD, take, length-append, length-take, length-drop}
 use lib.Seq.{slice}
-use Rattle.core.proofs.utf8.Laws.{decode-bound}
+use Rattle.core.proofs.utf8.Laws.{decode-bound, decode-long, count-le}
 use Rattle.bflan.specs.declared.reader.tally.Tally.{Tally}
 use Rattle.bflan.specs.Items.{textsIn}
 use Rattle.bflan.specs.Reader.{Item, word, text}
-use Rattle.bflan.specs.Items.{shownAt, wordsOf, textsOf}
-use Rattle.bflan.specs.inner.Walk.{withWords, withText, tallied}
+use Rattle.bflan.specs.Items.{shownAt, wordsOf, textsOf, replacementsOf}
+use Rattle.bflan.specs.inner.Walk.{withWords, withText, withTextOf, tallied}
 use Rattle.bflan.proofs.reader.Bounds.{Countable}
 
 -- ---- words and text bytes
@@ -35,6 +35,14 @@ module _ (s : List ℕ) where
   texts-most h (word v ∷ is) = texts-most h is
   texts-most h (text a n ∷ is) = omega (arith, length-append (shownAt s a n) (textsOf s is), shown-most h a n, texts-most h is)
 
+  -- no more U+FFFD are put in than there are text bytes
+  replaced-most : (is : List Item) → replacementsOf s is ≤ length (textsOf s is)
+  unfolding textsOf replacementsOf
+  replaced-most [] = omega arith
+  replaced-most (word v ∷ is) = replaced-most is
+  replaced-most (text a n ∷ is) =
+      omega (arith, length-append (shownAt s a n) (textsOf s is), count-le (slice a (a + n) s), decode-long (slice a (a + n) s), replaced-most is)
+
 -- ---- a tally whose counts fit
 
 module _ (s : List ℕ) where
@@ -42,23 +50,25 @@ module _ (s : List ℕ) where
   pub record Room (t : Tally) (is : List Item) : Type 0 where
     pub words : t .words + length is ≤ 18446744073709551615
     pub bytes : t .bytes + length (textsOf s is) ≤ 18446744073709551615
+    pub replaced : t .replaced + replacementsOf s is ≤ 18446744073709551615
     pub texts : t .texts + length (textsIn is) ≤ 18446744073709551615
 
   pub record Counted (t : Tally) (is : List Item) : Type 0 where
     pub words : tallied s t is .words ≡ t .words + length is
     pub bytes : tallied s t is .bytes ≡ t .bytes + length (textsOf s is)
+    pub replaced : tallied s t is .replaced ≡ t .replaced + replacementsOf s is
     pub texts : tallied s t is .texts ≡ t .texts + length (textsIn is)
 
   pub counted : (t : Tally) (is : List Item) → Room t is → Counted t is
-  unfolding tallied withWords withText textsOf textsIn
-  counted t [] r = record { words = omega arith; bytes = omega arith; texts = omega arith }
+  unfolding tallied withWords withText textsOf replacementsOf textsIn
+  counted t [] r = record { words = omega arith; bytes = omega arith; replaced = omega arith; texts = omega arith }
   counted t (word v ∷ is) r =
-      let k = counted (withWords t 1) is (record { words = omega (arith, r .words); bytes = r .bytes; texts = r .texts }) in
-      record { words = omega (arith, k .words, r .words); bytes = k .bytes; texts = k .texts }
+      let k = counted (withWords t 1) is (record { words = omega (arith, r .words); bytes = r .bytes; replaced = r .replaced; texts = r .texts }) in
+      record { words = omega (arith, k .words, r .words); bytes = k .bytes; replaced = k .replaced; texts = k .texts }
   counted t (text a n ∷ is) r =
       let e = length-append (shownAt s a n) (textsOf s is) in
-      let k = counted (withText t a n (length (shownAt s a n))) is (record { words = omega (arith, r .words); bytes = omega (arith, r .bytes, e); texts = omega (arith, r .texts) }) in
-      record { words = omega (arith, k .words, r .words); bytes = omega (arith, k .bytes, r .bytes, e); texts = omega (arith, k .texts, r .texts) }
+      let k = counted (withTextOf s t a n) is (record { words = omega (arith, r .words); bytes = omega (arith, r .bytes, e); replaced = omega (arith, r .replaced); texts = omega (arith, r .texts) }) in
+      record { words = omega (arith, k .words, r .words); bytes = omega (arith, k .bytes, r .bytes, e); replaced = omega (arith, k .replaced, r .replaced); texts = omega (arith, k .texts, r .texts) }
 
 -- ---- the text that is wanted
 
@@ -73,7 +83,7 @@ module _ (s : List ℕ) where
   place-kept t [] h r = refl
   place-kept t (word v ∷ is) h r = place-kept (withWords t 1) is h r
   place-kept t (text a n ∷ is) h r =
-      place-kept (withText t a n (length (shownAt s a n))) is (omega arith) (omega arith) ∙ rw (ne-eqb (t .texts) (t .want) (λ e. omega arith))
+      place-kept (withTextOf s t a n) is (omega arith) (omega arith) ∙ rw (ne-eqb (t .texts) (t .want) (λ e. omega arith))
 
   -- k texts before it
   pub place-met : (t : Tally) (is : List Item) (k : ℕ) → t .want ≡ t .texts + k → k < length (textsIn is) → t .texts + length (textsIn is) ≤ 18446744073709551615
@@ -82,13 +92,13 @@ module _ (s : List ℕ) where
   place-met t [] k e h r = absurd (omega arith)
   place-met t (word v ∷ is) k e h r = place-met (withWords t 1) is k e h r
   place-met t (text a n ∷ is) zero e h r =
-      place-kept (withText t a n (length (shownAt s a n))) is (omega arith) (omega arith) ∙ rw (eq-eqb (t .texts) (t .want) (omega arith))
-  place-met t (text a n ∷ is) (suc k) e h r = place-met (withText t a n (length (shownAt s a n))) is k (omega arith) (omega arith) (omega arith)
+      place-kept (withTextOf s t a n) is (omega arith) (omega arith) ∙ rw (eq-eqb (t .texts) (t .want) (omega arith))
+  place-met t (text a n ∷ is) (suc k) e h r = place-met (withTextOf s t a n) is k (omega arith) (omega arith) (omega arith)
 
 -- ---- a tally as it is made, which wants text k
 
 abbrev pub Fresh : ℕ → Tally → Type 0
-Fresh k t = (t .words ≡ 0) × (t .bytes ≡ 0) × (t .texts ≡ 0) × (t .want ≡ k)
+Fresh k t = (t .words ≡ 0) × (t .bytes ≡ 0) × (t .texts ≡ 0) × (t .want ≡ k) × (t .replaced ≡ 0)
 
 -- it has room for as much as a section can hold
 pub fresh-room : (s : List ℕ) (is : List Item) (t : Tally) (k : ℕ) → Fresh k t → length s ≤ 16777216 → length is ≤ 144115188075855872 → length (textsIn is) ≤ 8589934592 → Room s t is
@@ -96,6 +106,7 @@ fresh-room s is t k new fits m n =
     record {
       words = omega (arith, new .0);
       bytes = omega (arith, new .1, texts-most s fits is);
+      replaced = omega (arith, new .4, texts-most s fits is, replaced-most s is);
       texts = omega (arith, new .2);
     }
 
@@ -105,6 +116,9 @@ module _ (s : List ℕ) (is : List Item) (t : Tally) (k : ℕ) (new : Fresh k t)
 
   pub fresh-bytes : tallied s t is .bytes ≡ length (textsOf s is)
   fresh-bytes = omega (arith, counted s t is room .bytes, new .1)
+
+  pub fresh-replaced : tallied s t is .replaced ≡ replacementsOf s is
+  fresh-replaced = omega (arith, counted s t is room .replaced, new .4)
 
   pub fresh-texts : tallied s t is .texts ≡ length (textsIn is)
   fresh-texts = omega (arith, counted s t is room .texts, new .2)
@@ -128,6 +142,9 @@ module _ (s : List ℕ) (fits : length s ≤ 16777216) (is : List Item) (m : Cou
 
     pub whole-bytes : tallied s t is .bytes ≡ length (textsOf s is)
     whole-bytes = fresh-bytes s is t k new whole-room
+
+    pub whole-replaced : tallied s t is .replaced ≡ replacementsOf s is
+    whole-replaced = fresh-replaced s is t k new whole-room
 
     pub whole-texts : tallied s t is .texts ≡ length (textsIn is)
     whole-texts = fresh-texts s is t k new whole-room

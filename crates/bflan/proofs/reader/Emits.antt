@@ -9,10 +9,10 @@ use native.Mathlib.Omega.{arith}
 use lib.ListN.{length, set, take, drop}
 use lib.Seq.{sets, slice, length-slice, length-sets}
 use Rattle.core.specs.Choice.{pick}
-use Rattle.core.specs.Utf8.{decode, decodedSize}
+use Rattle.core.specs.Utf8.{decode, decodedSize, replacements}
 use Rattle.core.proofs.Seeks.{seek-there, seek-over}
 use Rattle.core.proofs.Stores.{sets-append}
-use Rattle.core.proofs.utf8.Laws.{decode-bound}
+use Rattle.core.proofs.utf8.Laws.{decode-bound, well-from, well-none}
 use Rattle.core.proofs.utf8.Turns.{part-is}
 use Rattle.bflan.specs.declared.reader.tally.Tally.{Tally}
 use Rattle.bflan.specs.declared.reader.tally.Walk.the-variants.{Went, Stopped}
@@ -32,7 +32,7 @@ use Rattle.bflan.proofs.reader.KeyRuns.{moved-more}
 use Rattle.bflan.proofs.reader.Walks.{before, run-before, sets-sat, told-stop}
 use Rattle.bflan.specs.Items.{shownAt, wordsOf, textsOf}
 use Rattle.bflan.specs.inner.Sought.{asName, nameEnd, asIs}
-use Rattle.bflan.specs.inner.Walk.{sat, withWords, withText, tallied, walkOf, walked}
+use Rattle.bflan.specs.inner.Walk.{sat, withWords, withTextOf, tallied, walkOf, walked}
 
 -- the decoded length of a part of a section
 pub shown-size : (s : List ℕ) (start len size : ℕ) (part : List ℕ) → start + len ≤ length s → length s ≤ 16777216 → part ≡ slice start (start + len) s → size ≡ decodedSize part
@@ -63,7 +63,7 @@ four-stores w t u a b c d h eu e₁ e₂ =
     rw (e₂, e₁, eu) (sym q ∙ sym (sets-append w o (a ∷ b ∷ []) (c ∷ d ∷ [])))
 
 -- a single text, as `run` has it
-pub run-text : (s : List ℕ) (t : Tally) (w x : List ℕ) (a n q : ℕ) (t′ : Tally) (w′ x′ : List ℕ) → t′ ≡ withText t a n (length (shownAt s a n)) → w′ ≡ set w (t .words) (length (shownAt s a n))
+pub run-text : (s : List ℕ) (t : Tally) (w x : List ℕ) (a n q : ℕ) (t′ : Tally) (w′ x′ : List ℕ) → t′ ≡ withTextOf s t a n → w′ ≡ set w (t .words) (length (shownAt s a n))
     → x′ ≡ sets x (t .bytes) (shownAt s a n) → walked (Went t′ q) w′ x′ ≡ walkOf s t w x (ok (text a n ∷ []) q)
 unfolding walked walkOf tallied wordsOf textsOf
 run-text s t w x a n q t′ w′ x′ et ew ex = rw (et, ew, ex, append-nil)
@@ -126,7 +126,7 @@ module _ (s : List ℕ) (base i : ℕ) where
 -- ---- a name that was looked for
 
 pub stored-name : (s : List ℕ) (t : Tally) (w x : List ℕ) {r : Name} {g : Res (List Item)} {a n q : ℕ} {plain : Bool} {t′ : Tally} {w′ x′ : List ℕ} → asName r ≡ g → r ≡ Found a n q plain
-    → (t′ ≡ withText t a n (length (shownAt s a n))) × (w′ ≡ set w (t .words) (length (shownAt s a n))) × (x′ ≡ sets x (t .bytes) (shownAt s a n)) → walked (Went t′ q) w′ x′ ≡ walkOf s t w x g
+    → (t′ ≡ withTextOf s t a n) × (w′ ≡ set w (t .words) (length (shownAt s a n))) × (x′ ≡ sets x (t .bytes) (shownAt s a n)) → walked (Went t′ q) w′ x′ ≡ walkOf s t w x g
 stored-name s t w x eg er e = run-text s t w x _ _ _ _ _ _ (e .0) (e .1) (e .2) ∙ ap (walkOf s t w x) (sym (ap asName er) ∙ eg)
 
 pub no-name : (s : List ℕ) (t : Tally) (w x : List ℕ) {r : Name} {g : Res (List Item)} {f : Fault} (w′ x′ : List ℕ) → asName r ≡ g → r ≡ Missing f → walked (Stopped f) w′ x′ ≡ walkOf s t w x g
@@ -142,7 +142,7 @@ name-plain s h e = subst (asIs s) e h
 pub texture-plain : (base : ℕ) (s : List ℕ) (i n : ℕ) → base + n < length s → endedOf s base ≡ Text n (base + n + 1) → texture base s i ≡ ok (text base n ∷ []) (base + n + 1)
 texture-plain base s i n h e = texture-on s base i base (seek-there s base (omega arith)) ∙ ended-on s base n (base + n + 1) e
 
--- a text of the section that may be known to be shown as it is: its size, and its bytes
+-- a text of the section that may be known to be shown as it is: its bytes, its size, and how many U+FFFD are put in
 module _ (s : List ℕ) (start len : ℕ) (plain : Bool) (part : List ℕ) (ep : part ≡ slice start (start + len) s) (f : plain ≡ true → shownAt s start len ≡ slice start (start + len) s) where
   pub known-bytes : pick plain part (decode part) ≡ shownAt s start len
   known-bytes = rw ep (go plain f)
@@ -150,6 +150,14 @@ module _ (s : List ℕ) (start len : ℕ) (plain : Bool) (part : List ℕ) (ep :
       go : (b : Bool) → (b ≡ true → shownAt s start len ≡ slice start (start + len) s) → pick b (slice start (start + len) s) (shownAt s start len) ≡ shownAt s start len
       go true k = sym (k refl)
       go false k = refl
+
+  pub known-count : (count : ℕ) → count ≡ pick plain 0 (replacements part) → count ≡ replacements (slice start (start + len) s)
+  known-count count ec = go plain f (rw ep at ec)
+    where
+      go : (b : Bool) → (b ≡ true → shownAt s start len ≡ slice start (start + len) s) → count ≡ pick b 0 (replacements (slice start (start + len) s))
+          → count ≡ replacements (slice start (start + len) s)
+      go true g e = e ∙ well-none _ (well-from _ (g refl))
+      go false g e = e
 
   pub known-size : (size : ℕ) → start + len ≤ length s → length s ≤ 16777216 → size ≡ pick plain (length part) (decodedSize part)
       → (size ≡ length (shownAt s start len)) × (size ≤ 50331648)
@@ -174,10 +182,10 @@ run-put2 s t w x a b r u v hw hx eu ev =
 -- ---- a text in front of what follows
 
 pub run-named : (s : List ℕ) (t : Tally) (w x : List ℕ) (a n : ℕ) (r : Res (List Item)) (u : Tally) (v y : List ℕ) → length w ≤ 18446744073709551615 → length x ≤ 18446744073709551615
-    → u ≡ withText t a n (length (shownAt s a n)) → v ≡ set w (t .words) (length (shownAt s a n)) → y ≡ sets x (t .bytes) (shownAt s a n)
+    → u ≡ withTextOf s t a n → v ≡ set w (t .words) (length (shownAt s a n)) → y ≡ sets x (t .bytes) (shownAt s a n)
     → walkOf s u v y r ≡ walkOf s t w x (before (text a n ∷ []) r)
 unfolding tallied wordsOf textsOf
 run-named s t w x a n r u v y hw hx eu ev ey =
     rw (eu, ev, ey)
-    (ap (λ (l : List ℕ). walkOf s (withText t a n (length (shownAt s a n))) (set w (t .words) (length (shownAt s a n))) (sets x (t .bytes) l) r) (sym (append-nil (shownAt s a n)))
+    (ap (λ (l : List ℕ). walkOf s (withTextOf s t a n) (set w (t .words) (length (shownAt s a n))) (sets x (t .bytes) l) r) (sym (append-nil (shownAt s a n)))
     ∙ sym (run-before s t w x (text a n ∷ []) r hw hx))

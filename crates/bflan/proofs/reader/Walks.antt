@@ -19,7 +19,7 @@ use Rattle.bflan.specs.declared.reader.tally.Walk.{Walk}
 use Rattle.bflan.specs.declared.reader.tally.Walk.the-variants.{Went, Stopped}
 use Rattle.bflan.specs.Reader.{Res, ok, stop, P, andThen, Item, word, text, many, visit}
 use Rattle.bflan.specs.Items.{shownAt, wordsOf, textsOf}
-use Rattle.bflan.specs.inner.Walk.{sat, withWords, withText, tallied, walkOf, walked}
+use Rattle.bflan.specs.inner.Walk.{sat, withWords, withText, withTextOf, tallied, walkOf, walked}
 
 -- ---- readings one after another
 
@@ -109,7 +109,7 @@ pub tallied-append : (s : List ℕ) (t : Tally) (is js : List Item) → tallied 
 unfolding tallied
 tallied-append s t [] js = refl
 tallied-append s t (word v ∷ is) js = tallied-append s (withWords t 1) is js
-tallied-append s t (text a n ∷ is) js = tallied-append s (withText t a n (length (shownAt s a n))) is js
+tallied-append s t (text a n ∷ is) js = tallied-append s (withTextOf s t a n) is js
 
 -- where the next word and the next text byte stand
 module _ (s : List ℕ) where
@@ -117,7 +117,7 @@ module _ (s : List ℕ) where
   unfolding tallied wordsOf withWords withText
   tallied-words t [] = rw add-zero
   tallied-words t (word v ∷ is) = tallied-words (withWords t 1) is ∙ (let h = length (wordsOf s is) in omega arith)
-  tallied-words t (text a n ∷ is) = tallied-words (withText t a n (length (shownAt s a n))) is ∙ (let h = length (wordsOf s is) in omega arith)
+  tallied-words t (text a n ∷ is) = tallied-words (withTextOf s t a n) is ∙ (let h = length (wordsOf s is) in omega arith)
 
   pub tallied-bytes : (t : Tally) (is : List Item) → sat (tallied s t is .bytes) ≡ sat (t .bytes + length (textsOf s is))
   unfolding tallied textsOf withWords withText
@@ -125,7 +125,7 @@ module _ (s : List ℕ) where
   tallied-bytes t (word v ∷ is) = tallied-bytes (withWords t 1) is
   tallied-bytes t (text a n ∷ is) =
       let e = length-append (shownAt s a n) (textsOf s is) in
-      tallied-bytes (withText t a n (length (shownAt s a n))) is ∙ omega (arith, e)
+      tallied-bytes (withTextOf s t a n) is ∙ omega (arith, e)
 
 -- a place that a usize does not hold is past every end
 pub sets-sat : (l : List ℕ) (o p : ℕ) (v : List ℕ) → length l ≤ 18446744073709551615 → sat o ≡ sat p → sets l o v ≡ sets l p v

@@ -366,9 +366,9 @@ reads-back r w =
     let h = section-reads s r w (stands-all (sectionLay r)) short in
     record { items = h .items; reads = h .reads; words = words-shown s (h .items) ∙ ap wordsIn (h .shows); texts = texts-shown s (h .items) ∙ ap bytesIn (h .shows); none = h .none }
 
--- the same of the call: with long enough tables it is accepted, and fills them with the record
+-- the same of the call: with long enough tables it is accepted, and fills them with the record; no character was replaced
 pub read-written : (r : PaneAnimInfo) → Within r → (w x : List ℕ) → length (words r) ≤ length w → length (texts r) ≤ length x
-    → reading (written (sectionLay r)) w x ≡ (accepted (length (words r) ∷ length (texts r) ∷ []), sets w 0 (words r), sets x 0 (texts r))
+    → reading (written (sectionLay r)) w x ≡ (accepted (length (words r) ∷ length (texts r) ∷ 0 ∷ []), sets w 0 (words r), sets x 0 (texts r))
 read-written r v w x hw hx =
     let b = reads-back r v in
-    reading-gives section (written (sectionLay r)) w x (b .items) (size (sectionLay r)) (words r) (texts r) (omega (arith, size-written (sectionLay r), v .short)) (b .reads) (b .words) (b .texts) hw hx
+    reading-gives section (written (sectionLay r)) w x (b .items) (size (sectionLay r)) (words r) (texts r) 0 (omega (arith, size-written (sectionLay r), v .short)) (b .reads) (b .words) (b .texts) (b .none) hw hx

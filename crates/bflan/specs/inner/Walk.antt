@@ -3,8 +3,9 @@ use Prim.Native.Nat.{ℕ, min, _+_}
 use mathlib.Core.List.{List, [], _∷_, map}
 use lib.Dec.{eqb}
 use lib.ListN.{length}
-use lib.Seq.{sets}
+use lib.Seq.{slice, sets}
 use Rattle.core.specs.Choice.{pick}
+use Rattle.core.specs.Utf8.{replacements}
 use Rattle.core.specs.declared.run.Run.{Run}
 use Rattle.core.specs.declared.run.Run.the-variants.{Next, Cut}
 use Rattle.bflan.specs.declared.fault.Fault.the-variants.{PastEnd}
@@ -27,27 +28,33 @@ sat n = min n 18446744073709551615
 
 -- before anything was met; text k is wanted
 abbrev pub emptyTally : ℕ → Tally
-emptyTally k = record { words = 0; bytes = 0; texts = 0; want = k; start = 0; len = 0 }
+emptyTally k = record { words = 0; bytes = 0; replaced = 0; texts = 0; want = k; start = 0; len = 0 }
 
 unfoldable pub withWords : Tally → ℕ → Tally
 withWords t n =
-    record { words = sat (t .words + n); bytes = t .bytes; texts = t .texts; want = t .want; start = t .start; len = t .len }
+    record { words = sat (t .words + n); bytes = t .bytes; replaced = t .replaced; texts = t .texts; want = t .want; start = t .start; len = t .len }
 
-unfoldable pub withText : Tally → ℕ → ℕ → ℕ → Tally
-withText t a n size =
+-- a text of n bytes at a, whose decoding has so many bytes and puts in so many U+FFFD
+unfoldable pub withText : Tally → ℕ → ℕ → ℕ → ℕ → Tally
+withText t a n size replaced =
     record {
       words = sat (t .words + 1);
       bytes = sat (t .bytes + size);
+      replaced = sat (t .replaced + replaced);
       texts = sat (t .texts + 1);
       want = t .want;
       start = pick (eqb (t .texts) (t .want)) a (t .start);
       len = pick (eqb (t .texts) (t .want)) n (t .len);
     }
 
+-- as the section has it
+abbrev pub withTextOf : List ℕ → Tally → ℕ → ℕ → Tally
+withTextOf s t a n = withText t a n (length (shownAt s a n)) (replacements (slice a (a + n) s))
+
 unfoldable pub tallied : List ℕ → Tally → List Item → Tally
 tallied s t [] = t
 tallied s t (word v ∷ is) = tallied s (withWords t 1) is
-tallied s t (text a n ∷ is) = tallied s (withText t a n (length (shownAt s a n))) is
+tallied s t (text a n ∷ is) = tallied s (withTextOf s t a n) is
 
 -- a walk after a run of n words
 unfoldable pub afterRun : Run → Tally → ℕ → Walk

@@ -6,7 +6,7 @@ ghost use Prim.Native.Nat.{_+_, _≤_};
 ghost use lib.ListN.{length, set};
 ghost use lib.Seq.{slice, sets};
 ghost use Rattle.bflan.specs.Items.{shownAt};
-ghost use Rattle.bflan.specs.inner.Walk.{withWords, withText};
+ghost use Rattle.bflan.specs.inner.Walk.{withWords, withTextOf};
 use crate::reader::tally::Tally;
 use crate::reader::tally::more_text;
 use crate::reader::tally::more_words;
@@ -36,14 +36,15 @@ pub(crate) fn put_text(
     t: Tally,
 ) -> Tally
     requires { ⌜ (start + len ≤ length (now s)) × (length (now s) ≤ 16777216) × (plain ≡ true → shownAt (now s) start len ≡ slice start (start + len) (now s)) ⌝ }
-    ensures { λ r. ⌜ (r ≡ withText t start len (length (shownAt (now (s .entry)) start len)))
+    ensures { λ r. ⌜ (r ≡ withTextOf (now (s .entry)) t start len)
         × (now (words .exit) ≡ set (now (words .entry)) (t .words) (length (shownAt (now (s .entry)) start len)))
         × (now (texts .exit) ≡ sets (now (texts .entry)) (t .bytes) (shownAt (now (s .entry)) start len)) ⌝ }
 {
     let end = start + len;
     let place = t.words;
     let to = t.bytes;
-    let size = decode_known(&s[start..end], plain, texts, to);
+    let mut replaced: usize = 0;
+    let size = decode_known(&s[start..end], plain, texts, to, &mut replaced);
     put_word(words, place, size as u32);
-    more_text(t, start, len, size)
+    more_text(t, start, len, size, replaced)
 }

@@ -4,11 +4,12 @@ ghost use Prim.Native.Nat.{_+_, min};
 ghost use Rattle.bflan.specs.inner.Walk.{sat, emptyTally, withWords, withText};
 use crate::fault::Fault;
 
-// Words and text bytes so far, which are also the places of the next ones; texts so far; and the place and the length of the text
-// whose number is wanted, once it was met. A count that a usize does not hold stays at the largest one.
+// Words and text bytes so far, which are also the places of the next ones; U+FFFD put in and texts so far; and the place and the length of the
+// text whose number is wanted, once it was met. A count that a usize does not hold stays at the largest one.
 pub struct Tally {
     pub words: usize,
     pub bytes: usize,
+    pub replaced: usize,
     pub texts: usize,
     pub want: usize,
     pub start: usize,
@@ -36,6 +37,7 @@ pub(crate) fn fresh(want: usize) -> Tally
     Tally {
         words: 0,
         bytes: 0,
+        replaced: 0,
         texts: 0,
         want,
         start: 0,
@@ -50,6 +52,7 @@ pub(crate) fn more_words(t: Tally, n: usize) -> Tally
     Tally {
         words: add(t.words, n),
         bytes: t.bytes,
+        replaced: t.replaced,
         texts: t.texts,
         want: t.want,
         start: t.start,
@@ -57,18 +60,20 @@ pub(crate) fn more_words(t: Tally, n: usize) -> Tally
     }
 }
 
-// A text more, at `start` with `len` bytes in the section and `size` bytes decoded.
-pub(crate) fn more_text(t: Tally, start: usize, len: usize, size: usize) -> Tally
-    ensures { λ r. ⌜ r ≡ withText t start len size ⌝ }
+// A text more, at `start` with `len` bytes in the section; decoded it has `size` bytes and `replaced` U+FFFD that were put in.
+pub(crate) fn more_text(t: Tally, start: usize, len: usize, size: usize, replaced: usize) -> Tally
+    ensures { λ r. ⌜ r ≡ withText t start len size replaced ⌝ }
 {
     let texts = t.texts;
     let words = add(t.words, 1);
     let bytes = add(t.bytes, size);
+    let sum = add(t.replaced, replaced);
     let next = add(texts, 1);
     if texts == t.want {
         return Tally {
             words,
             bytes,
+            replaced: sum,
             texts: next,
             want: t.want,
             start,
@@ -78,6 +83,7 @@ pub(crate) fn more_text(t: Tally, start: usize, len: usize, size: usize) -> Tall
     Tally {
         words,
         bytes,
+        replaced: sum,
         texts: next,
         want: t.want,
         start: t.start,

@@ -10,7 +10,7 @@ use native.Mathlib.Omega.{arith}
 use denote.Ref.{now}
 use lib.ListN.{length}
 use lib.Seq.{slice, sets, length-slice}
-use Rattle.core.specs.Utf8.{decode, wellFormed}
+use Rattle.core.specs.Utf8.{decode, replacements, wellFormed}
 use Rattle.bflan.specs.Items.{shownAt}
 use Rattle.bflan.proofs.reader.Emits.{shown-size, shown-part}
 use Rattle.bflan.proofs.read.Answers.{shown-well, shown-short, shown-decoded}
@@ -31,8 +31,9 @@ returns-2 c = shown-short _ _ _ _ (sym (judged (c .before .before .before .befor
 
 returns-3 : tie.Need-returns-3
 returns-3 c =
-    shown-decoded _ _ _ _ _ (sym (judged (c .before .before .before .before .before .before .before .before .before)) ∙ c .before .before .before .before .before .before .before .before .if1 .left) (sized (c .before .before .before .before .before .before)) (omega (arith, c .before .before .before .before .before .if2 .left))
-    (c .before .before .decode-into .ensures .1 ∙ ap (λ (l : List ℕ). sets (now (c .before .before .before .before .before .before .before .before .before .before .before .before .before .args .scratch)) 0 (decode l)) (shown-part (now (c .before .before .before .before .before .before .before .before .before .before .before .before .before .args .s)) (c .before .before .before .before .before .before .before .before .before .before .before .before .before .args .start) (c .before .before .before .before .before .before .before .before .before .before .before .before .before .args .len)))
+    let e = shown-part (now (c .before .before .before .before .before .before .before .before .before .before .before .before .before .before .args .s)) (c .before .before .before .before .before .before .before .before .before .before .before .before .before .before .args .start) (c .before .before .before .before .before .before .before .before .before .before .before .before .before .before .args .len) in
+    shown-decoded _ _ _ _ _ _ (sym (judged (c .before .before .before .before .before .before .before .before .before .before)) ∙ c .before .before .before .before .before .before .before .before .before .if1 .left) (sized (c .before .before .before .before .before .before .before)) (c .before .before .decode-into .ensures .1 ∙ ap replacements e) (omega (arith, c .before .before .before .before .before .before .if2 .left))
+    (c .before .before .decode-into .ensures .2 ∙ ap (λ (l : List ℕ). sets (now (c .before .before .before .before .before .before .before .before .before .before .before .before .before .before .args .scratch)) 0 (decode l)) e)
 
 pub show-spec : {M : Type 1} → statement M
 show-spec =

@@ -32,7 +32,7 @@ returns-2 : tie.Need-returns-2
 returns-2 c = λ i x.
     let s = now (c .before .before .before .before .before .before .before .before .before .before .before .before .before .before .before .args .s) in
     let hw : length (now (c .before .before .before .before .before .before .before .before .before .before .before .before .before .before .before .args .words)) ≤ 18446744073709551615 = omega (arith, c .before .before .before .before .before .before .before .before .before .before .before .before .before .before .before .good) in
-    let ht : c .before .before .before .before .before .before .before .before .before .before .before .before .before .before .before .args .t .words ≤ 18446744073709551615 = omega arith in
+    let ht : c .before .before .before .before .before .before .before .before .before .before .before .before .before .before .before .args .t .words ≤ 18446744073709551615 = omega (arith, c .before .before .before .before .before .before .before .before .before .before .before .before .before .before .before .good) in
     let d = info-standard (c .before .before .before .before .before .before .before .before .before .before .before .before .before .before .before .args .base) s i (c .before .before .before .before .before .before .before .before .before .before .before .before .before .before .before .args .letters) (c .before .before .before .before .before .before .before .before .before .before .before .before .before .before .before .args .n) _ (c .before .before .before .before .before .before .before .before .before .before .before .before .before .before .before .pre .1) (c .before .before .before .before .before .before .before .before .before .before .before .before .before .before .before .pre .2) (c .before .before .before .before .before .before .before .before .before .before .before .before .before .before .before .pre .3) (c .before .before .before .before .before .before .before .before .before .before .before .before .before .before .before .pre .4) (sym (c .before .before .before .before .before .before .before .before .before .before .before .before .numbers-end .ensures) ∙ c .before .before .before .before .before .before .before .before .before .before .q .given .1) in
     let e = c .before .before .before .before .before .before .put2 .ensures in
     let p = run-two s (c .before .before .before .before .before .before .before .before .before .before .before .before .before .before .before .args .t) (now (c .before .before .before .before .before .before .before .before .before .before .before .before .before .before .before .args .words)) x (lettersOf (c .before .before .before .before .before .before .before .before .before .before .before .before .before .before .before .args .letters)) (c .before .before .before .before .before .before .before .before .before .before .before .before .before .before .before .args .n) (visit (c .before .before .before .before .before .before .before .before .before .before .before .before .before .before .before .args .base) (target (c .before .before .before .before .before .before .before .before .before .before .before .before .before .before .before .args .letters)) (numbersAt (c .before .before .before .before .before .before .before .before .before .before .before .before .before .before .before .args .n) s (c .before .before .before .before .before .before .before .before .before .before .before .before .before .before .before .args .base + 8)) s (c .before .before .before .before .before .before .before .before .before .before .q .given .0 .0)) _ _ _ hw ht (e .0) (e .1) (c .before .before .before .before .before .before .before .letters-of .ensures) in
