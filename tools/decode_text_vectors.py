@@ -3,9 +3,11 @@
 
 The answers come from the Unicode Standard's rule and from none of our code: Table 3-7 gives the well-formed sequences, and
 "U+FFFD Substitution of Maximal Subparts" (section 3.9) says that each maximal subpart of what is ill-formed becomes U+FFFD,
-the subpart being the longest start of a well-formed sequence there, or one byte. Each answer is held to Python's own decoder,
+the subpart being the longest start of a well-formed sequence there, or one byte. Each answer, and how many U+FFFD were put
+into it, is held to Python's own decoder,
 and those of Tables 3-8 to 3-11 to its results as entered below by hand.
 """
+import codecs
 import os
 import sys
 
@@ -37,14 +39,15 @@ def matched(row, text):
 
 
 def decode(text):
-    out = b''
+    """The decoding, and how many U+FFFD it puts in."""
+    out, replaced = b'', 0
     while text:
         n, whole = max((matched(row, text), matched(row, text) == len(row)) for row in ROWS)
         if whole:
             out, text = out + text[:n], text[n:]
         else:
-            out, text = out + REPLACEMENT, text[max(n, 1):]
-    return out
+            out, replaced, text = out + REPLACEMENT, replaced + 1, text[max(n, 1):]
+    return out, replaced
 
 
 def spaced(text):
@@ -61,10 +64,13 @@ def remark(line=''):
 
 def vector(line, text):
     """A line of the input as it is written, and the bytes that it means."""
-    answer = decode(text)
-    assert answer == text.decode('utf-8', 'replace').encode('utf-8'), spaced(text)
+    answer, replaced = decode(text)
+    faults = []
+    codecs.register_error('counted', lambda fault: (faults.append(fault), ('\uFFFD', fault.end))[1])
+    assert answer == text.decode('utf-8', 'counted').encode('utf-8'), spaced(text)
+    assert replaced == len(faults), spaced(text)
     stdin.append(line)
-    stdout.append(f'{len(answer)}:' + ''.join(f' {b:02X}' for b in answer))
+    stdout.append(f'{len(answer)}, replaced {replaced}:' + ''.join(f' {b:02X}' for b in answer))
 
 
 def text(*parts):
@@ -77,7 +83,7 @@ def standard(table, given, printed):
     remark(f'# The Unicode Standard, chapter 3, {table}')
     given = bytes.fromhex(given)
     wanted = b''.join(REPLACEMENT if p == 'FFFD' else bytes.fromhex(p) for p in printed.split())
-    assert decode(given) == wanted
+    assert decode(given) == (wanted, printed.split().count('FFFD'))
     text(given)
 
 
@@ -91,6 +97,12 @@ remark('# Document 01, Exercises: one, two and three U+FFFD')
 text([0xE2, 0x82])
 text([0xC0, 0x80])
 text([0xED, 0xA0, 0x80])
+
+remark()
+remark('# Document 02, Point 1: a U+FFFD that was there is not replaced, and a subpart may be as long as what replaces it')
+text(REPLACEMENT)
+text([0xF0, 0x90, 0x80])
+text(REPLACEMENT, [0xEF, 0xBF], REPLACEMENT)
 
 for row, points in zip(ROWS, CODE_POINTS):
     remark()

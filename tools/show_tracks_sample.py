@@ -10,6 +10,7 @@ The second form runs the program on COUNT random sections instead, and on every 
 What must be printed comes from document 01 ('The section', 'Flat record'), from the names in the Rust's anim_info.rs, targets.rs
 and curves.rs, and from Python's own decoders and its exact decimals, and from none of our code.
 """
+import codecs
 import decimal
 import pathlib
 import random
@@ -83,7 +84,7 @@ class Section:
 
     def __init__(self, data):
         self.data, self.pos = data, 0
-        self.lines, self.words, self.text_bytes = [], 4, 0
+        self.lines, self.words, self.text_bytes, self.replaced = [], 4, 0, 0
 
     def take(self, n):
         if self.pos + n > len(self.data):
@@ -119,12 +120,15 @@ class Section:
         return self.text(text.split(b'\0')[0])
 
     def text(self, raw):
-        """The text in quotes, without and with the remark that it is ill-formed."""
-        decoded = raw.decode('utf-8', 'replace')
+        """The text in quotes, without and with the remark that it is ill-formed and how many characters were replaced."""
+        faults = []
+        codecs.register_error('counted', lambda fault: (faults.append(fault), ('\uFFFD', fault.end))[1])
+        decoded = raw.decode('utf-8', 'counted')
+        self.replaced += len(faults)
         self.words += 1
         self.text_bytes += len(decoded.encode())
         shown = '"' + ''.join(escaped(c) for c in decoded) + '"'
-        return shown, shown + (' (ill-formed)' if decoded.encode() != raw else '')
+        return shown, shown + (f' (ill-formed, replaced {len(faults)})' if decoded.encode() != raw else '')
 
     def read(self):
         letters, size = self.take(4), self.number(4)
@@ -147,6 +151,7 @@ class Section:
             raise Refusal(
                 f'refused 5 ({self.words}, {self.text_bytes}): the record has more than the 16384 words or the 65536 text bytes that there is room for'
             )
+        self.lines[0] += f', replaced {self.replaced}'
         return self.lines
 
     def content(self, i, start):

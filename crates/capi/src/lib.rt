@@ -13,7 +13,7 @@ ghost use lib.ListN.{length};
 ghost use lib.Seq.{sets};
 ghost use Rattle.core.specs.Outcome.{flat};
 ghost use Rattle.core.specs.Text.{beforeZero, firstFault};
-ghost use Rattle.core.specs.Utf8.{decode, decodedSize, validUpTo, wellFormed};
+ghost use Rattle.core.specs.Utf8.{decode, decodedSize, replacements, validUpTo, wellFormed};
 ghost use Rattle.bflan.specs.Answer.{textPart};
 ghost use Rattle.bflan.specs.declared.place.Place.the-variants.{FrameCount, Looping, Layer, Target, Key, Value};
 ghost use Rattle.bflan.specs.pai1.Calls.{reading, finding, writing};
@@ -22,6 +22,7 @@ ghost use Rattle.capi.specs.Changed.{changed};
 ghost use Rattle.capi.specs.FieldNumbers.{fieldNumbers};
 use crate::answer::put3;
 use crate::answer::put4;
+use crate::answer::put5;
 use crate::change::change;
 use crate::field::field;
 use bflan::find::of_finding;
@@ -38,17 +39,29 @@ pub extern "C" fn nnbfl_decoded_len(text: &[u8]) -> usize
 }
 
 #[no_mangle]
-pub extern "C" fn nnbfl_decode_into(text: &[u8], out: &mut [u8], at: usize) -> usize
-    ensures { λ r. ⌜ (r ≡ decodedSize (now (text .entry))) × (now (out .exit) ≡ sets (now (out .entry)) at (decode (now (text .entry)))) ⌝ }
+pub extern "C" fn nnbfl_decode_into(
+    text: &[u8],
+    out: &mut [u8],
+    at: usize,
+    replaced: &mut usize,
+) -> usize
+    ensures { λ r. ⌜ (r ≡ decodedSize (now (text .entry))) × (now (replaced .exit) ≡ replacements (now (text .entry)))
+        × (now (out .exit) ≡ sets (now (out .entry)) at (decode (now (text .entry)))) ⌝ }
 {
-    core::utf8::decode_into(text, out, at)
+    core::utf8::decode_into(text, out, at, replaced)
 }
 
 #[no_mangle]
-pub extern "C" fn nnbfl_decode_plain(text: &[u8], out: &mut [u8], at: usize) -> usize
-    ensures { λ r. ⌜ (r ≡ decodedSize (now (text .entry))) × (now (out .exit) ≡ sets (now (out .entry)) at (decode (now (text .entry)))) ⌝ }
+pub extern "C" fn nnbfl_decode_plain(
+    text: &[u8],
+    out: &mut [u8],
+    at: usize,
+    replaced: &mut usize,
+) -> usize
+    ensures { λ r. ⌜ (r ≡ decodedSize (now (text .entry))) × (now (replaced .exit) ≡ replacements (now (text .entry)))
+        × (now (out .exit) ≡ sets (now (out .entry)) at (decode (now (text .entry)))) ⌝ }
 {
-    core::utf8::decode_plain(text, out, at)
+    core::utf8::decode_plain(text, out, at, replaced)
 }
 
 #[no_mangle]
@@ -88,10 +101,10 @@ pub extern "C" fn nnbfl_read(
 )
     ensures { λ _. ⌜ (now (words .exit) ≡ reading (now (section .entry)) (now (words .entry)) (now (texts .entry)) .1)
         × (now (texts .exit) ≡ reading (now (section .entry)) (now (words .entry)) (now (texts .entry)) .2)
-        × (now (answer .exit) ≡ sets (now (answer .entry)) 0 (flat 3 (reading (now (section .entry)) (now (words .entry)) (now (texts .entry)) .0))) ⌝ }
+        × (now (answer .exit) ≡ sets (now (answer .entry)) 0 (flat 4 (reading (now (section .entry)) (now (words .entry)) (now (texts .entry)) .0))) ⌝ }
 {
     let r = bflan::read::read(section, words, texts);
-    put3(answer, of_reading(r));
+    put4(answer, of_reading(r));
 }
 
 #[no_mangle]
@@ -102,10 +115,10 @@ pub extern "C" fn nnbfl_find_text(
     answer: &mut [usize],
 )
     ensures { λ _. ⌜ (now (scratch .exit) ≡ finding (now (section .entry)) text (now (scratch .entry)) .1)
-        × (now (answer .exit) ≡ sets (now (answer .entry)) 0 (flat 4 (finding (now (section .entry)) text (now (scratch .entry)) .0))) ⌝ }
+        × (now (answer .exit) ≡ sets (now (answer .entry)) 0 (flat 5 (finding (now (section .entry)) text (now (scratch .entry)) .0))) ⌝ }
 {
     let r = bflan::find::find_text(section, text, scratch);
-    put4(answer, of_finding(r));
+    put5(answer, of_finding(r));
 }
 
 // No reference goes out to C: the bytes of the part are stored from the output's start on, as far as it has places for them, and their

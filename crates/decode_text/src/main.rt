@@ -1,5 +1,5 @@
 // Decodes texts: each line of standard input that has bytes in hexadecimal, as `C0 AF 41`, is answered by the number of bytes
-// of its decoding and these bytes. A blank line and one that starts with `#` are passed on. In any other line `#` begins a
+// of its decoding, how many U+FFFD were put in for what is ill-formed, and these bytes: `7, replaced 2: EF BF BD EF BF BD 41`. A blank line and one that starts with `#` are passed on. In any other line `#` begins a
 // remark, so that ` # nothing` is the empty text. A line ends with a newline, or with a carriage return and a newline. Of a line that is
 // passed on, or cited, control bytes are written as `\x1B`.
 //
@@ -173,10 +173,12 @@ fn put_hex(bytes: &[u8], out: &mut [u8]) -> usize {
 // Writes the decoding of a text.
 fn answer(text: &[u8]) {
     let mut decoded = [0u8; DECODED];
-    let n = core::utf8::decode_into(text, &mut decoded, 0);
+    let mut replaced: usize = 0;
+    let n = core::utf8::decode_into(text, &mut decoded, 0, &mut replaced);
     let mut shown = [0u8; SHOWN];
     let k = put_hex(part(&decoded, 0, n), &mut shown);
     say_number(b"", n);
+    say_number(b", replaced ", replaced);
     say(b":");
     say(part(&shown, 0, k));
     say(b"\n");
@@ -391,8 +393,9 @@ fn say_usage(fd: i32) {
     );
     say_to(
         fd,
-        b"and these bytes. Blank lines and lines that start with # are passed on.\n",
+        b"and these bytes, and how many U+FFFD were put in for what is ill-formed (`replaced`). Blank\n",
     );
+    say_to(fd, b"lines and lines that start with # are passed on.\n");
     say_to(fd, b"example: echo C0 AF 41 | decode_text\n");
 }
 

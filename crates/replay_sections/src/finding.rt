@@ -15,6 +15,8 @@ use crate::record::meet;
 use crate::record::plus;
 use crate::report::DECODED;
 use crate::report::IN_SECTION;
+use crate::report::REPLACED;
+use crate::report::add;
 use crate::report::bump;
 use crate::report::note;
 use bflan::find::FindAnswer;
@@ -34,12 +36,17 @@ const ALL: usize = 336;
 // More steps than a record of the sample takes.
 const MANY: usize = 1000;
 
-// How far the texts were looked for: the place in the record's words, the number of the next text, and where its bytes begin.
+// How far the texts were looked for: the place in the record's words, the number of the next text, where its bytes begin, and how many
+// replaced characters of the sum that the reading gave are still to come.
 struct Walk {
     place: Place,
     text: usize,
     at: usize,
+    left: usize,
 }
+
+// Whether a text is right, and how many characters of it were replaced.
+struct Seen(bool, usize);
 
 enum Turn {
     On(Walk),
@@ -96,7 +103,15 @@ fn count_text(source: usize, counts: &mut [u64]) {
     }
 }
 
-// The same, and a right text is counted.
+// Whether a text has replaced characters where it was decoded, and none where it lies in the section.
+fn replaced_right(source: usize, replaced: usize) -> bool {
+    if source == 0 {
+        return replaced == 0;
+    }
+    replaced > 0
+}
+
+// Whether the text is the one that is wanted; if so it is counted.
 fn found<'a>(
     section: &'a [u8],
     places: &'a [u8],
@@ -113,16 +128,18 @@ fn found<'a>(
     false
 }
 
-// Whether text t is the one that is wanted.
-fn find_one(section: &[u8], t: usize, wanted: &[u8], counts: &mut [u64]) -> bool {
+// Text t, held to the one that is wanted.
+fn find_one(section: &[u8], t: usize, wanted: &[u8], counts: &mut [u64]) -> Seen {
     let mut places = [0u8; ALL];
     mark_bytes(&mut places);
     let answer = find_among(section, t, &mut places);
     match answer {
-        FindAnswer::Found(source, start, len) => {
-            found(section, &places, source, start, len, wanted, counts)
-        }
-        _ => false,
+        FindAnswer::Found(source, start, len, replaced) => Seen(
+            replaced_right(source, replaced)
+                && found(section, &places, source, start, len, wanted, counts),
+            replaced,
+        ),
+        _ => Seen(false, 0),
     }
 }
 
@@ -152,20 +169,28 @@ fn next_text(
     if wanted.len() != len {
         return Turn::Done(false);
     }
-    if find_one(section, t, wanted, counts) {
-        return Turn::On(Walk {
-            place,
-            text: plus(t, 1),
-            at: plus(at, len),
-        });
+    let left = walk.left;
+    let seen = find_one(section, t, wanted, counts);
+    if seen.0 {
+        if seen.1 <= left {
+            return Turn::On(Walk {
+                place,
+                text: plus(t, 1),
+                at: plus(at, len),
+                left: left - seen.1,
+            });
+        }
     }
     Turn::Done(false)
 }
 
-// Whether the record ends where its words, its texts and the section's texts end.
+// Whether the record ends where its words, its texts and the section's texts end, and no replaced character is left.
 fn ended(section: &[u8], words: &[u8], texts: &[u8], walk: Walk) -> bool {
     let place = walk.place;
-    place.at == words.len() / 4 && walk.at == texts.len() && find_none(section, walk.text)
+    place.at == words.len() / 4
+        && walk.at == texts.len()
+        && walk.left == 0
+        && find_none(section, walk.text)
 }
 
 // A step through the record.
@@ -177,17 +202,25 @@ fn step(section: &[u8], words: &[u8], texts: &[u8], walk: Walk, counts: &mut [u6
             place: next,
             text: walk.text,
             at: walk.at,
+            left: walk.left,
         }),
         Met::End => Turn::Done(ended(section, words, texts, walk)),
     }
 }
 
-// Whether the texts of a section are those of the record.
-fn find_all(section: &[u8], words: &[u8], texts: &[u8], counts: &mut [u64]) -> bool {
+// Whether the texts of a section are those of the record, and so many of their characters are replaced.
+fn find_all(
+    section: &[u8],
+    words: &[u8],
+    texts: &[u8],
+    replaced: usize,
+    counts: &mut [u64],
+) -> bool {
     let mut walk = Walk {
         place: first(words),
         text: 0,
         at: 0,
+        left: replaced,
     };
     let mut turns = 0;
     while turns < MANY {
@@ -219,8 +252,10 @@ pub(crate) fn find_texts(sample: &[u8], c: Case, counts: &mut [u64]) {
     let section = bytes_of(sample, c.section);
     if answer.0 == 0 {
         let words = bytes_of(sample, c.record_words);
-        let right = find_all(section, words, bytes_of(sample, c.record_texts), counts);
+        let texts = bytes_of(sample, c.record_texts);
+        let right = find_all(section, words, texts, answer.3, counts);
         note(counts, right, b"texts found");
+        add(counts, REPLACED, answer.3 as u64);
         return;
     }
     if answer.0 != 5 {

@@ -98,7 +98,7 @@ fn with_section(s: &[u8], start: usize, len: usize) -> Next
     requires { ⌜ start + len ≤ length (now s) ⌝ }
 {
     let at = start + len;
-    if s.len() - at < 16 {
+    if s.len() - at < 20 {
         return Next::Bad;
     }
     let words = value(read_u16(s, at));
@@ -106,12 +106,13 @@ fn with_section(s: &[u8], start: usize, len: usize) -> Next
     let number = value(read_u32(s, at + 4));
     let a = value(read_u32(s, at + 8));
     let b = value(read_u32(s, at + 12));
-    let record = at + 16;
+    let replaced = value(read_u32(s, at + 16));
+    let record = at + 20;
     with_record(
         Span(start, len),
         words,
         texts,
-        Numbers(number, a, b, 0, 0),
+        Numbers(number, a, b, replaced, 0),
         record,
         s.len() - record,
     )

@@ -9,22 +9,29 @@ pub(crate) const IN_SECTION: usize = 10;
 
 pub(crate) const DECODED: usize = 11;
 
-pub(crate) const RECORDS: usize = 12;
+pub(crate) const REPLACED: usize = 12;
 
-const CASES: usize = 13;
+pub(crate) const RECORDS: usize = 13;
 
-const DIFFERENCES: usize = 14;
+const CASES: usize = 14;
 
-pub(crate) const COUNTS: usize = 15;
+const DIFFERENCES: usize = 15;
+
+pub(crate) const COUNTS: usize = 16;
+
+// So many more at a place.
+pub(crate) fn add(counts: &mut [u64], place: usize, more: u64) {
+    if place < counts.len() {
+        let n = counts[place];
+        if more <= u64::MAX - n {
+            counts[place] = n + more;
+        }
+    }
+}
 
 // One more at a place.
 pub(crate) fn bump(counts: &mut [u64], place: usize) {
-    if place < counts.len() {
-        let n = counts[place];
-        if n < u64::MAX {
-            counts[place] = n + 1;
-        }
-    }
+    add(counts, place, 1);
 }
 
 fn count(counts: &[u64], place: usize) -> u64 {
@@ -75,7 +82,8 @@ pub(crate) fn report(counts: &[u64]) {
     line(b"", count(counts, RECORDS), b" records\n");
     answers(counts);
     line(b"texts ", count(counts, IN_SECTION), b" in the section, ");
-    line(b"", count(counts, DECODED), b" decoded\n");
+    line(b"", count(counts, DECODED), b" decoded, replaced ");
+    line(b"", count(counts, REPLACED), b"\n");
     line(b"differences ", count(counts, DIFFERENCES), b"\n");
 }
 

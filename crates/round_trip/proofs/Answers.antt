@@ -28,7 +28,7 @@ use Rattle.bflan.specs.pai1.Limits.{Within}
 use Rattle.bflan.specs.Reader.{Res, ok, stop, Item}
 use Rattle.bflan.specs.pai1.Reading.{section}
 use Rattle.bflan.specs.pai1.Record.{PaneAnimInfo, words, texts}
-use Rattle.bflan.specs.Items.{wordsOf, textsOf}
+use Rattle.bflan.specs.Items.{wordsOf, textsOf, replacementsOf}
 use Rattle.bflan.specs.Writing.{intoOutput, judged, writingBy}
 use Rattle.bflan.proofs.Layouts.{size-written}
 use Rattle.bflan.proofs.read.Answers.{Filled, accepted-filled}
@@ -97,7 +97,7 @@ low-filled s w x (stop f) = low-fault f
 low-filled s w x (ok is end) =
     let n : ℕ = length (wordsOf s is) in
     let m : ℕ = length (textsOf s is) in
-    both LowRead (leb n (length w) && leb m (length x)) (accepted (n ∷ m ∷ []), sets w 0 (wordsOf s is), sets x 0 (textsOf s is)) (tooShort n m, w, x) (omega arith) (omega arith)
+    both LowRead (leb n (length w) && leb m (length x)) (accepted (n ∷ m ∷ replacementsOf s is ∷ []), sets w 0 (wordsOf s is), sets x 0 (textsOf s is)) (tooShort n m, w, x) (omega arith) (omega arith)
 
 low-reading : (s w x : List ℕ) → LowRead (reading s w x)
 unfolding readingBy
@@ -185,7 +185,8 @@ trip-refused s w x out l z =
 pub record Again (s w x out : List ℕ) : Type 0 where
   pub tree : PaneAnimInfo
   pub within : Within tree
-  pub reads : reading s w x ≡ (accepted (length (words tree) ∷ length (texts tree) ∷ []), sets w 0 (words tree), sets x 0 (texts tree))
+  pub replaced : ℕ
+  pub reads : reading s w x ≡ (accepted (length (words tree) ∷ length (texts tree) ∷ replaced ∷ []), sets w 0 (words tree), sets x 0 (texts tree))
   pub prints : printed s w x out ≡ written (sectionLay tree)
 
 said-number : (a : Outcome) → said a .number ≡ a .number
@@ -240,6 +241,7 @@ trip-accepted s w x out z =
     record {
       tree = a .tree;
       within = a .within;
+      replaced = replacementsOf s (f .items);
       reads = rw (a .words, a .texts) (f .answer);
       prints = ap (λ (r : Outcome × List ℕ). partOf (replied r .1) 0 (replied r .0)) h ∙ rw (← n) (printed-start out (written (sectionLay (a .tree))) fits);
     }

@@ -69,7 +69,7 @@ fault-said (OtherLetters letters) w x out = refl
 
 unread : (a : ReadAnswer) (w x out : List ℕ) → OneOf (1 ∷ 2 ∷ 3 ∷ []) (tagOf readType a) → (ofTrip (Refused (ofReading a .number)), out) ≡ afterReading (ofReading a, w, x) out
 unfolding ofTrip said ofReading afterReading
-unread (Accepted n m) w x out h = absurd (miss (1 ∷ 2 ∷ 3 ∷ []) 0 Prim.tt h)
+unread (Accepted n m c) w x out h = absurd (miss (1 ∷ 2 ∷ 3 ∷ []) 0 Prim.tt h)
 unread (ReadRefused f) w x out h = fault-said f w x out
 unread (TooLong size) w x out h = refl
 unread (TooShort n m) w x out h = refl
@@ -88,16 +88,16 @@ module _ (s w x out : List ℕ) where
         → (ofTrip (Refused n), out) ≡ trip s w x out
     trip-unread a n e h en = ap (λ (z : ℕ). (ofTrip (Refused z), out)) en ∙ unread a w′ x′ out h ∙ by-reading a e
 
-    pub trip-read : (n m : ℕ) (o : Outcome × List ℕ) → (ofReading (Accepted n m), w′, x′) ≡ reading s w x → o ≡ writtenAgain (take (n - 0) (drop 0 w′)) (take (m - 0) (drop 0 x′)) out
+    pub trip-read : (n m c : ℕ) (o : Outcome × List ℕ) → (ofReading (Accepted n m c), w′, x′) ≡ reading s w x → o ≡ writtenAgain (take (n - 0) (drop 0 w′)) (take (m - 0) (drop 0 x′)) out
         → o ≡ trip s w x out
     unfolding ofReading afterReading
-    trip-read n m o e h = h ∙ rw (sub-zero n, sub-zero m) (by-reading (Accepted n m) e)
+    trip-read n m c o e h = h ∙ rw (sub-zero n, sub-zero m) (by-reading (Accepted n m c) e)
 
 -- ---- a reading that is accepted: the tables hold what it filled
 
-pub held : (s w x w′ x′ : List ℕ) (n m : ℕ) → (ofReading (Accepted n m), w′, x′) ≡ reading s w x → (n ≤ length w′) × (m ≤ length x′)
+pub held : (s w x w′ x′ : List ℕ) (n m c : ℕ) → (ofReading (Accepted n m c), w′, x′) ≡ reading s w x → (n ≤ length w′) × (m ≤ length x′)
 unfolding ofReading
-held s w x w′ x′ n m e =
+held s w x w′ x′ n m c e =
     let f = accepted-filled section s w x (sym (ap (λ (r : Outcome × List ℕ × List ℕ). r .0 .number) e)) in
     let g = e ∙ f .answer in
     let en : n ≡ length (wordsOf s (f .items)) = ap (λ (r : Outcome × List ℕ × List ℕ). getD (r .0 .values) 0 0) g in

@@ -60,7 +60,7 @@ fn round_trip(section: &[u8], words: &mut [u32], texts: &mut [u8], out: &mut [u8
     }
     let a = read(section, words, texts);
     match a {
-        ReadAnswer::Accepted(n, m) => write_again(&words[0..n], &texts[0..m], out),
+        ReadAnswer::Accepted(n, m, _replaced) => write_again(&words[0..n], &texts[0..m], out),
         _ => {
             let n = of_reading(a);
             Trip::Refused(n.0)

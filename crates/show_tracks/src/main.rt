@@ -1,6 +1,6 @@
 // Prints the tracks of a section, which is read from standard input, a line for each part:
 //
-//     section: frames 60, looping yes, textures 1, contents 2
+//     section: frames 60, looping yes, textures 1, contents 2, replaced 0
 //     texture 0: "icon"
 //     content 0: "P_base", Pane, infos 1
 //     info 0 0: FLPA PaneSrtAnim, targets 1
@@ -14,8 +14,9 @@
 // bits where it is infinite or a NaN. Letters that are not listed are `---- Invalid`, and so are their targets `Invalid`.
 //
 // A text stands in quotes. Within them `\"` and `\\` are a quote and a backslash, and `\x` with two digits is a byte of a control
-// character or of U+2028 or U+2029, so that a line stays a line. `(ill-formed)` behind a text says that the section has other
-// bytes there, which are no UTF-8; what is ill-formed is shown as U+FFFD.
+// character or of U+2028 or U+2029, so that a line stays a line. `(ill-formed, replaced 2)` behind a text says that the section
+// has bytes there that are no UTF-8, and that two U+FFFD are shown for them. The section's line has the sum over all texts: it
+// says at a glance that texts were saved in another encoding. A U+FFFD that the section itself has is not counted.
 //
 // A section that is turned down is answered by document 01's number and values, and what is wrong: `refused 3 (4, 4): ..`.
 //
@@ -75,7 +76,7 @@ fn answer(section: &[u8], words: &mut [u32], texts: &mut [u8]) {
     let a = read(section, words, texts);
     match a {
         // the texts are found in the section again, so their table is free
-        ReadAnswer::Accepted(_n, _m) => show(section, words, texts),
+        ReadAnswer::Accepted(_n, _m, replaced) => show(section, words, replaced, texts),
         ReadAnswer::Refused(f) => say_fault(f),
         ReadAnswer::TooLong(_size) => say_too_long(),
         ReadAnswer::TooShort(_n, _m) => say_too_short(of_reading(a)),
@@ -108,7 +109,8 @@ fn say_usage(fd: i32) {
         fd,
         b"usage: show_tracks < section\n\
           Reads a pai1 section of at most 65536 bytes from standard input, and prints it to standard\n\
-          output: a line for each texture, content, info, track and extended datum. A section that\n\
+          output: a line for each texture, content, info, track and extended datum. `replaced` counts\n\
+          the U+FFFD shown for bytes that are no UTF-8, of a text and of the section. A section that\n\
           is turned down is answered by 'refused N', its values, and what is wrong with it.\n\
           example: show_tracks < crates/show_tracks/stdin\n",
     );

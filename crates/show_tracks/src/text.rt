@@ -4,16 +4,22 @@ ghost use lib.ListN.{length};
 use bflan::find::FindAnswer;
 use console::hex::say_escaped;
 use console::output::say;
+use console::output::say_number;
 use core::part::part;
 
-// Where a text is: the source, its start and its length there.
-pub(crate) struct Text(pub(crate) usize, pub(crate) usize, pub(crate) usize);
+// Where a text is: the source, its start and its length there; and how many characters of it were replaced.
+pub(crate) struct Text(
+    pub(crate) usize,
+    pub(crate) usize,
+    pub(crate) usize,
+    pub(crate) usize,
+);
 
 // The text that was found. (There is no other answer: a section that was read has the texts of its record.)
 pub(crate) fn text_of(a: FindAnswer) -> Text {
     match a {
-        FindAnswer::Found(source, start, len) => Text(source, start, len),
-        _ => Text(0, 0, 0),
+        FindAnswer::Found(source, start, len, replaced) => Text(source, start, len, replaced),
+        _ => Text(0, 0, 0, 0),
     }
 }
 
@@ -126,10 +132,11 @@ pub(crate) fn say_quoted(text: &[u8]) {
     say(b"\"");
 }
 
-// The same, and whether the section's bytes are ill-formed there, so that it was decoded.
-pub(crate) fn say_found(text: &[u8], source: usize) {
+// The same, and how many characters were replaced, where the section's bytes are ill-formed.
+pub(crate) fn say_found(text: &[u8], replaced: usize) {
     say_quoted(text);
-    if source == 1 {
-        say(b" (ill-formed)");
+    if replaced > 0 {
+        say_number(b" (ill-formed, replaced ", replaced);
+        say(b")");
     }
 }

@@ -60,18 +60,19 @@ fn say_yes(n: u32) {
     }
 }
 
-fn section_line(words: &[u32]) {
+fn section_line(words: &[u32], replaced: usize) {
     say_word(b"section: frames ", words, 0, 0);
     say(b", looping ");
     say_yes(word(words, 0, 1));
     say_word(b", textures ", words, 0, 2);
     say_word(b", contents ", words, 0, 3);
+    say_number(b", replaced ", replaced);
     say(b"\n");
 }
 
 fn say_text(section: &[u8], number: usize, scratch: &mut [u8]) {
     let t = text_of(find_text(section, number, scratch));
-    say_found(text_part(section, scratch, t.0, t.1, t.2), t.0);
+    say_found(text_part(section, scratch, t.0, t.1, t.2), t.3);
 }
 
 fn texture(section: &[u8], number: usize, scratch: &mut [u8]) {
@@ -351,10 +352,10 @@ fn infos(
 }
 
 // A content's line, whose words begin at `at`.
-fn content_line(words: &[u32], number: usize, name: &[u8], source: usize, at: usize) {
+fn content_line(words: &[u32], number: usize, name: &[u8], replaced: usize, at: usize) {
     say_number(b"content ", number);
     say(b": ");
-    say_found(name, source);
+    say_found(name, replaced);
     say(b", ");
     say_type(word(words, at, 1));
     say_word(b", infos ", words, at, 2);
@@ -367,13 +368,13 @@ fn named(
     words: &[u32],
     number: usize,
     name: &[u8],
-    source: usize,
+    replaced: usize,
     walk: Walk,
     scratch: &mut [u8],
 ) -> Walk {
     let at = walk.at;
     let text = walk.text;
-    content_line(words, number, name, source, at);
+    content_line(words, number, name, replaced, at);
     let count = many(words, at, 2);
     let next = Walk {
         at: wrapping_add_usize(at, 3),
@@ -386,7 +387,7 @@ fn content(section: &[u8], words: &[u32], number: usize, walk: Walk, scratch: &m
     let mut names = [0u8; NAME];
     let t = text_of(find_text(section, walk.text, &mut names));
     let name = text_part(section, &names, t.0, t.1, t.2);
-    named(section, words, number, name, t.0, walk, scratch)
+    named(section, words, number, name, t.3, walk, scratch)
 }
 
 fn contents(section: &[u8], words: &[u32], count: usize, start: Walk, scratch: &mut [u8]) {
@@ -399,8 +400,8 @@ fn contents(section: &[u8], words: &[u32], count: usize, start: Walk, scratch: &
 }
 
 // The lines of a section whose record is in the words. The scratch has room for each of its texts.
-pub(crate) fn show(section: &[u8], words: &[u32], scratch: &mut [u8]) {
-    section_line(words);
+pub(crate) fn show(section: &[u8], words: &[u32], replaced: usize, scratch: &mut [u8]) {
+    section_line(words, replaced);
     let names = many(words, 0, 2);
     textures(section, names, scratch);
     let start = Walk {

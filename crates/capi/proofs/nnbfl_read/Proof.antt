@@ -10,7 +10,7 @@ use Rattle.core.proofs.Outcomes.{flat-first}
 returns : tie.Need-returns
 returns c =
     rw (sym (c .before .before .before .before .before .before .before .before .before .read .ensures))
-    (refl, refl, rw (c .before .before .put3 .ensures, flat-first 3 _ (omega arith) (c .before .before .before .of-reading .ensures)))
+    (refl, refl, rw (c .before .before .put4 .ensures, flat-first 4 _ (omega arith) (c .before .before .before .of-reading .ensures)))
 
 pub nnbfl-read-spec : {M : Type 1} → statement M
 nnbfl-read-spec =

@@ -9,13 +9,13 @@ returns : tie.Need-returns
 returns c = trip-long _ _ _ _ (c .if1 .taken)
 
 part-write-again-end : tie.Need-part-write-again-end
-part-write-again-end c = held _ _ _ _ _ _ _ (rw (c .before .before .a .given .1) at (c .before .before .before .before .before .before .before .before .read .ensures)) .0
+part-write-again-end c = held _ _ _ _ _ _ _ _ (rw (c .before .before .a .given .1) at (c .before .before .before .before .before .before .before .before .read .ensures)) .0
 
 part-write-again-end-2 : tie.Need-part-write-again-end-2
-part-write-again-end-2 c = held _ _ _ _ _ _ _ (rw (c .before .before .before .before .a .given .1) at (c .before .before .before .before .before .before .before .before .before .before .read .ensures)) .1
+part-write-again-end-2 c = held _ _ _ _ _ _ _ _ (rw (c .before .before .before .before .a .given .1) at (c .before .before .before .before .before .before .before .before .before .before .read .ensures)) .1
 
 returns-2 : tie.Need-returns-2
-returns-2 c = trip-read _ _ _ _ (c .before .before .before .before .before .before .before .before .before .before .before .before .before .before .before .before .before .before .if1 .left) (c .before .before .before .before .before .before .before .before .before .before .before .before .before .before .before .read .last .1 .0) (c .before .before .before .before .before .before .before .before .before .before .before .before .before .before .before .read .last .1 .1 .0) (c .before .before .before .before .before .before .before .before .before .a .given .0 .0) (c .before .before .before .before .before .before .before .before .before .a .given .0 .1 .0) _ (rw (c .before .before .before .before .before .before .before .before .before .a .given .1) at (c .before .before .before .before .before .before .before .before .before .before .before .before .before .before .before .read .ensures)) (c .before .before .write-again .ensures)
+returns-2 c = trip-read _ _ _ _ (c .before .before .before .before .before .before .before .before .before .before .before .before .before .before .before .before .before .before .if1 .left) (c .before .before .before .before .before .before .before .before .before .before .before .before .before .before .before .read .last .1 .0) (c .before .before .before .before .before .before .before .before .before .before .before .before .before .before .before .read .last .1 .1 .0) (c .before .before .before .before .before .before .before .before .before .a .given .0 .0) (c .before .before .before .before .before .before .before .before .before .a .given .0 .1 .0) (c .before .before .before .before .before .before .before .before .before .a .given .0 .1 .1 .0) _ (rw (c .before .before .before .before .before .before .before .before .before .a .given .1) at (c .before .before .before .before .before .before .before .before .before .before .before .before .before .before .before .read .ensures)) (c .before .before .write-again .ensures)
 
 returns-3 : tie.Need-returns-3
 returns-3 c = trip-unread _ _ _ _ (c .before .before .before .before .before .before .before .before .before .if1 .left) _ _ _ _ (c .before .before .before .before .before .before .read .ensures) (c .before .match .keys2) (first-number _ _ (c .of-reading .ensures))

@@ -7,10 +7,10 @@ use Rattle.replay_sections.proofs.finding.find_all.Statement.{statement
 use Rattle.replay_sections.proofs.finding.find_all.Tie as tie
 
 abbrev Inv-loop : tie.InvT-loop
-Inv-loop section words texts counts₀ walk₀ turns₀ counts walk turns = length counts ≡ length counts₀
+Inv-loop section words texts replaced counts₀ walk₀ turns₀ counts walk turns = length counts ≡ length counts₀
 
 abbrev μ-loop : tie.MeasureT-loop
-μ-loop section words texts counts₀ walk₀ turns₀ counts walk turns = 1000 - turns
+μ-loop section words texts replaced counts₀ walk₀ turns₀ counts walk turns = 1000 - turns
 
 pub find-all-spec : {M : Type 1} → statement M
 find-all-spec =
