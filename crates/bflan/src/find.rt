@@ -57,8 +57,8 @@ pub fn find_text(section: &[u8], text: usize, scratch: &mut [u8]) -> FindAnswer
     match measure(section, text) {
         Walk::Stopped(f) => FindAnswer::Refused(f),
         Walk::Went(t, _p) => {
-            let texts = t.texts;
-            if texts <= text {
+            let left = t.left;
+            if left <= text {
                 return FindAnswer::NoSuchText;
             }
             show(section, t.start, t.len, scratch)

@@ -8,6 +8,7 @@ ghost use lib.Seq.{sets};
 ghost use Rattle.core.specs.Choice.{pick};
 ghost use Rattle.core.specs.Utf8.{Classes, classOf, replacement, decode, decodedSize, validUpTo, replacements, wellFormed};
 ghost use Rattle.core.specs.inner.Flow.{Rows};
+ghost use Rattle.core.specs.inner.Scan.{added};
 use crate::fill::ahead;
 use crate::fill::copy;
 use crate::fill::copy_on;
@@ -114,7 +115,8 @@ fn lone(text: &[u8], at: usize, classes: &[u8; 256]) -> bool
     false
 }
 
-// The decoding by runs of characters, each up to an ill-formed subpart. Where these come one after another they are not looked for.
+// The decoding by runs of characters, each up to an ill-formed subpart. Where these come one after another they are not looked for. The U+FFFD put
+// in are added to `replaced`.
 fn decode_runs(
     text: &[u8],
     out: &mut [u8],
@@ -124,7 +126,7 @@ fn decode_runs(
     replaced: &mut usize,
 ) -> usize
     requires { ⌜ Classes (now classes) × Rows (now rows) ⌝ }
-    ensures { λ r. ⌜ (r ≡ decodedSize (now (text .entry))) × (now (replaced .exit) ≡ replacements (now (text .entry)))
+    ensures { λ r. ⌜ (r ≡ decodedSize (now (text .entry))) × (now (replaced .exit) ≡ added (now (replaced .entry)) (replacements (now (text .entry))))
         × (now (out .exit) ≡ sets (now (out .entry)) at (decode (now (text .entry)))) ⌝ }
 {
     let mut i = 0;
@@ -144,7 +146,7 @@ fn decode_runs(
         let skip = run.skip;
         let next = copy_on(&text[i..end], out, o);
         if skip == 0 {
-            *replaced = count;
+            *replaced = total(*replaced, count);
             return total(text.len(), grown);
         }
         o = put_replacement(out, next);
@@ -164,19 +166,18 @@ fn decode_by(
     replaced: &mut usize,
 ) -> usize
     requires { ⌜ Classes (now classes) × Rows (now rows) ⌝ }
-    ensures { λ r. ⌜ (r ≡ decodedSize (now (text .entry))) × (now (replaced .exit) ≡ replacements (now (text .entry)))
+    ensures { λ r. ⌜ (r ≡ decodedSize (now (text .entry))) × (now (replaced .exit) ≡ added (now (replaced .entry)) (replacements (now (text .entry))))
         × (now (out .exit) ≡ sets (now (out .entry)) at (decode (now (text .entry)))) ⌝ }
 {
     if short_valid(text, classes, rows) {
         copy(text, out, at);
-        *replaced = 0;
         return text.len();
     }
     decode_runs(text, out, at, classes, rows, replaced)
 }
 
 fn decode_mixed(text: &[u8], out: &mut [u8], at: usize, replaced: &mut usize) -> usize
-    ensures { λ r. ⌜ (r ≡ decodedSize (now (text .entry))) × (now (replaced .exit) ≡ replacements (now (text .entry)))
+    ensures { λ r. ⌜ (r ≡ decodedSize (now (text .entry))) × (now (replaced .exit) ≡ added (now (replaced .entry)) (replacements (now (text .entry))))
         × (now (out .exit) ≡ sets (now (out .entry)) at (decode (now (text .entry)))) ⌝ }
 {
     let classes = CLASSES;
@@ -202,32 +203,39 @@ pub fn decode_into(text: &[u8], out: &mut [u8], at: usize, replaced: &mut usize)
     ensures { λ r. ⌜ (r ≡ decodedSize (now (text .entry))) × (now (replaced .exit) ≡ replacements (now (text .entry)))
         × (now (out .exit) ≡ sets (now (out .entry)) at (decode (now (text .entry)))) ⌝ }
 {
+    *replaced = 0;
     if is_ascii(text) {
         copy(text, out, at);
-        *replaced = 0;
         return text.len();
     }
     decode_mixed(text, out, at, replaced)
 }
 
-// The same where the text may be known to be shown as it is: then it is stored as it is.
+// The same where the text may be known to be shown as it is: then it is stored as it is. `replaced` is the sum of `before` and the U+FFFD put in.
+// On the way of most texts there is one copy and no store but its own: the function is in the loop over a section's texts.
 pub fn decode_known(
     text: &[u8],
     plain: bool,
     out: &mut [u8],
     at: usize,
+    before: usize,
     replaced: &mut usize,
 ) -> usize
     ensures { λ r. ⌜ (r ≡ pick plain (length (now (text .entry))) (decodedSize (now (text .entry))))
-        × (now (replaced .exit) ≡ pick plain 0 (replacements (now (text .entry))))
+        × (now (replaced .exit) ≡ min (before + pick plain 0 (replacements (now (text .entry)))) 18446744073709551615)
         × (now (out .exit) ≡ sets (now (out .entry)) at (pick plain (now (text .entry)) (decode (now (text .entry))))) ⌝ }
 {
-    if plain {
-        copy(text, out, at);
-        *replaced = 0;
-        return text.len();
+    if !plain {
+        if !is_ascii(text) {
+            let mut sum = before;
+            let n = decode_mixed(text, out, at, &mut sum);
+            *replaced = sum;
+            return n;
+        }
     }
-    decode_into(text, out, at, replaced)
+    copy(text, out, at);
+    *replaced = before;
+    text.len()
 }
 
 fn decode_steps(

@@ -30,7 +30,7 @@ use Rattle.bflan.specs.Answer.{tooLong, tooShort, ofFault, ofReading, of
 use Rattle.bflan.specs.Items.{textsIn}
 use Rattle.bflan.proofs.reader.Bounds.{Gives, given-ok, Countable}
 use Rattle.bflan.proofs.reader.Walks.{on-no, on-tally, no-fault}
-use Rattle.bflan.proofs.reader.Counts.{Fresh, whole-words, whole-bytes, whole-replaced, whole-texts, whole-start, whole-len, whole-inside}
+use Rattle.bflan.proofs.reader.Counts.{Fresh, whole-words, whole-bytes, whole-replaced, whole-met, whole-none, whole-start, whole-len, whole-inside}
 
 -- ---- a walk's answer, without the tables
 
@@ -65,7 +65,7 @@ unfolding walkOf
 went-not s u t f p e = on-no _ _ _ (sym e)
 
 new : (k : ℕ) → Fresh k (emptyTally k)
-new k = (refl, refl, refl, refl, refl)
+new k = (refl, refl, refl, refl)
 
 -- of any reader
 module _ (p : P (List Item)) where
@@ -96,11 +96,11 @@ module _ (p : P (List Item)) where
     whole-r : t .replaced ≡ replacementsOf s (m .items)
     whole-r = ap (λ (z : Tally). z .replaced) (m .counts) ∙ whole-replaced s h (m .items) held (emptyTally k) k (new k)
 
-    whole-t : t .texts ≡ length (textsIn (m .items))
-    whole-t = ap (λ (z : Tally). z .texts) (m .counts) ∙ whole-texts s h (m .items) held (emptyTally k) k (new k)
+    met : k < t .left → k < length (textsIn (m .items))
+    met l = whole-met s h (m .items) held (emptyTally k) k (new k) (rw (m .counts) at l)
 
-    met : k < t .texts → k < length (textsIn (m .items))
-    met l = omega (arith, whole-t, l)
+    none : t .left ≤ k → length (textsIn (m .items)) ≤ k
+    none l = whole-none s h (m .items) held (emptyTally k) k (new k) (rw (m .counts) at l)
 
     module _ (l : k < length (textsIn (m .items))) where
       whole-s : t .start ≡ getD (textsIn (m .items)) k (0, 0) .0
@@ -231,7 +231,7 @@ shown-place s x p a len ea el = rw (sym ea, sym el)
 
 -- it lies in the section
 pub finding-inside : (p : P (List Item)) (s : List ℕ) (k : ℕ) (h : length s ≤ 16777216) (g : Gives s (Countable s) p) (t : Tally) (q : ℕ)
-    → walkOf s (emptyTally k) [] [] (p s 0) .0 ≡ Went t q → k < t .texts → t .start + t .len ≤ length s
+    → walkOf s (emptyTally k) [] [] (p s 0) .0 ≡ Went t q → k < t .left → t .start + t .len ≤ length s
 finding-inside p s k h g t q e l = let m = whole p s k t q e in whole-i p s h g k t m (met p s h g k t m l)
 
 module _ (p : P (List Item)) (s : List ℕ) (k : ℕ) (x : List ℕ) where
@@ -255,12 +255,10 @@ module _ (p : P (List Item)) (s : List ℕ) (k : ℕ) (x : List ℕ) where
       in-items : findingBy p s k x ≡ found s k x (ok (n .items) (n .last))
       in-items = in-result ∙ ap (found s k x) (n .reads)
 
-      pub finding-none : t .texts ≤ k → (ofFinding NoSuchText, x) ≡ findingBy p s k x
-      finding-none l =
-          let c : length (textsIn (n .items)) ≤ k = omega (arith, whole-t p s h g k t n, l) in
-          found-none s k x (n .items) (n .last) c ∙ sym in-items
+      pub finding-none : t .left ≤ k → (ofFinding NoSuchText, x) ≡ findingBy p s k x
+      finding-none l = found-none s k x (n .items) (n .last) (none p s h g k t n l) ∙ sym in-items
 
-      pub finding-there : k < t .texts → findingBy p s k x ≡ shown (t .start) (slice (t .start) (t .start + t .len) s) x
+      pub finding-there : k < t .left → findingBy p s k x ≡ shown (t .start) (slice (t .start) (t .start + t .len) s) x
       finding-there l =
           let c = met p s h g k t n l in
           in-items ∙ found-there s k x (n .items) (n .last) c ∙ shown-place s x _ _ _ (whole-s p s h g k t n c) (whole-l p s h g k t n c)

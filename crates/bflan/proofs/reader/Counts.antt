@@ -1,10 +1,12 @@
 -- Items as counts: how many words and text bytes they have, and what a tally says of them while its counts fit.
 -- Assumes nothing.
-use Prim.Native.Nat.{ℕ, zero, suc, _+_, _*_, _<_, _≤_}
+use Prim.Native.Nat.{ℕ, zero, suc, _+_, _-_, _*_, _<_, _≤_}
 use mathlib.Core.Path.{_≡_, refl, ap, _∙_}
+use mathlib.Core.Bool.{Bool, true, false}
 use mathlib.Core.List.{List, [], _∷_}
 use native.Mathlib.Omega.{arith}
-use borrow.Author.Tests.{eq-eqb, ne-eqb}
+use borrow.Author.Tests.{eq-eqb, ne-eqb, ltb-true, ltb-false}
+use lib.Dec.{eqb, ltb}
 use lib.ListN.{length, getD, take, length-append, length-take, length-drop}
 use lib.Seq.{slice}
 use Rattle.core.proofs.utf8.Laws.{decode-bound, decode-long, count-le}
@@ -51,24 +53,22 @@ module _ (s : List ℕ) where
     pub words : t .words + length is ≤ 18446744073709551615
     pub bytes : t .bytes + length (textsOf s is) ≤ 18446744073709551615
     pub replaced : t .replaced + replacementsOf s is ≤ 18446744073709551615
-    pub texts : t .texts + length (textsIn is) ≤ 18446744073709551615
 
   pub record Counted (t : Tally) (is : List Item) : Type 0 where
     pub words : tallied s t is .words ≡ t .words + length is
     pub bytes : tallied s t is .bytes ≡ t .bytes + length (textsOf s is)
     pub replaced : tallied s t is .replaced ≡ t .replaced + replacementsOf s is
-    pub texts : tallied s t is .texts ≡ t .texts + length (textsIn is)
 
   pub counted : (t : Tally) (is : List Item) → Room t is → Counted t is
-  unfolding tallied withWords withText textsOf replacementsOf textsIn
-  counted t [] r = record { words = omega arith; bytes = omega arith; replaced = omega arith; texts = omega arith }
+  unfolding tallied withWords withText textsOf replacementsOf
+  counted t [] r = record { words = omega arith; bytes = omega arith; replaced = omega arith }
   counted t (word v ∷ is) r =
-      let k = counted (withWords t 1) is (record { words = omega (arith, r .words); bytes = r .bytes; replaced = r .replaced; texts = r .texts }) in
-      record { words = omega (arith, k .words, r .words); bytes = k .bytes; replaced = k .replaced; texts = k .texts }
+      let k = counted (withWords t 1) is (record { words = omega (arith, r .words); bytes = r .bytes; replaced = r .replaced }) in
+      record { words = omega (arith, k .words, r .words); bytes = k .bytes; replaced = k .replaced }
   counted t (text a n ∷ is) r =
       let e = length-append (shownAt s a n) (textsOf s is) in
-      let k = counted (withTextOf s t a n) is (record { words = omega (arith, r .words); bytes = omega (arith, r .bytes, e); replaced = omega (arith, r .replaced); texts = omega (arith, r .texts) }) in
-      record { words = omega (arith, k .words, r .words); bytes = omega (arith, k .bytes, r .bytes, e); replaced = omega (arith, k .replaced, r .replaced); texts = omega (arith, k .texts, r .texts) }
+      let k = counted (withTextOf s t a n) is (record { words = omega (arith, r .words); bytes = omega (arith, r .bytes, e); replaced = omega (arith, r .replaced) }) in
+      record { words = omega (arith, k .words, r .words); bytes = omega (arith, k .bytes, r .bytes, e); replaced = omega (arith, k .replaced, r .replaced) }
 
 -- ---- the text that is wanted
 
@@ -77,28 +77,38 @@ abbrev pub placeOf : Tally → ℕ × ℕ
 placeOf t = (t .start, t .len)
 
 module _ (s : List ℕ) where
-  -- behind it nothing changes
-  place-kept : (t : Tally) (is : List Item) → t .want < t .texts → t .texts + length (textsIn is) ≤ 18446744073709551615 → placeOf (tallied s t is) ≡ placeOf t
+  -- before it and behind it nothing changes
+  place-kept : (t : Tally) (is : List Item) → length (textsIn is) ≤ t .left → (placeOf (tallied s t is) ≡ placeOf t) × (tallied s t is .left + length (textsIn is) ≡ t .left)
   unfolding tallied withWords withText textsIn
-  place-kept t [] h r = refl
-  place-kept t (word v ∷ is) h r = place-kept (withWords t 1) is h r
-  place-kept t (text a n ∷ is) h r =
-      place-kept (withTextOf s t a n) is (omega arith) (omega arith) ∙ rw (ne-eqb (t .texts) (t .want) (λ e. omega arith))
+  place-kept t [] h = (refl, omega arith)
+  place-kept t (word v ∷ is) h = place-kept (withWords t 1) is h
+  place-kept t (text a n ∷ is) h =
+      let b : eqb (t .left) 0 ≡ false = ne-eqb (t .left) 0 (λ e. omega arith) in
+      let l : withTextOf s t a n .left ≡ t .left - 1 = rw b in
+      let k = place-kept (withTextOf s t a n) is (omega (arith, l, h)) in
+      (k .0 ∙ rw b, omega (arith, k .1, l, h))
 
-  -- k texts before it
-  pub place-met : (t : Tally) (is : List Item) (k : ℕ) → t .want ≡ t .texts + k → k < length (textsIn is) → t .texts + length (textsIn is) ≤ 18446744073709551615
-      → placeOf (tallied s t is) ≡ getD (textsIn is) k (0, 0)
+  -- k texts before it; then the count goes round
+  place-met : (t : Tally) (is : List Item) (k : ℕ) → t .left ≡ k → k < length (textsIn is) → length (textsIn is) ≤ 18446744073709551615
+      → (placeOf (tallied s t is) ≡ getD (textsIn is) k (0, 0)) × (tallied s t is .left + length (textsIn is) ≡ 18446744073709551616 + k)
   unfolding tallied withWords withText textsIn
   place-met t [] k e h r = absurd (omega arith)
   place-met t (word v ∷ is) k e h r = place-met (withWords t 1) is k e h r
   place-met t (text a n ∷ is) zero e h r =
-      place-kept (withTextOf s t a n) is (omega arith) (omega arith) ∙ rw (eq-eqb (t .texts) (t .want) (omega arith))
-  place-met t (text a n ∷ is) (suc k) e h r = place-met (withTextOf s t a n) is k (omega arith) (omega arith) (omega arith)
+      let b : eqb (t .left) 0 ≡ true = eq-eqb (t .left) 0 e in
+      let l : withTextOf s t a n .left ≡ 18446744073709551615 = rw b in
+      let m = place-kept (withTextOf s t a n) is (omega (arith, l, r)) in
+      (m .0 ∙ rw b, omega (arith, m .1, l))
+  place-met t (text a n ∷ is) (suc k) e h r =
+      let b : eqb (t .left) 0 ≡ false = ne-eqb (t .left) 0 (λ z. omega arith) in
+      let l : withTextOf s t a n .left ≡ k = rw b (omega arith) in
+      let m = place-met (withTextOf s t a n) is k l (omega arith) (omega arith) in
+      (m .0, omega (arith, m .1))
 
 -- ---- a tally as it is made, which wants text k
 
 abbrev pub Fresh : ℕ → Tally → Type 0
-Fresh k t = (t .words ≡ 0) × (t .bytes ≡ 0) × (t .texts ≡ 0) × (t .want ≡ k) × (t .replaced ≡ 0)
+Fresh k t = (t .words ≡ 0) × (t .bytes ≡ 0) × (t .replaced ≡ 0) × (t .left ≡ k)
 
 -- it has room for as much as a section can hold
 pub fresh-room : (s : List ℕ) (is : List Item) (t : Tally) (k : ℕ) → Fresh k t → length s ≤ 16777216 → length is ≤ 144115188075855872 → length (textsIn is) ≤ 8589934592 → Room s t is
@@ -106,8 +116,7 @@ fresh-room s is t k new fits m n =
     record {
       words = omega (arith, new .0);
       bytes = omega (arith, new .1, texts-most s fits is);
-      replaced = omega (arith, new .4, texts-most s fits is, replaced-most s is);
-      texts = omega (arith, new .2);
+      replaced = omega (arith, new .2, texts-most s fits is, replaced-most s is);
     }
 
 module _ (s : List ℕ) (is : List Item) (t : Tally) (k : ℕ) (new : Fresh k t) (room : Room s t is) where
@@ -118,13 +127,7 @@ module _ (s : List ℕ) (is : List Item) (t : Tally) (k : ℕ) (new : Fresh k t)
   fresh-bytes = omega (arith, counted s t is room .bytes, new .1)
 
   pub fresh-replaced : tallied s t is .replaced ≡ replacementsOf s is
-  fresh-replaced = omega (arith, counted s t is room .replaced, new .4)
-
-  pub fresh-texts : tallied s t is .texts ≡ length (textsIn is)
-  fresh-texts = omega (arith, counted s t is room .texts, new .2)
-
-  pub fresh-place : k < length (textsIn is) → placeOf (tallied s t is) ≡ getD (textsIn is) k (0, 0)
-  fresh-place h = place-met s t is k (omega (arith, new .2, new .3)) h (room .texts)
+  fresh-replaced = omega (arith, counted s t is room .replaced, new .2)
 
 -- ---- the same of items whose counts fit
 
@@ -146,12 +149,30 @@ module _ (s : List ℕ) (fits : length s ≤ 16777216) (is : List Item) (m : Cou
     pub whole-replaced : tallied s t is .replaced ≡ replacementsOf s is
     whole-replaced = fresh-replaced s is t k new whole-room
 
-    pub whole-texts : tallied s t is .texts ≡ length (textsIn is)
-    whole-texts = fresh-texts s is t k new whole-room
+    many : length (textsIn is) ≤ 18446744073709551615
+    many = omega (arith, m .texts)
+
+    -- the text that is wanted is there exactly where the count has gone round
+    pub whole-met : k < tallied s t is .left → k < length (textsIn is)
+    whole-met h = go (ltb k (length (textsIn is))) refl
+      where
+        go : (b : Bool) → ltb k (length (textsIn is)) ≡ b → k < length (textsIn is)
+        go true e = ltb-true _ _ e
+        go false e =
+            let l : length (textsIn is) ≤ k = ltb-false _ _ e in
+            let p = place-kept s t is (omega (arith, l, new .3)) in
+            absurd (omega (arith, p .1, h, new .3))
+
+    pub whole-none : tallied s t is .left ≤ k → length (textsIn is) ≤ k
+    whole-none h = go (ltb k (length (textsIn is))) refl
+      where
+        go : (b : Bool) → ltb k (length (textsIn is)) ≡ b → length (textsIn is) ≤ k
+        go true e = let p = place-met s t is k (new .3) (ltb-true _ _ e) many in absurd (omega (arith, p .1, h, many))
+        go false e = ltb-false _ _ e
 
     module _ (h : k < length (textsIn is)) where
       pub whole-place : placeOf (tallied s t is) ≡ getD (textsIn is) k (0, 0)
-      whole-place = fresh-place s is t k new whole-room h
+      whole-place = place-met s t is k (new .3) h many .0
 
       pub whole-start : tallied s t is .start ≡ getD (textsIn is) k (0, 0) .0
       whole-start = ap (λ (z : ℕ × ℕ). z .0) whole-place

@@ -151,12 +151,12 @@ module _ (s : List ℕ) (start len : ℕ) (plain : Bool) (part : List ℕ) (ep :
       go true k = sym (k refl)
       go false k = refl
 
-  pub known-count : (count : ℕ) → count ≡ pick plain 0 (replacements part) → count ≡ replacements (slice start (start + len) s)
-  known-count count ec = go plain f (rw ep at ec)
+  pub known-count : (before sum : ℕ) → sum ≡ sat (before + pick plain 0 (replacements part)) → sum ≡ sat (before + replacements (slice start (start + len) s))
+  known-count before sum ec = go plain f (rw ep at ec)
     where
-      go : (b : Bool) → (b ≡ true → shownAt s start len ≡ slice start (start + len) s) → count ≡ pick b 0 (replacements (slice start (start + len) s))
-          → count ≡ replacements (slice start (start + len) s)
-      go true g e = e ∙ well-none _ (well-from _ (g refl))
+      go : (b : Bool) → (b ≡ true → shownAt s start len ≡ slice start (start + len) s) → sum ≡ sat (before + pick b 0 (replacements (slice start (start + len) s)))
+          → sum ≡ sat (before + replacements (slice start (start + len) s))
+      go true g e = e ∙ ap (λ (n : ℕ). sat (before + n)) (well-none _ (well-from _ (g refl)))
       go false g e = e
 
   pub known-size : (size : ℕ) → start + len ≤ length s → length s ≤ 16777216 → size ≡ pick plain (length part) (decodedSize part)

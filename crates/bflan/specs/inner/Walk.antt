@@ -1,5 +1,5 @@
 -- What a walk over a section leaves behind: its tally, and the two tables, by the items that it met.
-use Prim.Native.Nat.{ℕ, min, _+_}
+use Prim.Native.Nat.{ℕ, min, _+_, _-_}
 use mathlib.Core.List.{List, [], _∷_, map}
 use lib.Dec.{eqb}
 use lib.ListN.{length}
@@ -28,28 +28,28 @@ sat n = min n 18446744073709551615
 
 -- before anything was met; text k is wanted
 abbrev pub emptyTally : ℕ → Tally
-emptyTally k = record { words = 0; bytes = 0; replaced = 0; texts = 0; want = k; start = 0; len = 0 }
+emptyTally k = record { words = 0; bytes = 0; replaced = 0; left = k; start = 0; len = 0 }
 
 unfoldable pub withWords : Tally → ℕ → Tally
 withWords t n =
-    record { words = sat (t .words + n); bytes = t .bytes; replaced = t .replaced; texts = t .texts; want = t .want; start = t .start; len = t .len }
+    record { words = sat (t .words + n); bytes = t .bytes; replaced = t .replaced; left = t .left; start = t .start; len = t .len }
 
--- a text of n bytes at a, whose decoding has so many bytes and puts in so many U+FFFD
+-- a text of n bytes at a, whose decoding has so many bytes; with it so many U+FFFD were put in. Where no text was left before the one that is
+-- wanted, this is the one
 unfoldable pub withText : Tally → ℕ → ℕ → ℕ → ℕ → Tally
 withText t a n size replaced =
     record {
       words = sat (t .words + 1);
       bytes = sat (t .bytes + size);
-      replaced = sat (t .replaced + replaced);
-      texts = sat (t .texts + 1);
-      want = t .want;
-      start = pick (eqb (t .texts) (t .want)) a (t .start);
-      len = pick (eqb (t .texts) (t .want)) n (t .len);
+      replaced = replaced;
+      left = pick (eqb (t .left) 0) 18446744073709551615 (t .left - 1);
+      start = pick (eqb (t .left) 0) a (t .start);
+      len = pick (eqb (t .left) 0) n (t .len);
     }
 
 -- as the section has it
 abbrev pub withTextOf : List ℕ → Tally → ℕ → ℕ → Tally
-withTextOf s t a n = withText t a n (length (shownAt s a n)) (replacements (slice a (a + n) s))
+withTextOf s t a n = withText t a n (length (shownAt s a n)) (sat (t .replaced + replacements (slice a (a + n) s)))
 
 unfoldable pub tallied : List ℕ → Tally → List Item → Tally
 tallied s t [] = t

@@ -44,7 +44,7 @@ pub(crate) fn put_text(
     let place = t.words;
     let to = t.bytes;
     let mut replaced: usize = 0;
-    let size = decode_known(&s[start..end], plain, texts, to, &mut replaced);
+    let size = decode_known(&s[start..end], plain, texts, to, t.replaced, &mut replaced);
     put_word(words, place, size as u32);
     more_text(t, start, len, size, replaced)
 }

@@ -4,14 +4,14 @@ ghost use Prim.Native.Nat.{_+_, min};
 ghost use Rattle.bflan.specs.inner.Walk.{sat, emptyTally, withWords, withText};
 use crate::fault::Fault;
 
-// Words and text bytes so far, which are also the places of the next ones; U+FFFD put in and texts so far; and the place and the length of the
-// text whose number is wanted, once it was met. A count that a usize does not hold stays at the largest one.
+// Words and text bytes so far, which are also the places of the next ones, and U+FFFD put in so far; how many texts come before the one that is
+// wanted; and that one's place and length, once it was met. `left` counts down, from 0 to the largest usize: no section has so many texts that it
+// comes to 0 twice. A count that a usize does not hold stays at the largest one.
 pub struct Tally {
     pub words: usize,
     pub bytes: usize,
     pub replaced: usize,
-    pub texts: usize,
-    pub want: usize,
+    pub left: usize,
     pub start: usize,
     pub len: usize,
 }
@@ -38,8 +38,7 @@ pub(crate) fn fresh(want: usize) -> Tally
         words: 0,
         bytes: 0,
         replaced: 0,
-        texts: 0,
-        want,
+        left: want,
         start: 0,
         len: 0,
     }
@@ -53,29 +52,25 @@ pub(crate) fn more_words(t: Tally, n: usize) -> Tally
         words: add(t.words, n),
         bytes: t.bytes,
         replaced: t.replaced,
-        texts: t.texts,
-        want: t.want,
+        left: t.left,
         start: t.start,
         len: t.len,
     }
 }
 
-// A text more, at `start` with `len` bytes in the section; decoded it has `size` bytes and `replaced` U+FFFD that were put in.
+// A text more, at `start` with `len` bytes in the section and `size` bytes decoded; with it `replaced` U+FFFD were put in.
 pub(crate) fn more_text(t: Tally, start: usize, len: usize, size: usize, replaced: usize) -> Tally
     ensures { λ r. ⌜ r ≡ withText t start len size replaced ⌝ }
 {
-    let texts = t.texts;
+    let left = t.left;
     let words = add(t.words, 1);
     let bytes = add(t.bytes, size);
-    let sum = add(t.replaced, replaced);
-    let next = add(texts, 1);
-    if texts == t.want {
+    if left == 0 {
         return Tally {
             words,
             bytes,
-            replaced: sum,
-            texts: next,
-            want: t.want,
+            replaced,
+            left: 18446744073709551615,
             start,
             len,
         };
@@ -83,9 +78,8 @@ pub(crate) fn more_text(t: Tally, start: usize, len: usize, size: usize, replace
     Tally {
         words,
         bytes,
-        replaced: sum,
-        texts: next,
-        want: t.want,
+        replaced,
+        left: left - 1,
         start: t.start,
         len: t.len,
     }

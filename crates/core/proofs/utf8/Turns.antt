@@ -16,7 +16,7 @@ use Rattle.core.specs.declared.utf8.step.Step.the-variants.{Good, Bad}
 use Rattle.core.specs.Utf8.{rows, classOf, laterOf, matched, more, good, stepOf, replacement, decode, decodedSize, validUpTo, replacements}
 use Rattle.core.specs.Choice.{pick}
 use Rattle.core.specs.Text.{beforeZero, firstFault, every, notZero, ascii, plain, isPlain, plainAt, endedOf}
-use Rattle.core.specs.inner.Scan.{illSize, asciiSeen}
+use Rattle.core.specs.inner.Scan.{illSize, asciiSeen, added}
 use Rattle.core.specs.declared.text.TextAt.the-variants.{Text}
 use Rattle.core.proofs.Stores.{sets-on}
 use Rattle.core.proofs.Tests.{every-at}
@@ -260,6 +260,14 @@ counted-run s i grown n end skip c r h =
 -- no count of U+FFFD is above the text's length
 pub counted-most : (s : List ℕ) (i grown n : ℕ) → Counted s i grown n → n ≤ length s
 counted-most s i grown n c = let m = count-le s in omega (arith, c .3, m)
+
+-- a sum as a usize
+pub added-is : (before n : ℕ) → before ≤ 18446744073709551615 → min (before + n) 18446744073709551615 ≡ added before n
+added-is before n h = go (eqb n 0) refl
+  where
+    go : (b : Bool) → eqb n 0 ≡ b → min (before + n) 18446744073709551615 ≡ pick b before (min (before + n) 18446744073709551615)
+    go true e = let z = eqb-true n 0 e in omega arith
+    go false e = refl
 
 -- at the end
 pub counted-last : (s : List ℕ) (i grown n end skip : ℕ) → Counted s i grown n → RunAt s i end skip → skip ≡ 0 → (length s + grown ≡ length (decode s)) × (n ≡ replacements s)

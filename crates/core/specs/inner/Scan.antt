@@ -1,8 +1,9 @@
--- What the fast scan of a text asks: how long the ill-formed subpart is that stops it, and whether a text is ASCII at first sight.
-use Prim.Native.Nat.{ℕ}
+-- What the fast scan of a text asks: how long the ill-formed subpart is that stops it, and whether a text is ASCII at first sight; and what it
+-- makes of a count.
+use Prim.Native.Nat.{ℕ, _+_, min}
 use mathlib.Core.Bool.{Bool, _&&_}
 use mathlib.Core.List.{List, [], _∷_}
-use lib.Dec.{leb}
+use lib.Dec.{eqb, leb}
 use lib.ListN.{length}
 use Rattle.core.specs.Choice.{pick}
 use Rattle.core.specs.Text.{every, ascii, plain}
@@ -20,3 +21,7 @@ illSize t = illFirst (pieces t)
 -- a text that is seen to be ASCII at once: one of 8 to 32 bytes only if it has no zero either
 unfoldable pub asciiSeen : List ℕ → Bool
 asciiSeen t = every (pick (leb 8 (length t) && leb (length t) 32) plain ascii) t
+
+-- a count with n more, as a usize; of none it is left alone
+abbrev pub added : ℕ → ℕ → ℕ
+added before n = pick (eqb n 0) before (min (before + n) 18446744073709551615)

@@ -1,20 +1,20 @@
 -- `utf8::decode_runs` meets its contract. The loop's invariant: what is still to be decoded, stored, makes the list that all of it makes.
 -- Assumes nothing.
-use Prim.Native.Nat.{ℕ, _-_, _<_}
-use mathlib.Core.Path.{_≡_, sym, ap, _∙_}
+use Prim.Native.Nat.{ℕ, _+_, _-_, _<_, min}
+use mathlib.Core.Path.{_≡_, sym, ap, ap₂, _∙_}
 use native.Mathlib.Omega.{arith}
 use mathlib.Core.List.{List}
 use denote.Ref.{now}
 use lib.ListN.{length, drop}
 use lib.Seq.{sets}
 use Rattle.core.specs.Utf8.{decode}
-use Rattle.core.proofs.utf8.Turns.{part-is, BadAt, RunAt, run-at, run-bad, lone-bad, Counted, counted-most, counted-run, counted-last, counted-size, sets-run, sets-bad}
+use Rattle.core.proofs.utf8.Turns.{part-is, BadAt, RunAt, run-at, run-bad, lone-bad, Counted, counted-most, counted-run, counted-last, counted-size, added-is, sets-run, sets-bad}
 use borrow.Author.Needs.{needs}
 use Rattle.core.proofs.utf8.decode_runs.Statement.{statement}
 use Rattle.core.proofs.utf8.decode_runs.Tie as tie
 
 abbrev Inv-loop : tie.InvT-loop
-Inv-loop text out₀ at classes rows replaced₀ i₀ o₀ grown₀ count₀ out replaced i o grown count = Counted text i grown count × (length out ≡ length out₀) × (sets out o (decode (drop i text)) ≡ sets out₀ at (decode text))
+Inv-loop text out₀ at classes rows replaced₀ i₀ o₀ grown₀ count₀ out replaced i o grown count = Counted text i grown count × (length out ≡ length out₀) × (sets out o (decode (drop i text)) ≡ sets out₀ at (decode text)) × (replaced ≡ replaced₀)
 
 abbrev μ-loop : tie.MeasureT-loop
 μ-loop text out₀ at classes rows replaced₀ i₀ o₀ grown₀ count₀ out replaced i o grown count = length text - i
@@ -43,6 +43,7 @@ loop-again c =
       counted-run _ _ _ _ _ _ (c .before .before .before .before .before .before .loop .inv .0) (run-bad _ _ _ b) (b .some),
       c .before .before .put-replacement .kept .0 ∙ c .before .before .before .before .before .before .loop .inv .1,
       sets-bad _ _ _ _ _ _ _ b (c .before .before .put-replacement .ensures .0) (c .before .before .put-replacement .ensures .1) ∙ c .before .before .before .before .before .before .loop .inv .2,
+      c .before .before .before .before .before .before .loop .inv .3,
     )
 
 part-copy-on-end : tie.Need-part-copy-on-end Inv-loop μ-loop
@@ -50,11 +51,11 @@ part-copy-on-end c = let r = run c in omega (arith, r .reach)
 
 returns : tie.Need-returns Inv-loop μ-loop
 returns c =
-    let r = run (c .before .before .before .before .before .before .before) in
-    let n = counted-last _ _ _ _ _ _ (c .before .before .before .before .before .before .before .before .before .before .loop .inv .0) r (c .before .if2 .taken) in (
-      counted-size _ _ _ (n .0) (c .total .ensures),
-      n .1,
-      c .before .before .before .before .copy-on .ensures .0 ∙ ap (λ (l : List ℕ). sets (c .before .before .before .before .before .before .before .before .before .before .loop .out) (c .before .before .before .before .before .before .before .before .before .before .loop .o) l) (part-is _ _ _ (r .start) ∙ sym (r .whole (c .before .if2 .taken))) ∙ c .before .before .before .before .before .before .before .before .before .before .loop .inv .2,
+    let r = run (c .before .before .before .before .before .before .before .before .before) in
+    let n = counted-last _ _ _ _ _ _ (c .before .before .before .before .before .before .before .before .before .before .before .before .loop .inv .0) r (c .before .before .before .if2 .taken) in (
+      counted-size _ _ _ (n .0) (c .total2 .ensures),
+      c .before .total .ensures ∙ ap₂ (λ (a b : ℕ). min (a + b) 18446744073709551615) (c .before .before .before .before .before .before .before .before .before .before .before .before .loop .inv .3) (n .1) ∙ added-is _ _ (omega (arith, c .before .before .before .before .before .before .before .before .before .before .before .before .loop .inv .3, c .before .before .row-known .given)),
+      c .before .before .before .before .before .before .copy-on .ensures .0 ∙ ap (λ (l : List ℕ). sets (c .before .before .before .before .before .before .before .before .before .before .before .before .loop .out) (c .before .before .before .before .before .before .before .before .before .before .before .before .loop .o) l) (part-is _ _ _ (r .start) ∙ sym (r .whole (c .before .before .before .if2 .taken))) ∙ c .before .before .before .before .before .before .before .before .before .before .before .before .loop .inv .2,
     )
 
 sub-grown : tie.Need-sub-grown Inv-loop μ-loop
@@ -79,11 +80,12 @@ loop-again-2 c =
       counted-run _ _ _ _ _ _ (c .before .before .before .before .before .before .before .before .before .before .before .before .before .loop .inv .0) r h,
       c .before .before .put-replacement2 .kept .0 ∙ c .before .before .before .before .before .before .before .copy-on .kept .1 .0 ∙ c .before .before .before .before .before .before .before .before .before .before .before .before .before .loop .inv .1,
       sets-run _ _ _ _ _ _ _ _ _ _ _ r h (part-is _ _ _ (r .start)) (c .before .before .before .before .before .before .before .copy-on .ensures .0) (c .before .before .before .before .before .before .before .copy-on .ensures .1) (c .before .before .put-replacement2 .ensures .0) (c .before .before .put-replacement2 .ensures .1) ∙ c .before .before .before .before .before .before .before .before .before .before .before .before .before .loop .inv .2,
+      c .before .before .before .before .before .before .before .before .before .before .before .before .before .loop .inv .3,
     )
 
 pub decode-runs-spec : {M : Type 1} → statement M
 decode-runs-spec =
     tie.close
     (tie.spec Inv-loop μ-loop (λ c. search needs) (λ c κs. search needs) (search needs) add-grown add-count (search needs) loop-less
-    loop-again (λ c κs. search needs) (search needs) (search needs) part-copy-on-end (search needs) (search needs) (search needs)
+    loop-again (λ c κs. search needs) (search needs) (search needs) part-copy-on-end (search needs) (search needs) (search needs) (search needs)
     returns (search needs) sub-grown add-grown-2 add-count-2 add-i-2 loop-less-2 loop-again-2)

@@ -8,11 +8,11 @@ use Rattle.bflan.proofs.reader.tally.more_text.Tie as tie
 
 returns : tie.Need-returns
 unfolding withText
-returns c = rw (c .before .before .before .before .before .add .ensures, c .before .before .before .before .add2 .ensures, c .before .before .before .add3 .ensures, c .before .before .add4 .ensures, eq-eqb _ _ (c .if1 .taken))
+returns c = rw (c .before .before .add .ensures, c .before .add2 .ensures, eq-eqb _ _ (c .if1 .taken))
 
 returns-2 : tie.Need-returns-2
 unfolding withText
-returns-2 c = rw (c .before .before .before .before .before .add .ensures, c .before .before .before .before .add2 .ensures, c .before .before .before .add3 .ensures, c .before .before .add4 .ensures, ne-eqb _ _ (c .if1 .left))
+returns-2 c = rw (c .before .before .add .ensures, c .before .add2 .ensures, ne-eqb _ _ (c .if1 .left))
 
 pub more-text-spec : {M : Type 1} → statement M
-more-text-spec = tie.close (tie.spec (search needs) (search needs) (search needs) (search needs) returns returns-2)
+more-text-spec = tie.close (tie.spec (search needs) (search needs) returns (search needs) returns-2)
