@@ -1,8 +1,8 @@
 //! Compares the proved code with the Rust. Usage: differential [texts|sections|records] [SEED] [MILLIONS], or differential edits
 //! [SEED] [CALLS]; without a part, all.
 //!
-//! texts: the decoding with `String::from_utf8_lossy` and `std::str::from_utf8`: every text of up to three bytes, and some
-//! millions of longer ones. sections: reading with the reference's `BflanSections::parse`, on some millions of sections.
+//! texts: the decoding with `String::from_utf8_lossy` and `std::str::from_utf8`, and the replaced characters with
+//! `utf8_chunks`: every text of up to three bytes, and some millions of longer ones. sections: reading with the reference's `BflanSections::parse`, on some millions of sections.
 //! records: writing with the reference's `BflanSectionsRef::serialize`, on some millions of records. edits: edits and undos
 //! with document 01's plain machine and the reference's writing and reading of its record, and as many calls on sections,
 //! journals and counts of any kind; behind each call, what stands at a place with the machine's record or with the
@@ -10,7 +10,7 @@
 use std::process::ExitCode;
 
 use compare::args::Args;
-use compare::chars::{WORDS, boundary_pieces, char_of_len, damage, push, push_char};
+use compare::chars::{WORDS, boundary_pieces, char_of_len, damage, invalid_chunks, push, push_char};
 use compare::comparison::Comparison;
 use compare::proved::{self, Proved};
 use compare::random::Random;
@@ -21,6 +21,8 @@ use compare::writing::Writing;
 const GUARD: u8 = 0xA5;
 /// How many bytes of it stand on each side of an output.
 const MARGIN: usize = 40;
+/// The same for the count of replaced characters, and on each side of it.
+const COUNT_GUARD: usize = 0xA5A5_A5A5_A5A5_A5A5;
 
 /// The edits and undos that are tried beside the machine, without a number of them.
 const CALLS: u64 = 1_000_000;
@@ -31,6 +33,7 @@ struct Kind {
     name: String,
     texts: u64,
     ill: u64,
+    replaced: u64,
     bytes: u64,
     calls: u64,
 }
@@ -42,7 +45,7 @@ struct Run {
     buffer: Vec<u8>,
 }
 
-type Decode = fn(&[u8], &mut [u8], usize) -> usize;
+type Decode = fn(&[u8], &mut [u8], usize, &mut usize) -> usize;
 const DECODERS: [(&str, Decode); 2] = [("decode_into", proved::decode_into), ("decode_plain", proved::decode_plain)];
 
 impl Run {
@@ -65,14 +68,16 @@ impl Run {
         }
     }
 
-    /// Decodes into an output of `room` bytes from `at` on, and looks at every byte of the output and its margins.
-    fn decoded(&mut self, text: &[u8], wanted: &[u8], room: usize, at: usize) {
+    /// Decodes into an output of `room` bytes from `at` on, and looks at the count of replaced characters between two other
+    /// numbers, and at every byte of the output and its margins.
+    fn decoded(&mut self, text: &[u8], wanted: &[u8], replaced: usize, room: usize, at: usize) {
         for (name, decode) in DECODERS {
             let mut buffer = std::mem::take(&mut self.buffer);
             buffer.clear();
             buffer.resize(MARGIN + room + MARGIN, GUARD);
-            let said = decode(text, &mut buffer[MARGIN..MARGIN + room], at);
-            self.same(text, name, said, wanted.len());
+            let mut counts = [COUNT_GUARD; 3];
+            let said = decode(text, &mut buffer[MARGIN..MARGIN + room], at, &mut counts[1]);
+            self.same(text, name, (said, counts), (wanted.len(), [COUNT_GUARD, replaced, COUNT_GUARD]));
             let from = at.min(room);
             let stored = wanted.len().min(room - from);
             let (before, rest) = buffer.split_at(MARGIN + from);
@@ -96,10 +101,12 @@ impl Run {
         let ill = std::str::from_utf8(text).err().map(|e| e.valid_up_to());
         let zero = text.iter().position(|&b| b == 0).unwrap_or(text.len());
         let first_ill = ill.unwrap_or(text.len());
+        let replaced = invalid_chunks(text);
 
         let kind = self.kinds.last_mut().unwrap();
         kind.texts += 1;
         kind.ill += ill.is_some() as u64;
+        kind.replaced += replaced as u64;
         kind.bytes += text.len() as u64;
 
         self.same(text, "decoded_len", proved::decoded_len(text), wanted.len());
@@ -115,7 +122,7 @@ impl Run {
             2 => (self.random.below(MARGIN), 0),
             _ => (self.random.below(MARGIN), self.random.below(MARGIN)),
         };
-        self.decoded(text, wanted, before + wanted.len() + after, before);
+        self.decoded(text, wanted, replaced, before + wanted.len() + after, before);
         // one that is too short by some bytes or by nearly all
         let most = wanted.len().saturating_sub(1);
         let short = match self.random.below(3) {
@@ -124,7 +131,7 @@ impl Run {
             _ => self.random.below(most + 1),
         };
         let before = if self.random.below(2) == 0 { 0 } else { self.random.below(MARGIN) };
-        self.decoded(text, wanted, before + short, before);
+        self.decoded(text, wanted, replaced, before + short, before);
         // a start at the end or past it
         if self.random.below(8) == 0 {
             let room = self.random.below(MARGIN);
@@ -134,7 +141,7 @@ impl Run {
                 2 => usize::MAX - self.random.below(text.len() + 9),
                 _ => usize::MAX,
             };
-            self.decoded(text, wanted, room, past);
+            self.decoded(text, wanted, replaced, room, past);
         }
     }
 
@@ -335,12 +342,13 @@ fn texts(seed: u64, millions: u64) -> u64 {
         run.look_amid(&text);
     }
 
-    println!("{:<30} {:>12} {:>12} {:>14} {:>13}", "kind", "texts", "ill-formed", "bytes", "calls");
+    println!("{:<30} {:>12} {:>12} {:>13} {:>14} {:>13}", "kind", "texts", "ill-formed", "replaced", "bytes", "calls");
     let mut sum = Kind { name: "all".to_owned(), ..Kind::default() };
     for kind in &run.kinds {
         line(kind);
         sum.texts += kind.texts;
         sum.ill += kind.ill;
+        sum.replaced += kind.replaced;
         sum.bytes += kind.bytes;
         sum.calls += kind.calls;
     }
@@ -350,5 +358,5 @@ fn texts(seed: u64, millions: u64) -> u64 {
 }
 
 fn line(k: &Kind) {
-    println!("{:<30} {:>12} {:>12} {:>14} {:>13}", k.name, k.texts, k.ill, k.bytes, k.calls);
+    println!("{:<30} {:>12} {:>12} {:>13} {:>14} {:>13}", k.name, k.texts, k.ill, k.replaced, k.bytes, k.calls);
 }
