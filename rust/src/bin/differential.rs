@@ -180,7 +180,7 @@ fn push_run(random: &mut Random, text: &mut Vec<u8>) {
 
 /// The kinds of longer text, each with its maker.
 type Make = fn(&mut Random, &[Vec<u8>], usize) -> Vec<u8>;
-const MAKERS: [(&str, Make); 10] = [
+const MAKERS: [(&str, Make); 11] = [
     ("random bytes", |random, _, n| (0..n).map(|_| random.byte()).collect()),
     ("bytes from 80 on", |random, _, n| (0..n).map(|_| 0x80 | random.byte()).collect()),
     ("ASCII", |random, _, n| (0..n).map(|_| random.byte() & 0x7F).collect()),
@@ -224,6 +224,17 @@ const MAKERS: [(&str, Make); 10] = [
         let mut text = Vec::new();
         while text.len() < n {
             text.extend_from_slice(random.one(pieces).as_slice());
+        }
+        text
+    }),
+    ("U+FFFD among edges", |random, pieces, n| {
+        let mut text = Vec::new();
+        while text.len() < n {
+            match random.below(3) {
+                0 => push(&mut text, '\u{FFFD}'),
+                1 => text.extend_from_slice(random.one(pieces).as_slice()),
+                _ => text.push(0x20 + random.byte() % 0x5F),
+            }
         }
         text
     }),
