@@ -24,7 +24,8 @@ pub struct Kind {
     pub calls: u64,
 }
 
-/// Stores a text's decoding in the output from a place on, and the count of replaced characters. Returns the decoding's length.
+/// Stores a text's decoding in the output from a place on, and the count of replaced characters. Returns the decoding's
+/// length.
 pub type Decode = fn(&[u8], &mut [u8], usize, &mut usize) -> usize;
 
 /// The proved decoders.

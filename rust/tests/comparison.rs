@@ -102,6 +102,7 @@ slips! {
         CountsInBothWalks,
         CountsSharedTextsOnce,
         CountsBehindANamesZero,
+        CountsNoCharacterThatANamesEndCuts,
         CountsWhereRefused,
         CountsWhereTheTextIsInTheSection,
         CountsAllTextsForOne,
@@ -140,6 +141,13 @@ impl Reader for Slipping {
                     let behind = section.get(name.start + name.len..name.start + 28).unwrap_or(&[]);
                     // a key of extended data may be taken for a name here, which is a mistake as well
                     answer[3] += invalid_chunks(behind);
+                }
+            }
+            Slip::CountsNoCharacterThatANamesEndCuts if number == 0 => {
+                let cut = |end: &[u8]| std::str::from_utf8(end).is_err_and(|error| error.error_len().is_none());
+                for name in walked.places.iter().skip(words[2] as usize).filter(|place| place.len == 28) {
+                    let last = name.bytes(section).utf8_chunks().last();
+                    answer[3] -= usize::from(last.is_some_and(|chunk| cut(chunk.invalid())));
                 }
             }
             Slip::CountsWhereRefused if number == 5 => answer[3] = walked.replaced(),
