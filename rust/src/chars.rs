@@ -14,6 +14,23 @@ pub const ROWS: [&[(u8, u8)]; 9] = [
     &[(0xF4, 0xF4), (0x80, 0x8F), (0x80, 0xBF), (0x80, 0xBF)],
 ];
 
+/// The first piece of a text that is not empty: its length, and whether it is a character. Otherwise it is a maximal
+/// ill-formed subpart: the bytes that go along with a row, or one byte that no row begins with.
+pub fn first_piece(text: &[u8]) -> (usize, bool) {
+    for row in ROWS {
+        let along = row.iter().zip(text).take_while(|&(&(low, high), byte)| (low..=high).contains(byte)).count();
+        if along > 0 {
+            return (along, along == row.len());
+        }
+    }
+    (1, false)
+}
+
+/// How many characters a decoding replaces, by the standard library.
+pub fn invalid_chunks(text: &[u8]) -> usize {
+    text.utf8_chunks().filter(|chunk| !chunk.invalid().is_empty()).count()
+}
+
 /// Of every row the first and the last sequence, and each of these with one byte put just outside its range, or cut
 /// short after any byte.
 pub fn boundary_pieces() -> Vec<Vec<u8>> {

@@ -1,9 +1,10 @@
 //! Holds a reader against the reference: every answer, every word and byte that a call stores, and the places around and
 //! behind them, which no call may change.
+use crate::chars::invalid_chunks;
 use crate::guarded::Guarded;
-use crate::layout::{Rules, TextAt, Walked, walk};
+use crate::layout::{Rules, Walked, walk};
 use crate::random::Random;
-use crate::reader::{MOST_ASKED, Reader};
+use crate::reader::{FIND_NUMBERS, MOST_ASKED, READ_NUMBERS, Reader, refused};
 use crate::record::{Flat, reference};
 use crate::sections::{Maker, fixed_sections, large_sections, random_sections};
 
@@ -22,6 +23,9 @@ pub struct Kind {
     pub sections: u64,
     /// How many were read, or had each of the refusals 1 to 4.
     pub outcomes: [u64; 5],
+    /// How many of those that were read have characters replaced, and how many characters in all.
+    pub ill: u64,
+    pub replaced: u64,
     /// How many of them the reference was not asked to read.
     pub by_layout: u64,
     /// How many were not looked at, since their records are too long.
@@ -99,10 +103,21 @@ impl<'a> Comparison<'a> {
                 return;
             }
         }
+        // the reference does not count what it replaces: the standard library does, where the layout says that texts lie
+        let counts: Vec<usize> = walked.places.iter().map(|place| invalid_chunks(place.bytes(section))).collect();
+        if let Some(i) = (0..counts.len()).find(|&i| counts[i] != walked.places[i].replaced) {
+            let (layout, library) = (walked.places[i].replaced, counts[i]);
+            let what = format!("in text {i} the layout counts {layout} replaced, the standard library {library}");
+            self.differs(section, what);
+            return;
+        }
         let number = walked.outcome.as_ref().map_or_else(|refusal| refusal.numbers()[0], |_| 0);
+        let replaced = if number == 0 { counts.iter().sum() } else { 0 };
         self.count(|kind| {
             kind.sections += 1;
             kind.outcomes[number] += 1;
+            kind.ill += (replaced > 0) as u64;
+            kind.replaced += replaced as u64;
             kind.by_layout += by_layout as u64;
             kind.bytes += section.len() as u64;
         });
@@ -115,9 +130,9 @@ impl<'a> Comparison<'a> {
         held.extend_from_slice(section);
         held.resize(before + section.len() + 16, fill);
         let placed = &held[before..before + section.len()];
-        self.reads(placed, &walked);
+        self.reads(placed, &walked, replaced);
         if texts > 0 {
-            self.finds(placed, &walked, texts);
+            self.finds(placed, &walked, &counts, texts);
         }
         if placed != section {
             self.differs(section, "the section was changed".to_owned());
@@ -145,9 +160,9 @@ impl<'a> Comparison<'a> {
         }
     }
 
-    fn read(&mut self, section: &[u8], room: (usize, usize), wanted: [usize; 3], stored: Option<&Flat>) {
+    fn read(&mut self, section: &[u8], room: (usize, usize), wanted: [usize; READ_NUMBERS], stored: Option<&Flat>) {
         let salt = self.random.next();
-        let answers = self.answer_room(3);
+        let answers = self.answer_room(READ_NUMBERS);
         let words = self.words.list(salt, room.0);
         let texts = self.texts.list(salt, room.1);
         let answer = self.answer.list(salt, answers);
@@ -155,7 +170,7 @@ impl<'a> Comparison<'a> {
         let (words, texts) = stored.map_or((&[][..], &[][..]), |flat| (&flat.words[..], &flat.texts[..]));
         let found = self
             .answer
-            .differs("answer", &wanted[..answers.min(3)])
+            .differs("answer", &wanted[..answers.min(READ_NUMBERS)])
             .or_else(|| self.words.differs("words", words))
             .or_else(|| self.texts.differs("texts", texts));
         if let Some(what) = found {
@@ -169,39 +184,41 @@ impl<'a> Comparison<'a> {
         });
     }
 
-    /// Reads into tables of the sizes that matter.
-    fn reads(&mut self, section: &[u8], walked: &Walked) {
+    /// Reads into tables of the sizes that matter, a section in whose texts so many characters are replaced.
+    fn reads(&mut self, section: &[u8], walked: &Walked, replaced: usize) {
         match &walked.outcome {
             Err(refusal) => {
-                let wanted = refusal.numbers();
+                let wanted = refused(refusal);
                 self.read(section, (0, 0), wanted, None);
                 let room = (self.random.below(80), self.random.below(80));
                 self.read(section, room, wanted, None);
             }
             Ok(flat) => {
                 let (n, m) = (flat.words.len(), flat.texts.len());
-                self.read(section, (n, m), [0, n, m], Some(flat));
+                self.read(section, (n, m), [0, n, m, replaced], Some(flat));
                 let more = (n + self.random.below(20), m + self.random.below(20));
-                self.read(section, more, [0, n, m], Some(flat));
+                self.read(section, more, [0, n, m, replaced], Some(flat));
                 let spare = self.random.below(9);
-                self.read(section, (n - 1, m + spare), [5, n, m], None);
+                self.read(section, (n - 1, m + spare), [5, n, m, 0], None);
                 if m > 0 {
-                    self.read(section, (n + spare, m - 1), [5, n, m], None);
+                    self.read(section, (n + spare, m - 1), [5, n, m, 0], None);
                 }
                 let less = (self.random.below(n), self.random.below(m + 1));
-                self.read(section, less, [5, n, m], None);
+                self.read(section, less, [5, n, m, 0], None);
             }
         }
     }
 
-    fn find(&mut self, section: &[u8], text: usize, room: usize, wanted: [usize; 4], stored: &[u8]) {
+    fn find(&mut self, section: &[u8], text: usize, room: usize, wanted: [usize; FIND_NUMBERS], stored: &[u8]) {
         let salt = self.random.next();
-        let answers = self.answer_room(4);
+        let answers = self.answer_room(FIND_NUMBERS);
         let scratch = self.texts.list(salt, room);
         let answer = self.answer.list(salt, answers);
         self.reader.find_text(section, text, scratch, answer);
-        let found =
-            self.answer.differs("answer", &wanted[..answers.min(4)]).or_else(|| self.texts.differs("scratch", stored));
+        let found = self
+            .answer
+            .differs("answer", &wanted[..answers.min(FIND_NUMBERS)])
+            .or_else(|| self.texts.differs("scratch", stored));
         if let Some(what) = found {
             self.differs(
                 section,
@@ -211,37 +228,37 @@ impl<'a> Comparison<'a> {
         self.count(|kind| kind.finds += 1);
     }
 
-    /// Looks for every text, or for `most` of them, and for texts that are not there.
-    fn finds(&mut self, section: &[u8], walked: &Walked, most: usize) {
+    /// Looks for every text, or for `most` of them, and for texts that are not there. `counts` says how many characters are
+    /// replaced in each.
+    fn finds(&mut self, section: &[u8], walked: &Walked, counts: &[usize], most: usize) {
         let room = self.random.below(40);
         if let Err(refusal) = &walked.outcome {
-            let [number, a, b] = refusal.numbers();
             for text in [0, self.random.below(4), usize::MAX] {
-                self.find(section, text, room, [number, a, b, 0], &[]);
+                self.find(section, text, room, refused(refusal), &[]);
             }
             return;
         }
         let count = walked.places.len();
         for text in [count, count + 1 + self.random.below(9), usize::MAX] {
-            self.find(section, text, room, [10, 0, 0, 0], &[]);
+            self.find(section, text, room, [10, 0, 0, 0, 0], &[]);
         }
         for i in 0..count.min(most) {
             let text = if count > most { self.random.below(count) } else { i };
-            let TextAt { start, len } = walked.places[text];
-            let raw = &section[start..start + len];
+            let raw = walked.places[text].bytes(section);
             if std::str::from_utf8(raw).is_ok() {
+                let (start, len) = (walked.places[text].start, raw.len());
                 let room = *self.random.one(&[0, len.saturating_sub(1), len, len + 5]);
-                self.find(section, text, room, [0, 0, start, len], &[]);
+                self.find(section, text, room, [0, 0, start, len, 0], &[]);
                 continue;
             }
             let decoded = String::from_utf8_lossy(raw).into_owned().into_bytes();
             let needed = decoded.len();
-            self.find(section, text, needed, [0, 1, 0, needed], &decoded);
+            self.find(section, text, needed, [0, 1, 0, needed, counts[text]], &decoded);
             let more = needed + 1 + self.random.below(20);
-            self.find(section, text, more, [0, 1, 0, needed], &decoded);
-            self.find(section, text, needed - 1, [5, 0, needed, 0], &[]);
+            self.find(section, text, more, [0, 1, 0, needed, counts[text]], &decoded);
+            self.find(section, text, needed - 1, [5, 0, needed, 0, 0], &[]);
             let less = self.random.below(needed);
-            self.find(section, text, less, [5, 0, needed, 0], &[]);
+            self.find(section, text, less, [5, 0, needed, 0, 0], &[]);
         }
     }
 
@@ -291,10 +308,12 @@ impl<'a> Comparison<'a> {
     /// Prints the counts, and the smallest section that showed a difference.
     pub fn print(&self) {
         println!(
-            "{:<32} {:>9} {:>9} {:>7} {:>4} {:>9} {:>7} {:>9} {:>8} {:>9} {:>9} {:>9} {:>11}",
+            "{:<32} {:>9} {:>9} {:>10} {:>10} {:>7} {:>4} {:>9} {:>7} {:>9} {:>8} {:>9} {:>9} {:>9} {:>11}",
             "kind",
             "sections",
             "read",
+            "ill-formed",
+            "replaced",
             "1",
             "2",
             "3",
@@ -313,6 +332,8 @@ impl<'a> Comparison<'a> {
                 *all += one;
             }
             sum.sections += kind.sections;
+            sum.ill += kind.ill;
+            sum.replaced += kind.replaced;
             sum.by_layout += kind.by_layout;
             sum.left_out += kind.left_out;
             sum.reads += kind.reads;
@@ -333,7 +354,7 @@ impl<'a> Comparison<'a> {
 fn line(k: &Kind) {
     let [read, letters, length, end, zero] = k.outcomes;
     println!(
-        "{:<32} {:>9} {read:>9} {letters:>7} {length:>4} {end:>9} {zero:>7} {:>9} {:>8} {:>9} {:>9} {:>9} {:>11}",
-        k.name, k.sections, k.by_layout, k.left_out, k.reads, k.short, k.finds, k.bytes
+        "{:<32} {:>9} {read:>9} {:>10} {:>10} {letters:>7} {length:>4} {end:>9} {zero:>7} {:>9} {:>8} {:>9} {:>9} {:>9} {:>11}",
+        k.name, k.sections, k.ill, k.replaced, k.by_layout, k.left_out, k.reads, k.short, k.finds, k.bytes
     );
 }

@@ -4,6 +4,7 @@
 //! compared.
 use std::ops::Range;
 
+use crate::chars::first_piece;
 use crate::record::{Flat, LIMIT, Outcome, PAI1, Refusal};
 
 /// The letters of standard infos with how many target numbers they have.
@@ -51,18 +52,44 @@ pub struct Rules {
     pub targets_bounded: bool,
     /// Whether every byte of an ill-formed subpart becomes a U+FFFD of its own.
     pub one_for_each_byte: bool,
+    /// What is counted as a replaced character.
+    pub counted: Counted,
+}
+
+/// What can be taken for a replaced character.
+#[derive(Clone, Copy, Debug, PartialEq, Eq)]
+pub enum Counted {
+    /// A maximal ill-formed subpart, which is right.
+    Subpart,
+    /// A byte of one.
+    Byte,
+    /// A U+FFFD of the decoding, also one that the text held already.
+    Shown,
 }
 
 impl Rules {
-    pub const DOCUMENT: Rules =
-        Rules { textures_from: 20, key_text_from: 0, targets_bounded: true, one_for_each_byte: false };
+    pub const DOCUMENT: Rules = Rules {
+        textures_from: 20,
+        key_text_from: 0,
+        targets_bounded: true,
+        one_for_each_byte: false,
+        counted: Counted::Subpart,
+    };
 }
 
-/// Where a text lies in the section, before it is decoded.
+/// Where a text lies in the section, before it is decoded, and how many characters its decoding replaces.
 #[derive(Clone, Copy, Debug)]
 pub struct TextAt {
     pub start: usize,
     pub len: usize,
+    pub replaced: usize,
+}
+
+impl TextAt {
+    /// The text's bytes.
+    pub fn bytes<'a>(&self, section: &'a [u8]) -> &'a [u8] {
+        &section[self.start..self.start + self.len]
+    }
 }
 
 /// Where the fields of a target lie: its layer at `start`, its number behind that, its keys from `keys` on.
@@ -108,6 +135,13 @@ pub struct Walked {
     pub asked: usize,
 }
 
+impl Walked {
+    /// How many characters a reading replaces: those of each text, as often as the record has it.
+    pub fn replaced(&self) -> usize {
+        self.places.iter().map(|place| place.replaced).sum()
+    }
+}
+
 enum Stop {
     Refused(Refusal),
     TooLong,
@@ -125,18 +159,28 @@ pub fn walk(section: &[u8], rules: &Rules, most: usize) -> Option<Walked> {
     Some(Walked { outcome, places: walk.places, contents: walk.contents, asked: walk.asked })
 }
 
-/// The decoding of a text.
-pub fn decoded(text: &[u8], rules: &Rules) -> Vec<u8> {
-    if !rules.one_for_each_byte {
-        return String::from_utf8_lossy(text).into_owned().into_bytes();
+/// The decoding of a text, and how many characters it replaces.
+pub fn decoded(text: &[u8], rules: &Rules) -> (Vec<u8>, usize) {
+    let (mut out, mut replaced) = (Vec::with_capacity(text.len()), 0);
+    let mut rest = text;
+    while !rest.is_empty() {
+        let (len, character) = first_piece(rest);
+        let (piece, behind) = rest.split_at(len);
+        rest = behind;
+        if character {
+            out.extend_from_slice(piece);
+            replaced += usize::from(rules.counted == Counted::Shown && piece == REPLACEMENT);
+        } else {
+            let one = if rules.one_for_each_byte { len } else { 1 };
+            out.extend_from_slice(&REPLACEMENT.repeat(one));
+            replaced += if rules.counted == Counted::Byte { len } else { one };
+        }
     }
-    let mut out = Vec::new();
-    for chunk in text.utf8_chunks() {
-        out.extend_from_slice(chunk.valid().as_bytes());
-        out.extend_from_slice("\u{FFFD}".repeat(chunk.invalid().len()).as_bytes());
-    }
-    out
+    (out, replaced)
 }
+
+/// U+FFFD.
+const REPLACEMENT: &[u8] = "\u{FFFD}".as_bytes();
 
 struct Walk<'a> {
     section: &'a [u8],
@@ -188,10 +232,10 @@ impl Walk<'_> {
 
     fn text(&mut self, start: usize, len: usize) -> Result<(), Stop> {
         self.spend(len)?;
-        let text = decoded(&self.section[start..start + len], self.rules);
+        let (text, replaced) = decoded(&self.section[start..start + len], self.rules);
         self.word(text.len())?;
         self.flat.texts.extend_from_slice(&text);
-        self.places.push(TextAt { start, len });
+        self.places.push(TextAt { start, len, replaced });
         Ok(())
     }
 

@@ -62,6 +62,7 @@ pub mod round_trips;
 pub mod sample;
 pub mod sample_records;
 pub mod sections;
+pub mod texts;
 pub mod trials;
 pub mod writer;
 pub mod writing;

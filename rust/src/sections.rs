@@ -1,7 +1,7 @@
 //! Sections to read: what one holds (`Shape`), where its parts lie (`placed`), and the kinds of section that are looked
 //! at, from those of the writer to noise. The same seed gives the same sections.
 use crate::chars::{WORDS, boundary_pieces, char_of_len, damage, push, push_char};
-use crate::layout::{FLEU, TARGET_NUMBERS};
+use crate::layout::{FLEU, Rules, TARGET_NUMBERS, walk};
 use crate::random::Random;
 use crate::record::{LIMIT, PAI1};
 
@@ -712,6 +712,25 @@ fn changes(maker: &mut Maker, section: &Section, see: See) {
     }
 }
 
+/// A section with other bytes where its texts lie: characters, U+FFFD among them, and pieces that are ill-formed.
+fn respelled(maker: &mut Maker, mut section: Vec<u8>) -> Vec<u8> {
+    let Some(walked) = walk(&section, &Rules::DOCUMENT, 100_000) else { return section };
+    for place in walked.places {
+        let mut text = Vec::new();
+        while text.len() < place.len {
+            match maker.random.below(4) {
+                0 => push(&mut text, '\u{FFFD}'),
+                1 => text.extend_from_slice(maker.random.one(&maker.pieces).as_slice()),
+                2 => push_char(&mut maker.random, &mut text),
+                _ => text.push(b'a'),
+            }
+            text.retain(|&byte| byte != 0);
+        }
+        section[place.start..place.start + place.len].copy_from_slice(&text[..place.len]);
+    }
+    section
+}
+
 /// At least `count` sections of the kinds that are made at random.
 pub fn random_sections(maker: &mut Maker, count: u64, see: See) {
     let mut made = 0;
@@ -734,6 +753,12 @@ pub fn random_sections(maker: &mut Maker, count: u64, see: See) {
             changes(maker, &small, &mut |kind, section| {
                 see(kind, section);
             });
+        }
+        for (_, style, placing) in READABLE {
+            for _ in 0..100 {
+                let section = maker.section(style, placing).bytes;
+                see("other texts", &respelled(maker, section));
+            }
         }
         for _ in 0..800 {
             let count = maker.few(200);
@@ -813,9 +838,93 @@ fn two_names(see: See) {
     }
 }
 
+/// The kind of `replaced_characters`.
+pub const REPLACED: &str = "replaced characters";
+
+/// Texts in which characters are replaced, and such with a U+FFFD, which is not.
+const ILL_FORMED: [&[u8]; 14] = [
+    b"\x80",
+    b"\xE2\x82",
+    b"\xC0\x80",
+    b"\xED\xA0\x80",
+    b"\xF0\x90\x80",
+    b"\xF4\x8F\xBF",
+    b"\xEF\xBF",
+    b"\xEF\xBF\xBD",
+    b"\xEF\xBF\xBDa\xEF\xBF\xBD",
+    b"\x80\xEF\xBF\xBD\x80",
+    b"\xEF\xBF\xBD\xEF\xBF",
+    b"a\xE2\x82b\xFFc\xF0\x9F\x8E",
+    // in Latin-1 and in Shift-JIS
+    b"Gr\xF6\xDFe",
+    b"\x89\xE6\x96\xCA",
+];
+
+/// Textures, names and keys of extended data that are ill-formed: each of them alone, several together, and texts that more
+/// than one offset leads to.
+fn replaced_characters(see: See) {
+    let named = |name: &[u8]| {
+        let mut shape = one_content(0, vec![]);
+        shape.contents[0].name = field(name);
+        shape
+    };
+    let keyed = |key: &[u8]| one_datum(Datum { key: key.to_vec(), ..datum_k() });
+    for text in ILL_FORMED {
+        see(REPLACED, &written(&Shape { textures: vec![text.to_vec()], ..Shape::default() }));
+        see(REPLACED, &written(&named(text)));
+        see(REPLACED, &written(&keyed(text)));
+    }
+    let mut section = content_p();
+    section[24] = 0x80;
+    see(REPLACED, &section);
+    // a name that is cut inside a character, one of 28 subparts, and what lies behind a name's zero
+    for end in [&b"\xC3\xA9"[..], b"\xC3", b"\xE2\x82", b"\xF0\x9F\x8E", b"\xEF\xBF\xBD", b"\xEF\xBF"] {
+        let mut name = [b'a'; 28];
+        name[28 - end.len()..].copy_from_slice(end);
+        see(REPLACED, &written(&named(&name)));
+    }
+    see(REPLACED, &written(&named(&[0x80; 28])));
+    see(REPLACED, &written(&named(b"a\0\x80\xFF")));
+    see(REPLACED, &written(&named(b"\x80\0\x80\xFF")));
+    // the sum over all sorts of texts, the last of them well-formed and not
+    for last in [&b"k"[..], b"\xEF\xBF\xBD", b"\xED\xA0\x80"] {
+        let mut shape = keyed(last);
+        shape.textures = vec![b"\x80".to_vec(), b"a".to_vec(), b"\xC0\x80".to_vec()];
+        shape.contents[0].name = field(b"\xE2\x82P\xFF\xFF");
+        see(REPLACED, &written(&shape));
+        let content = shape.contents[0].clone();
+        shape.contents.insert(0, content);
+        see(REPLACED, &written(&shape));
+    }
+    for text in [&b"\xC0\x80"[..], "\u{E9}t\u{E9}".as_bytes(), b"\xF0\x9F\x8E"] {
+        // two textures that are one, and the second from the middle of the first on
+        let section = written(&Shape { textures: vec![text.to_vec(), b"b".to_vec()], ..Shape::default() });
+        for offset in 8..8 + text.len() {
+            let mut section = section.clone();
+            put(&mut section, 24, offset);
+            see(REPLACED, &section);
+        }
+        // two contents that are one
+        let mut shape = named(text);
+        shape.contents.push(shape.contents[0].clone());
+        let mut section = written(&shape);
+        section.copy_within(20..24, 24);
+        see(REPLACED, &section);
+        // a texture that is a content's name, and one that is a key
+        for mut shape in [named(text), keyed(text)] {
+            shape.textures = vec![b"b".to_vec()];
+            let mut section = written(&shape);
+            let at = section.windows(text.len()).position(|part| part == text).unwrap();
+            put(&mut section, 20, at - 20);
+            see(REPLACED, &section);
+        }
+    }
+}
+
 /// Sections that are the same for every seed.
 pub fn fixed_sections(see: See) {
     two_names(see);
+    replaced_characters(see);
     let kind = "document 01's exercises";
     see(kind, &[]);
     see(kind, b"pai1\x14\0");

@@ -12,7 +12,7 @@ use crate::journal::ENTRY_WORDS;
 use crate::layout::{Rules, TARGET_NUMBERS, Walked, walk};
 use crate::machine::Machine;
 use crate::proved::Proved;
-use crate::reader::Reader;
+use crate::reader::{READ_NUMBERS, Reader};
 use crate::record::{flat, reference, values_at};
 use crate::sections::{
     Maker, Placing, READABLE, Style, Target, fixed_sections, large_sections, one_target, placed, random_sections, speed,
@@ -120,9 +120,10 @@ impl Beside {
                 return Err("the reference reads another record than the machine's".to_owned());
             }
             let (mut words, mut texts) = (vec![0; wanted.words.len()], vec![0; wanted.texts.len()]);
-            let mut said = [9; 3];
+            let mut said = [9; READ_NUMBERS];
             Proved.read(after, &mut words, &mut texts, &mut said);
-            if said != [0, words.len(), texts.len()] || words != wanted.words || texts != wanted.texts {
+            // what the writer has written is well-formed
+            if said != [0, words.len(), texts.len(), 0] || words != wanted.words || texts != wanted.texts {
                 return Err("the reader reads another record than the machine's".to_owned());
             }
         }

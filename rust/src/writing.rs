@@ -5,7 +5,7 @@ use crate::guarded::Guarded;
 use crate::judging::{NAME, Written, written};
 use crate::layout::{Rules, walk};
 use crate::random::Random;
-use crate::reader::{MOST_ASKED, Reader};
+use crate::reader::{MOST_ASKED, READ_NUMBERS, Reader, invalid_in};
 use crate::record::{Flat, LIMIT, flat};
 use crate::records::{Given, fixed_records, large_records, random_records};
 use crate::sections::Maker;
@@ -110,16 +110,17 @@ impl<'a> Writing<'a> {
     /// Reads a section and writes what was read. The bytes are those that the reference writes of what it reads itself,
     /// unless that is beyond the limits.
     fn read_and_write(&mut self, section: &[u8]) {
-        if walk(section, &Rules::DOCUMENT, MOST).is_none_or(|walked| walked.asked > MOST_ASKED) {
+        let Some(walked) = walk(section, &Rules::DOCUMENT, MOST) else { return };
+        if walked.asked > MOST_ASKED {
             return;
         }
         let Ok(BflanSections::PaneAnimInfo(tree)) = parse(section) else { return };
         let wanted = flat(&tree);
         let (n, m) = (wanted.words.len(), wanted.texts.len());
         let mut record = Flat { words: vec![0; n], texts: vec![0; m] };
-        let mut answer = [0; 3];
+        let mut answer = [0; READ_NUMBERS];
         self.reader.read(section, &mut record.words, &mut record.texts, &mut answer);
-        if answer != [0, n, m] || record != wanted {
+        if answer != [0, n, m, invalid_in(section, &walked)] || record != wanted {
             return self
                 .differs(&wanted, format!("a section is read with the answer {answer:?}, or not as this record"));
         }

@@ -2,9 +2,12 @@
 //! readers is caught.
 mod slips;
 
+use std::collections::BTreeMap;
+
 use compare::bflan::file::BflanSections;
+use compare::chars::invalid_chunks;
 use compare::comparison::Comparison;
-use compare::layout::{FLEU, Rules};
+use compare::layout::{Counted, FLEU, Rules, walk};
 use compare::proved::Proved;
 use compare::random::Random;
 use compare::reader::{ByLayout, ByReference, Reader};
@@ -64,6 +67,19 @@ fn a_replacement_for_each_byte_is_caught() {
     caught(&ByLayout(Rules { one_for_each_byte: true, ..Rules::DOCUMENT }));
 }
 
+#[test]
+fn a_count_of_each_bad_byte_is_caught() {
+    let (section, what) = caught(&ByLayout(Rules { counted: Counted::Byte, ..Rules::DOCUMENT }));
+    // a texture of two bytes that are one subpart is enough
+    assert!((26..=28).contains(&section.len()), "{what}");
+}
+
+#[test]
+fn a_count_of_a_replacement_character_that_was_there_is_caught() {
+    let (section, what) = caught(&ByLayout(Rules { counted: Counted::Shown, ..Rules::DOCUMENT }));
+    assert!(section.windows(3).any(|text| text == "\u{FFFD}".as_bytes()), "{what}");
+}
+
 slips! {
     /// What a reader can do wrong with the lists that it is given, or in the order of its refusals.
     READERS:
@@ -80,6 +96,17 @@ slips! {
         FindsOneTextMore,
         FindsBeforeReading,
         FindsAnEqualText;
+    /// What a reader can do wrong in telling how many characters were replaced.
+    COUNTERS:
+        CountsTheLastTextAlone,
+        CountsInBothWalks,
+        CountsSharedTextsOnce,
+        CountsBehindANamesZero,
+        CountsNoCharacterThatANamesEndCuts,
+        CountsWhereRefused,
+        CountsWhereTheTextIsInTheSection,
+        CountsAllTextsForOne,
+        CountsNothingForOne;
 }
 
 struct Slipping(Slip);
@@ -89,35 +116,64 @@ const RIGHT: ByLayout = ByLayout(Rules::DOCUMENT);
 impl Reader for Slipping {
     fn read(&self, section: &[u8], words: &mut [u32], texts: &mut [u8], answer: &mut [usize]) {
         RIGHT.read(section, words, texts, answer);
-        let &mut [number, n, m] = answer else { return };
+        let &mut [number, n, m, replaced] = answer else { return };
+        let walked = walk(section, &Rules::DOCUMENT, usize::MAX).unwrap();
         match self.0 {
             Slip::StoresBeforeRefusing if number != 0 && !words.is_empty() => words[0] = 60,
             Slip::StoresPastTheRecord if number == 0 && texts.len() > m => texts[m] = 0,
             Slip::StoresPastTheList if number == 0 && words.len() == n => unsafe { *words.as_mut_ptr().add(n) = 0 },
             Slip::NeedsOneWordMore if number == 5 => answer[1] += 1,
             Slip::NeedsOneByteMore if number == 5 => answer[2] += 1,
-            Slip::RefusesTheRoomFirst if number == 3 && words.len() < 4 => answer.copy_from_slice(&[5, 4, 0]),
+            Slip::RefusesTheRoomFirst if number == 3 && words.len() < 4 => answer.copy_from_slice(&[5, 4, 0, 0]),
             Slip::RefusesAnExactFit if number == 0 && words.len() == n => answer[0] = 5,
             Slip::AnswersLikeAnother if number == 4 => answer[2] = 1,
+            Slip::CountsTheLastTextAlone if number == 0 => {
+                answer[3] = walked.places.last().map_or(0, |place| place.replaced);
+            }
+            Slip::CountsInBothWalks if number == 0 => answer[3] = 2 * replaced,
+            Slip::CountsSharedTextsOnce if number == 0 => {
+                let texts: BTreeMap<usize, usize> =
+                    walked.places.iter().map(|place| (place.start, place.replaced)).collect();
+                answer[3] = texts.values().sum();
+            }
+            Slip::CountsBehindANamesZero if number == 0 => {
+                for name in walked.places.iter().skip(words[2] as usize) {
+                    let behind = section.get(name.start + name.len..name.start + 28).unwrap_or(&[]);
+                    // a key of extended data may be taken for a name here, which is a mistake as well
+                    answer[3] += invalid_chunks(behind);
+                }
+            }
+            Slip::CountsNoCharacterThatANamesEndCuts if number == 0 => {
+                let cut = |end: &[u8]| std::str::from_utf8(end).is_err_and(|error| error.error_len().is_none());
+                for name in walked.places.iter().skip(words[2] as usize).filter(|place| place.len == 28) {
+                    let last = name.bytes(section).utf8_chunks().last();
+                    answer[3] -= usize::from(last.is_some_and(|chunk| cut(chunk.invalid())));
+                }
+            }
+            Slip::CountsWhereRefused if number == 5 => answer[3] = walked.replaced(),
             _ => {}
         }
     }
 
     fn find_text(&self, section: &[u8], text: usize, scratch: &mut [u8], answer: &mut [usize]) {
         RIGHT.find_text(section, text, scratch, answer);
-        let &mut [number, source, start, len] = answer else { return };
+        let &mut [number, source, start, len, replaced] = answer else { return };
+        let sum = walk(section, &Rules::DOCUMENT, usize::MAX).unwrap().replaced();
         match self.0 {
             Slip::FillsTheScratch if number == 0 && source == 1 => scratch[len..].fill(0),
             Slip::CopiesWellFormedTexts if number == 0 && source == 0 && scratch.len() >= len => {
                 scratch[..len].copy_from_slice(&section[start..start + len]);
-                answer.copy_from_slice(&[0, 1, 0, len]);
+                answer.copy_from_slice(&[0, 1, 0, len, 0]);
             }
-            Slip::FindsOneTextMore if number == 10 && text < 9 => answer.copy_from_slice(&[0, 0, 0, 0]),
-            Slip::FindsBeforeReading if number == 3 && text > 9 => answer.copy_from_slice(&[10, 0, 0, 0]),
+            Slip::FindsOneTextMore if number == 10 && text < 9 => answer.copy_from_slice(&[0; 5]),
+            Slip::FindsBeforeReading if number == 3 && text > 9 => answer.copy_from_slice(&[10, 0, 0, 0, 0]),
             Slip::FindsAnEqualText if number == 0 && source == 0 => {
                 answer[2] =
                     section.windows(len.max(1)).position(|w| w[..len] == section[start..start + len]).unwrap_or(start);
             }
+            Slip::CountsWhereTheTextIsInTheSection if number == 0 && source == 0 => answer[4] = sum,
+            Slip::CountsAllTextsForOne if number == 0 && source == 1 => answer[4] = sum,
+            Slip::CountsNothingForOne if number == 0 && replaced > 1 => answer[4] = 0,
             _ => {}
         }
     }
@@ -125,7 +181,7 @@ impl Reader for Slipping {
 
 #[test]
 fn slips_are_caught() {
-    for &slip in READERS {
+    for &slip in READERS.iter().chain(COUNTERS) {
         let reader = Slipping(slip);
         let comparison = compared(&reader);
         assert!(comparison.differences > 0, "{slip:?}");
@@ -196,7 +252,12 @@ fn the_sample_is_replayed() {
         Rules { key_text_from: 4, ..right },
         Rules { targets_bounded: false, ..right },
         Rules { one_for_each_byte: true, ..right },
+        Rules { counted: Counted::Byte, ..right },
+        Rules { counted: Counted::Shown, ..right },
     ] {
         assert!(replay(&sample.bytes, &ByLayout(rules)).1.is_some());
+    }
+    for &slip in COUNTERS {
+        assert!(replay(&sample.bytes, &Slipping(slip)).1.is_some(), "{slip:?}");
     }
 }

@@ -9,7 +9,7 @@ use compare::bflan::file::BflanSections;
 use compare::bflan::targets::{AnimTarget, TargetIndex};
 use compare::core::FormatError;
 use compare::proved::Proved;
-use compare::reader::Reader;
+use compare::reader::{READ_NUMBERS, Reader};
 use compare::record::{Flat, LIMIT, flat};
 use compare::writer::Writer;
 use compare::{parse, serialize};
@@ -28,11 +28,12 @@ fn eof(section: &[u8]) -> (usize, usize) {
     }
 }
 
-/// What the reader answers, with tables of no length.
+/// What the reader answers, with tables of no length and without the count of replaced characters, which is 0 then.
 fn here(section: &[u8]) -> [usize; 3] {
-    let mut answer = [usize::MAX; 3];
+    let mut answer = [usize::MAX; READ_NUMBERS];
     Proved.read(section, &mut [], &mut [], &mut answer);
-    answer
+    let [number, a, b, 0] = answer else { panic!("{answer:?}") };
+    [number, a, b]
 }
 
 /// What the writer answers for the flat record of a record, with room enough for what the reference writes.

@@ -1,7 +1,7 @@
 //! Document 01's exercises and refusals for reading and writing, put to the proved calls. What is expected are the pages' own
 //! numbers and bytes; the reference is not asked.
 use compare::proved::Proved;
-use compare::reader::Reader;
+use compare::reader::{FIND_NUMBERS, READ_NUMBERS, Reader};
 use compare::writer::Writer;
 
 const LIMIT: usize = 16_777_216;
@@ -15,19 +15,34 @@ const SMALLEST: [u8; 20] = *b"pai1\x14\0\0\0\x3C\0\x01\0\0\0\0\0\x14\0\0\0";
 const MARK: u8 = 0xA5;
 
 /// Reads into tables of so many words and bytes: the answer, and the tables.
-fn read(section: &[u8], words: usize, texts: usize) -> ([usize; 3], Vec<u32>, Vec<u8>) {
+fn read(section: &[u8], words: usize, texts: usize) -> ([usize; READ_NUMBERS], Vec<u32>, Vec<u8>) {
     let (mut words, mut texts) = (vec![MARK as u32; words], vec![MARK; texts]);
-    let mut answer = [usize::MAX; 3];
+    let mut answer = [usize::MAX; READ_NUMBERS];
     Proved.read(section, &mut words, &mut texts, &mut answer);
     (answer, words, texts)
 }
 
-/// The record of a section that is read.
+/// The record of a section that is read, and how many of its characters were replaced.
+fn counted(section: &[u8]) -> (Vec<u32>, Vec<u8>, usize) {
+    let ([5, n, m, 0], _, _) = read(section, 0, 0) else { panic!("not read: {:?}", read(section, 0, 0).0) };
+    let ([0, stored, bytes, replaced], words, texts) = read(section, n, m) else { panic!("{n} words, {m} text bytes") };
+    assert_eq!((stored, bytes), (n, m));
+    (words, texts, replaced)
+}
+
+/// The record of a section that is read, in which no character was replaced.
 fn record(section: &[u8]) -> (Vec<u32>, Vec<u8>) {
-    let ([5, n, m], _, _) = read(section, 0, 0) else { panic!("not read: {:?}", read(section, 0, 0).0) };
-    let (answer, words, texts) = read(section, n, m);
-    assert_eq!(answer, [0, n, m]);
+    let (words, texts, replaced) = counted(section);
+    assert_eq!(replaced, 0);
     (words, texts)
+}
+
+/// Where a text is found, its start and its length there, and how many of its characters were replaced.
+fn found(section: &[u8], text: usize) -> [usize; 4] {
+    let mut answer = [usize::MAX; FIND_NUMBERS];
+    Proved.find_text(section, text, &mut [MARK; 99], &mut answer);
+    let [0, found @ ..] = answer else { panic!("{answer:?}") };
+    found
 }
 
 /// Writes into an output of so many bytes: the number and the value, and the output.
@@ -115,16 +130,38 @@ fn ill_formed_texts() {
     for (text, count) in [(&b"\xE2\x82"[..], 1), (b"\xC0\x80", 2), (b"\xED\xA0\x80", 3)] {
         let mut section = b"pai1\x1C\0\0\0\0\0\0\0\x01\0\0\0\x1C\0\0\0\x04\0\0\0\0\0\0\0".to_vec();
         section[24..24 + text.len()].copy_from_slice(text);
-        assert_eq!(record(&section), (vec![0, 0, 1, 0, 3 * count as u32], b"\xEF\xBF\xBD".repeat(count)));
+        let words = vec![0, 0, 1, 0, 3 * count as u32];
+        assert_eq!(counted(&section), (words, b"\xEF\xBF\xBD".repeat(count), count));
+        assert_eq!(found(&section, 0), [1, 0, 3 * count, count]);
         // as a record's text it is refused where the first subpart starts
         assert_eq!(refused(&[0, 0, 1, 0, text.len() as u32], text, 64), (7, 0));
     }
 }
 
+/// A U+FFFD that the section holds is a character, and not counted.
+#[test]
+fn a_replacement_character_that_was_there() {
+    let section = section(&[0, 0, 1, 0, 3], b"\xEF\xBF\xBD");
+    assert_eq!(counted(&section), (vec![0, 0, 1, 0, 3], b"\xEF\xBF\xBD".to_vec(), 0));
+    assert_eq!(found(&section, 0), [0, 24, 3, 0]);
+}
+
+/// Content `P` with the byte 80 for its name: 15 words, 3 text bytes, 1 replaced.
+#[test]
+fn a_name_of_one_ill_formed_byte() {
+    let (mut words, texts) = content_p();
+    let mut section = section(&words, &texts);
+    section[24] = 0x80;
+    assert_eq!(read(&section, 15, 3).0, [0, 15, 3, 1]);
+    words[4] = 3;
+    assert_eq!(counted(&section), (words, b"\xEF\xBF\xBD".to_vec(), 1));
+    assert_eq!(found(&section, 0), [1, 0, 3, 1]);
+}
+
 #[test]
 fn too_short() {
-    assert_eq!(read(b"", 9, 9).0, [3, 0, 4]);
-    assert_eq!(read(b"pai1\x14\0", 9, 9).0, [3, 4, 4]);
+    assert_eq!(read(b"", 9, 9).0, [3, 0, 4, 0]);
+    assert_eq!(read(b"pai1\x14\0", 9, 9).0, [3, 4, 4, 0]);
 }
 
 #[test]
@@ -168,9 +205,9 @@ fn a_last_step_key_without_its_skipped_bytes_reads() {
     assert_eq!(record(&cut), (words, texts));
     // a byte less, and the value is not whole
     cut.pop();
-    assert_eq!(read(&cut, 99, 99).0, [3, 88, 2]);
+    assert_eq!(read(&cut, 99, 99).0, [3, 88, 2, 0]);
     // the size is sought at last
-    assert_eq!(read(&whole[..90], 99, 99).0, [3, 90, 2]);
+    assert_eq!(read(&whole[..90], 99, 99).0, [3, 90, 2, 0]);
 }
 
 /// The refusals of reading, with what is returned; no list changes.
@@ -183,18 +220,18 @@ fn refusals_of_reading() {
     let unended = *b"pai1\x1C\0\0\0\0\0\0\0\x01\0\0\0\x1C\0\0\0\x04\0\0\0aaaa";
     let letters = u32::from_le_bytes(*b"qai1") as usize;
     for (section, room, wanted) in [
-        (&other[..], (4, 0), [1, letters, 0]),
-        (&long, (4, 0), [2, LIMIT + 1, 0]),
-        (&SMALLEST[..19], (4, 0), [3, 16, 4]),
-        (&unended, (9, 9), [4, 24, 0]),
-        (&SMALLEST, (3, 0), [5, 4, 0]),
+        (&other[..], (4, 0), [1, letters, 0, 0]),
+        (&long, (4, 0), [2, LIMIT + 1, 0, 0]),
+        (&SMALLEST[..19], (4, 0), [3, 16, 4, 0]),
+        (&unended, (9, 9), [4, 24, 0, 0]),
+        (&SMALLEST, (3, 0), [5, 4, 0, 0]),
     ] {
         let (answer, words, texts) = read(section, room.0, room.1);
         assert_eq!(answer, wanted);
         assert!(words.iter().all(|&word| word == MARK as u32) && texts.iter().all(|&byte| byte == MARK));
     }
     // the limit itself
-    assert_eq!(read(&long[..LIMIT], 4, 0).0, [0, 4, 0]);
+    assert_eq!(read(&long[..LIMIT], 4, 0).0, [0, 4, 0, 0]);
 }
 
 /// The refusals of writing, with what is returned; the output does not change.

@@ -5,6 +5,7 @@ use compare::bflan::file::BflanSections;
 use compare::bflan::targets::TargetIndex;
 use compare::calls::change;
 use compare::change::Place;
+use compare::chars::invalid_chunks;
 use compare::layout::{Rules, walk};
 use compare::parse;
 use compare::record::values_at;
@@ -124,6 +125,35 @@ fn records() {
         }
         assert!(read > 200 && seen > 500, "{kind}: {read} sections with {seen} keys and values are too few");
     }
+}
+
+/// How many characters are replaced in a section and in each of its texts, beside the standard library's count in the bytes
+/// of the texts.
+#[test]
+fn replaced_characters() {
+    let mut maker = Maker::new(20_261_118);
+    let (mut ill, mut well) = (0, 0);
+    for (_, style, placing) in READABLE {
+        for _ in 0..300 {
+            let section = maker.section(style, placing).bytes;
+            let Ok(reading) = pai1::read_counted(&section, usize::MAX, usize::MAX) else { continue };
+            let walked = walk(&section, &Rules::DOCUMENT, usize::MAX).unwrap();
+            let mut sum = 0;
+            for (number, place) in walked.places.iter().enumerate() {
+                let bytes = place.bytes(&section);
+                let found = pai1::text_counted(&section, number).unwrap();
+                let wanted = invalid_chunks(bytes);
+                assert_eq!((&*found.text, found.replaced), (&*String::from_utf8_lossy(bytes), wanted));
+                assert_eq!(pai1::text(&section, number), Ok(found.text));
+                sum += wanted;
+            }
+            assert_eq!(pai1::text(&section, walked.places.len()), Err(pai1::Refusal::NoSuchPlace));
+            assert_eq!(reading.replaced, sum);
+            assert_eq!(pai1::read(&section), Ok(reading.record));
+            *(if sum > 0 { &mut ill } else { &mut well }) += 1;
+        }
+    }
+    assert!(ill > 500 && well > 300, "{ill} with replaced characters, {well} without");
 }
 
 /// A place in the crate's words.

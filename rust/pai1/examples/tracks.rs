@@ -3,7 +3,7 @@
 use std::error::Error;
 use std::io::Read;
 
-use pai1::{AnimInfo, Change, HermiteKey, Key, Record, Refusal, Section, StepKey, TargetPlace};
+use pai1::{AnimInfo, Change, HermiteKey, Key, Reading, Record, Refusal, Section, StepKey, TargetPlace};
 
 /// The most words and text bytes that a record may need: what a section of a stranger may ask for is not bounded by its
 /// length.
@@ -24,8 +24,11 @@ fn main() -> Result<(), Box<dyn Error>> {
 /// Prints a section, edits a key of it, and takes the edit back.
 fn show(bytes: Vec<u8>) -> Result<(), Refusal> {
     let mut section = Section::new(bytes)?;
-    let record = section.read_within(MOST, MOST)?;
+    let Reading { record, replaced } = section.read_counted(MOST, MOST)?;
     print(&record);
+    if replaced > 0 {
+        println!("characters that are not UTF-8 and were replaced: {replaced}");
+    }
     change_a_key(&mut section, &record)
 }
 

@@ -4,7 +4,8 @@
 //! Any bytes end in an answer: a result, or a [`Refusal`] that says what is wrong and has changed nothing. Nothing here
 //! is unsafe to call, and no argument has to be checked before.
 //!
-//! - [`read`] gives a section's [`Record`], and [`text`] one of its texts alone.
+//! - [`read`] gives a section's [`Record`], and [`text`] one of its texts alone. [`read_counted`] and [`text_counted`] also
+//!   say how many characters were replaced since the bytes are not UTF-8: a name that was saved in another encoding.
 //! - [`write()`] gives a record's section. A record that is written is read back bit for bit.
 //! - [`edit`] changes a field of a finished section in place, and [`undo`] takes the last edit back by its [`Journal`].
 //!   A [`Section`] has the bytes and the journal together.
@@ -32,6 +33,7 @@
 use std::borrow::Cow;
 
 mod change;
+mod counted;
 mod journal;
 mod names;
 pub mod raw;
@@ -40,6 +42,7 @@ mod refusal;
 mod section;
 
 pub use change::{Change, Place, TargetPlace, ValuePlace};
+pub use counted::{Reading, Text};
 pub use journal::{Entry, Journal};
 pub use names::{AnimInfoType, AnimType, TargetIndex};
 pub use record::{
@@ -82,6 +85,37 @@ pub fn read(section: &[u8]) -> Result<Record, Refusal> {
 ///
 /// Refused as [`needs`] is, and with [`Refusal::TablesTooShort`] where the record needs more.
 pub fn read_within(section: &[u8], most_words: usize, most_texts: usize) -> Result<Record, Refusal> {
+    read_counted(section, most_words, most_texts).map(|reading| reading.record)
+}
+
+/// Reads a section as [`read_within`] does, and says how many characters were replaced in the record's texts.
+///
+/// A text of a section should be UTF-8. Where it is not, each maximal ill-formed subpart becomes one U+FFFD, and what stood
+/// there cannot be told from the record. The count says that this has happened: as a rule, some program has saved the names
+/// in another encoding, and writing the record would lose them. A U+FFFD that the section itself holds, well-formed, is a
+/// character like another and not counted, so looking for U+FFFD in the texts does not tell.
+///
+/// Refused as [`read_within`] is.
+///
+/// ```
+/// // content `P`, a Pane, with a Step key (0.0, 1) for its visibility
+/// let flvi = u32::from_le_bytes(*b"FLVI");
+/// let words = vec![60, 0, 0, 1, 1, 0, 1, flvi, 1, 0, 0, 1, 1, 0, 1];
+/// let mut section = pai1::Record::new(words, b"P".to_vec())?.write()?;
+/// assert_eq!(pai1::read_counted(&section, 100, 100)?.replaced, 0);
+///
+/// // the name is the byte 80, which is no UTF-8
+/// section[24] = 0x80;
+/// let reading = pai1::read_counted(&section, 100, 100)?;
+/// assert_eq!((reading.record.words().len(), reading.record.texts(), reading.replaced), (15, "\u{FFFD}", 1));
+///
+/// // the name is a U+FFFD
+/// section[24..27].copy_from_slice("\u{FFFD}".as_bytes());
+/// let there = pai1::read_counted(&section, 100, 100)?;
+/// assert_eq!((there.record, there.replaced), (reading.record, 0));
+/// # Ok::<(), pai1::Refusal>(())
+/// ```
+pub fn read_counted(section: &[u8], most_words: usize, most_texts: usize) -> Result<Reading, Refusal> {
     let (words, texts) = needs(section)?;
     let too_short = Refusal::TablesTooShort { words, texts };
     if words > most_words || texts > most_texts {
@@ -89,10 +123,10 @@ pub fn read_within(section: &[u8], most_words: usize, most_texts: usize) -> Resu
     }
     let mut word_table: Vec<u32> = zeros(words).ok_or(too_short)?;
     let mut text_table: Vec<u8> = zeros(texts).ok_or(too_short)?;
-    let mut answer = [0; 3];
+    let mut answer = [0; 4];
     raw::read(section, &mut word_table, &mut text_table, &mut answer);
-    accepted(answer)?;
-    Ok(Record::shaped(word_table, text_table))
+    let [_, _, _, replaced] = accepted(answer)?;
+    Ok(Reading { record: Record::shaped(word_table, text_table), replaced })
 }
 
 /// So many zeros, if there is memory for them.
@@ -116,19 +150,38 @@ fn zeros<T: Clone + From<u8>>(count: usize) -> Option<Vec<T>> {
 /// # Ok::<(), pai1::Refusal>(())
 /// ```
 pub fn text(section: &[u8], number: usize) -> Result<Cow<'_, str>, Refusal> {
+    text_counted(section, number).map(|found| found.text)
+}
+
+/// One text of a section as [`text`] gives it, and how many of its characters were replaced: none where it is borrowed, and
+/// at least one where it is not. The sum over a section's texts is what [`read_counted`] says.
+///
+/// Refused as [`text`] is.
+///
+/// ```
+/// let mut section = pai1::Record::new(vec![0, 0, 1, 0, 3], b"fin".to_vec())?.write()?;
+/// assert_eq!(pai1::text_counted(&section, 0)?.replaced, 0);
+/// // the texture's name begins with the two bytes C0 80, neither of which begins a character
+/// section[24..26].copy_from_slice(b"\xC0\x80");
+/// let found = pai1::text_counted(&section, 0)?;
+/// assert_eq!((&*found.text, found.replaced), ("\u{FFFD}\u{FFFD}n", 2));
+/// # Ok::<(), pai1::Refusal>(())
+/// ```
+pub fn text_counted(section: &[u8], number: usize) -> Result<Text<'_>, Refusal> {
     let mut scratch = Vec::new();
-    let mut answer = [0; 4];
+    let mut answer = [0; 5];
     raw::find_text(section, number, &mut scratch, &mut answer);
     if let Err(Refusal::ScratchTooShort { bytes }) = accepted(answer) {
         scratch.resize(bytes, 0);
         raw::find_text(section, number, &mut scratch, &mut answer);
     }
-    let [_, source, start, len] = accepted(answer)?;
+    let [_, source, start, len, replaced] = accepted(answer)?;
     const WELL_FORMED: &str = "a text that is found is well-formed";
-    Ok(match source {
+    let text = match source {
         0 => Cow::Borrowed(std::str::from_utf8(&section[start..start + len]).expect(WELL_FORMED)),
         _ => Cow::Owned(String::from_utf8(scratch).expect(WELL_FORMED)),
-    })
+    };
+    Ok(Text { text, replaced })
 }
 
 /// Writes a record's section.

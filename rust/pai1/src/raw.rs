@@ -5,14 +5,32 @@
 //! into the address and the length that C passes.
 //!
 //! A call that can be refused stores document 01's number and values in `answer`, with zeros behind them: three numbers,
-//! four for [`find_text`], or five for what stands in a field. What `answer` has no place for is dropped, and no other place of it changes.
+//! four for [`read`], five for [`find_text`] and for what stands in a field. What `answer` has no place for is dropped, and
+//! no other place of it changes.
+//!
+//! A decoding, a reading and a text that is found tell how many characters were replaced: the maximal ill-formed subparts,
+//! each of which becomes one U+FFFD. A U+FFFD that the bytes held already is a character like another, and not counted.
 #![allow(unsafe_code)]
 #![allow(clippy::too_many_arguments)]
 
 unsafe extern "C" {
     fn nnbfl_decoded_len(text: *const u8, text_len: usize) -> usize;
-    fn nnbfl_decode_into(text: *const u8, text_len: usize, out: *mut u8, out_len: usize, at: usize) -> usize;
-    fn nnbfl_decode_plain(text: *const u8, text_len: usize, out: *mut u8, out_len: usize, at: usize) -> usize;
+    fn nnbfl_decode_into(
+        text: *const u8,
+        text_len: usize,
+        out: *mut u8,
+        out_len: usize,
+        at: usize,
+        replaced: *mut usize,
+    ) -> usize;
+    fn nnbfl_decode_plain(
+        text: *const u8,
+        text_len: usize,
+        out: *mut u8,
+        out_len: usize,
+        at: usize,
+        replaced: *mut usize,
+    ) -> usize;
     fn nnbfl_well_formed(text: *const u8, text_len: usize) -> bool;
     fn nnbfl_first_ill(text: *const u8, text_len: usize) -> usize;
     fn nnbfl_first_zero(text: *const u8, text_len: usize) -> usize;
@@ -74,14 +92,14 @@ pub fn decoded_len(text: &[u8]) -> usize {
 }
 
 /// Stores the decoding of `text` in `out` from `at` on, without what would stand past the end, and returns its whole
-/// length.
-pub fn decode_into(text: &[u8], out: &mut [u8], at: usize) -> usize {
-    unsafe { nnbfl_decode_into(text.as_ptr(), text.len(), out.as_mut_ptr(), out.len(), at) }
+/// length. How many characters were replaced in the whole of it is stored in `replaced`, whatever stood there.
+pub fn decode_into(text: &[u8], out: &mut [u8], at: usize, replaced: &mut usize) -> usize {
+    unsafe { nnbfl_decode_into(text.as_ptr(), text.len(), out.as_mut_ptr(), out.len(), at, replaced) }
 }
 
 /// The same, one character at a time.
-pub fn decode_plain(text: &[u8], out: &mut [u8], at: usize) -> usize {
-    unsafe { nnbfl_decode_plain(text.as_ptr(), text.len(), out.as_mut_ptr(), out.len(), at) }
+pub fn decode_plain(text: &[u8], out: &mut [u8], at: usize, replaced: &mut usize) -> usize {
+    unsafe { nnbfl_decode_plain(text.as_ptr(), text.len(), out.as_mut_ptr(), out.len(), at, replaced) }
 }
 
 /// Whether `text` is well-formed UTF-8.
@@ -104,8 +122,8 @@ pub fn first_fault(text: &[u8]) -> usize {
     unsafe { nnbfl_first_fault(text.as_ptr(), text.len()) }
 }
 
-/// Fills the tables with a section's flat record. The answer is 0 with the words and the text bytes that were filled, or
-/// a refusal.
+/// Fills the tables with a section's flat record. The answer is 0 with the words and the text bytes that were filled and
+/// the replaced characters of all texts, or a refusal.
 pub fn read(section: &[u8], words: &mut [u32], texts: &mut [u8], answer: &mut [usize]) {
     unsafe {
         nnbfl_read(
@@ -122,7 +140,7 @@ pub fn read(section: &[u8], words: &mut [u32], texts: &mut [u8], answer: &mut [u
 }
 
 /// Finds a section's text by its number. The answer is 0 with where it lies (0 for the section, 1 for the scratch), its
-/// start there and its length, or a refusal.
+/// start there, its length and its replaced characters (0 of them where it lies in the section), or a refusal.
 pub fn find_text(section: &[u8], text: usize, scratch: &mut [u8], answer: &mut [usize]) {
     unsafe {
         nnbfl_find_text(

@@ -1,8 +1,9 @@
 use crate::change::{Change, Place};
+use crate::counted::Reading;
 use crate::journal::Journal;
 use crate::record::Record;
 use crate::refusal::Refusal;
-use crate::{edit, field_at, read, read_within, undo};
+use crate::{edit, field_at, read, read_counted, read_within, undo};
 
 /// A section that is edited: its bytes, and the journal of its edits.
 ///
@@ -64,6 +65,12 @@ impl Section {
     /// [`read_within`](crate::read_within). A section of a stranger can ask for tables far longer than itself.
     pub fn read_within(&self, most_words: usize, most_texts: usize) -> Result<Record, Refusal> {
         read_within(&self.bytes, most_words, most_texts)
+    }
+
+    /// Reads the section as [`read_within`](Section::read_within) does, and says how many characters were replaced:
+    /// [`read_counted`](crate::read_counted).
+    pub fn read_counted(&self, most_words: usize, most_texts: usize) -> Result<Reading, Refusal> {
+        read_counted(&self.bytes, most_words, most_texts)
     }
 
     /// What stands in a field now, as the change that puts it there: [`field_at`](crate::field_at).

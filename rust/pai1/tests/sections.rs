@@ -1,8 +1,8 @@
 //! Document 01's worked sections, through this crate.
 use pai1::{
     AnimContent, AnimInfo, AnimInfoType, AnimTarget, AnimType, Change, Curve, HermiteKey, Journal, Key, LIMIT, Place,
-    Record, Refusal, Section, StepKey, TargetIndex, TargetPlace, ValuePlace, edit, field_at, needs, read, read_within,
-    text, undo, write,
+    Record, Refusal, Section, StepKey, TargetIndex, TargetPlace, ValuePlace, edit, field_at, needs, read, read_counted,
+    read_within, text, text_counted, undo, write,
 };
 
 fn letters(letters: &[u8; 4]) -> u32 {
@@ -129,6 +129,94 @@ fn ill_formed_texts() {
     }
     let section = written(&[0, 0, 1, 0, 3], b"abc");
     assert!(matches!(text(&section, 0), Ok(std::borrow::Cow::Borrowed("abc"))));
+}
+
+/// A texture's name, and how many characters are replaced in it.
+#[test]
+fn replaced_characters_of_a_text() {
+    for (bytes, replaced) in [
+        (&b"abcd"[..], 0),
+        (b"\xE2\x82", 1),
+        (b"\xC0\x80", 2),
+        (b"\xED\xA0\x80", 3),
+        // three bytes that become three
+        (b"\xF0\x90\x80", 1),
+        // a U+FFFD that was there, alone and beside one that was not
+        (b"\xEF\xBF\xBD", 0),
+        (b"\xEF\xBF\xBD\xFF", 1),
+        (b"\xEF\xBF\x80\xBD", 1),
+        // names in Latin-1 and in Shift-JIS
+        (b"Gr\xF6\xDF", 2),
+        (b"\x89\xE6\x96\xCA", 3),
+    ] {
+        let mut section = written(&[0, 0, 1, 0, 4], b"abcd");
+        section[24..28].fill(0);
+        section[24..24 + bytes.len()].copy_from_slice(bytes);
+        let found = text_counted(&section, 0).unwrap();
+        assert_eq!(found.text, String::from_utf8_lossy(bytes), "{bytes:02X?}");
+        assert_eq!(found.replaced, replaced, "{bytes:02X?}");
+        assert_eq!(matches!(found.text, std::borrow::Cow::Owned(_)), replaced > 0);
+        let reading = read_counted(&section, 5, found.text.len()).unwrap();
+        assert_eq!(reading.replaced, replaced, "{bytes:02X?}");
+        // the calls that do not say the count
+        assert_eq!(text(&section, 0).unwrap(), found.text);
+        assert_eq!(read(&section).unwrap(), reading.record);
+        assert_eq!(read_within(&section, 5, found.text.len()).unwrap(), reading.record);
+    }
+}
+
+/// The sum over textures, names and keys of extended data.
+#[test]
+fn replaced_characters_of_a_section() {
+    let (words, texts) = mixture();
+    let section = Section::new(written(&words, texts)).unwrap();
+    let reading = section.read_counted(1_000, 1_000).unwrap();
+    assert_eq!((reading.record, reading.replaced), (section.read().unwrap(), 0));
+    // one text after another made ill-formed: each byte FF is a subpart of its own
+    let (mut bytes, _) = section.into_parts();
+    let mut before = 0;
+    for name in [&b"icon"[..], b"P_base", b"\xC3\xA9m", b"\xE2\x82\xAC"] {
+        let at = bytes.windows(name.len()).position(|part| part == name).unwrap();
+        bytes[at..at + name.len()].fill(0xFF);
+        let reading = read_counted(&bytes, 1_000, 1_000).unwrap();
+        assert_eq!(reading.replaced, before + name.len());
+        before = reading.replaced;
+        let count = |text| text_counted(&bytes, text).map(|found| found.replaced);
+        assert_eq!((0..).map_while(|text| count(text).ok()).sum::<usize>(), before);
+    }
+    assert_eq!(Section::new(bytes).unwrap().read_counted(1_000, 1_000).unwrap().replaced, before);
+}
+
+/// A content's name ends at its first zero, or is cut behind its 28 bytes; what lies behind is not counted.
+#[test]
+fn replaced_characters_of_a_name() {
+    let mut section = content_p();
+    section[24] = 0x80;
+    let reading = read_counted(&section, 15, 3).unwrap();
+    assert_eq!((reading.record.words().len(), reading.record.texts(), reading.replaced), (15, "\u{FFFD}", 1));
+    assert_eq!(read_counted(&section, 15, 2), Err(Refusal::TablesTooShort { words: 15, texts: 3 }));
+    // behind the zero
+    section[24..28].copy_from_slice(b"P\0\x80\x80");
+    assert_eq!(read_counted(&section, 15, 1).unwrap().replaced, 0);
+    // cut inside a character: what is left of it counts once
+    for (end, replaced) in [(&b"\xC3\xA9"[..], 0), (b"\xC3", 1), (b"\xE2\x82", 1), (b"\xF0\x9F\x8E", 1)] {
+        section[24..52].fill(b'a');
+        section[52 - end.len()..52].copy_from_slice(end);
+        assert_eq!(read_counted(&section, 99, 99).unwrap().replaced, replaced, "{end:02X?}");
+    }
+}
+
+/// A text that two offsets lead to is twice in the record.
+#[test]
+fn replaced_characters_count_as_often_as_the_record_has_them() {
+    let mut section = written(&[0, 0, 2, 0, 2, 2], b"abcd");
+    let first = number(&section, 20);
+    section[24..28].copy_from_slice(&first.to_le_bytes());
+    section[28..30].copy_from_slice(b"\xC0\x80");
+    let reading = read_counted(&section, 99, 99).unwrap();
+    assert_eq!(reading.record.textures().collect::<Vec<_>>(), ["\u{FFFD}\u{FFFD}"; 2]);
+    assert_eq!(reading.replaced, 4);
+    assert_eq!([0, 1].map(|text| text_counted(&section, text).unwrap().replaced), [2, 2]);
 }
 
 #[test]

@@ -7,6 +7,7 @@ use std::hint::black_box;
 
 use compare::args::Args;
 use compare::layout::FLEU;
+use compare::reader::FIND_NUMBERS;
 use compare::record::{LIMIT, PAI1};
 use pai1::raw;
 
@@ -65,7 +66,7 @@ impl Section {
         let all = self.count;
         let mut timed = |count: u16| {
             let section = self.with(count);
-            let mut answer = [0; 4];
+            let mut answer = [0; FIND_NUMBERS];
             let start = processor_seconds();
             call(black_box(section), &mut answer);
             let time = processor_seconds() - start;

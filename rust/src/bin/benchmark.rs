@@ -16,7 +16,7 @@ use compare::journal::ENTRY_WORDS;
 use compare::layout::{InfoAt, PartsAt, Rules, walk};
 use compare::proved::{self, Proved};
 use compare::random::Random;
-use compare::reader::Reader;
+use compare::reader::{READ_NUMBERS, Reader};
 use compare::record::{LIMIT, flat};
 use compare::sections::{content_p, speed};
 use compare::writer::Writer;
@@ -162,15 +162,15 @@ fn sections(budget: Duration) {
     println!("| one section | MB | read | parse | ratio | parse, not dropped | ratio |");
     println!("|---|---|---|---|---|---|---|");
     for (name, section) in speed::sections() {
-        let mut answer = [0; 3];
+        let mut answer = [0; READ_NUMBERS];
         Proved.read(&section, &mut [], &mut [], &mut answer);
-        let [5, words, texts] = answer else { panic!("{name}: {answer:?}") };
+        let [5, words, texts, 0] = answer else { panic!("{name}: {answer:?}") };
         let (mut words, mut texts) = (vec![1u32; words], vec![1u8; texts]);
         let read = best(budget, || {
             Proved.read(black_box(&section), &mut words, &mut texts, &mut answer);
             black_box((&words, &texts));
         });
-        assert_eq!(answer, [0, words.len(), texts.len()]);
+        assert_eq!(answer[..3], [0, words.len(), texts.len()]);
         let whole = best(budget, || drop(black_box(parse(black_box(&section)))));
         let parsed = best_of(budget, || {
             let start = Instant::now();
@@ -292,15 +292,16 @@ fn edits(budget: Duration) {
     longest.resize(LIMIT, 0);
     sections.push(("content `P`, with zeros to the limit", longest));
     for (name, mut section) in sections {
-        let mut answer = [0; 3];
+        let mut answer = [0; READ_NUMBERS];
         let measured = best_call(budget, || Proved.read(black_box(&section), &mut [], &mut [], &mut answer));
-        let [5, words, texts] = answer else { panic!("{name}: {answer:?}") };
+        let [5, words, texts, 0] = answer else { panic!("{name}: {answer:?}") };
         let (mut words, mut texts) = (vec![1u32; words], vec![1u8; texts]);
         let read = best_call(budget, || {
             Proved.read(black_box(&section), &mut words, &mut texts, &mut answer);
             black_box((&words, &texts));
         });
         assert_eq!(answer[0], 0);
+        let mut answer = [0; 3];
         let contents = walk(&section, &Rules::DOCUMENT, usize::MAX).unwrap().contents;
         let mut journal = [0; ENTRY_WORDS];
         let mut cells = vec![format!("{:.1}", section.len() as f64 / 1e6)];
@@ -343,6 +344,7 @@ fn texts(budget: Duration) {
         "A ratio above 1 means that decode_into (or well_formed) takes less time than the call it is named after.\n"
     );
     let mut out = vec![0u8; 4 * LONG];
+    let mut replaced = 0;
     for (title, inputs) in inputs() {
         println!(
             "| {title} | decode_into | from_utf8_lossy | ratio | decode_plain | ratio | well_formed | from_utf8 | ratio |"
@@ -352,7 +354,7 @@ fn texts(budget: Duration) {
             let size = input.bytes.len() as f64 / 1e9;
             let decode = best(budget, || {
                 input.each(|text| {
-                    black_box(proved::decode_into(black_box(text), &mut out, 0));
+                    black_box(proved::decode_into(black_box(text), &mut out, 0, black_box(&mut replaced)));
                 })
             });
             let lossy = best(budget, || {
@@ -362,7 +364,7 @@ fn texts(budget: Duration) {
             });
             let plain = best(budget, || {
                 input.each(|text| {
-                    black_box(proved::decode_plain(black_box(text), &mut out, 0));
+                    black_box(proved::decode_plain(black_box(text), &mut out, 0, black_box(&mut replaced)));
                 })
             });
             let formed = best(budget, || {

@@ -1,247 +1,23 @@
 //! Compares the proved code with the Rust. Usage: differential [texts|sections|records] [SEED] [MILLIONS], or differential edits
 //! [SEED] [CALLS]; without a part, all.
 //!
-//! texts: the decoding with `String::from_utf8_lossy` and `std::str::from_utf8`: every text of up to three bytes, and some
-//! millions of longer ones. sections: reading with the reference's `BflanSections::parse`, on some millions of sections.
-//! records: writing with the reference's `BflanSectionsRef::serialize`, on some millions of records. edits: edits and undos
-//! with document 01's plain machine and the reference's writing and reading of its record, and as many calls on sections,
-//! journals and counts of any kind; behind each call, what stands at a place with the machine's record or with the
-//! reference's.
+//! texts: the decoding with `String::from_utf8_lossy` and `std::str::from_utf8`, and the count of replaced characters with
+//! `utf8_chunks`: every text of up to three bytes, and some millions of longer ones. sections: reading with the reference's
+//! `BflanSections::parse`, on some millions of sections; the count with `utf8_chunks` too. records: writing with the
+//! reference's `BflanSectionsRef::serialize`, on some millions of records. edits: edits and undos with document 01's plain
+//! machine and the reference's writing and reading of its record, and as many calls on sections, journals and counts of any
+//! kind; behind each call, what stands at a place with the machine's record or with the reference's.
 use std::process::ExitCode;
 
 use compare::args::Args;
-use compare::chars::{WORDS, boundary_pieces, char_of_len, damage, push, push_char};
 use compare::comparison::Comparison;
-use compare::proved::{self, Proved};
-use compare::random::Random;
+use compare::proved::Proved;
+use compare::texts::{DECODERS, Texts};
 use compare::trials::Trials;
 use compare::writing::Writing;
 
-/// What stands in an output before a call, and must still stand where the call may not write.
-const GUARD: u8 = 0xA5;
-/// How many bytes of it stand on each side of an output.
-const MARGIN: usize = 40;
-
 /// The edits and undos that are tried beside the machine, without a number of them.
 const CALLS: u64 = 1_000_000;
-
-/// One kind of text: how many were looked at, and what they held.
-#[derive(Default)]
-struct Kind {
-    name: String,
-    texts: u64,
-    ill: u64,
-    bytes: u64,
-    calls: u64,
-}
-
-struct Run {
-    random: Random,
-    kinds: Vec<Kind>,
-    differences: u64,
-    buffer: Vec<u8>,
-}
-
-type Decode = fn(&[u8], &mut [u8], usize) -> usize;
-const DECODERS: [(&str, Decode); 2] = [("decode_into", proved::decode_into), ("decode_plain", proved::decode_plain)];
-
-impl Run {
-    fn kind(&mut self, name: &str) {
-        self.kinds.push(Kind { name: name.to_owned(), ..Kind::default() });
-    }
-
-    fn differs(&mut self, text: &[u8], call: &str, said: &dyn std::fmt::Debug, wanted: &dyn std::fmt::Debug) {
-        self.differences += 1;
-        if self.differences <= 20 {
-            let shown = &text[..text.len().min(64)];
-            println!("DIFFERS {call}: text of {} bytes {shown:02X?}: {said:?}, wanted {wanted:?}", text.len());
-        }
-    }
-
-    fn same<T: PartialEq + std::fmt::Debug>(&mut self, text: &[u8], call: &str, said: T, wanted: T) {
-        self.kinds.last_mut().unwrap().calls += 1;
-        if said != wanted {
-            self.differs(text, call, &said, &wanted);
-        }
-    }
-
-    /// Decodes into an output of `room` bytes from `at` on, and looks at every byte of the output and its margins.
-    fn decoded(&mut self, text: &[u8], wanted: &[u8], room: usize, at: usize) {
-        for (name, decode) in DECODERS {
-            let mut buffer = std::mem::take(&mut self.buffer);
-            buffer.clear();
-            buffer.resize(MARGIN + room + MARGIN, GUARD);
-            let said = decode(text, &mut buffer[MARGIN..MARGIN + room], at);
-            self.same(text, name, said, wanted.len());
-            let from = at.min(room);
-            let stored = wanted.len().min(room - from);
-            let (before, rest) = buffer.split_at(MARGIN + from);
-            let (middle, after) = rest.split_at(stored);
-            if middle != &wanted[..stored] {
-                let call = format!("{name} into {room} bytes from {at}");
-                self.differs(text, &call, &middle, &&wanted[..stored]);
-            }
-            if before.iter().chain(after).any(|&b| b != GUARD) {
-                let call = format!("{name} into {room} bytes from {at}");
-                self.differs(text, &call, &"a byte outside was written", &"none");
-            }
-            self.buffer = buffer;
-        }
-    }
-
-    /// All that is compared of one text.
-    fn look(&mut self, text: &[u8]) {
-        let lossy = String::from_utf8_lossy(text);
-        let wanted = lossy.as_bytes();
-        let ill = std::str::from_utf8(text).err().map(|e| e.valid_up_to());
-        let zero = text.iter().position(|&b| b == 0).unwrap_or(text.len());
-        let first_ill = ill.unwrap_or(text.len());
-
-        let kind = self.kinds.last_mut().unwrap();
-        kind.texts += 1;
-        kind.ill += ill.is_some() as u64;
-        kind.bytes += text.len() as u64;
-
-        self.same(text, "decoded_len", proved::decoded_len(text), wanted.len());
-        self.same(text, "well_formed", proved::well_formed(text), ill.is_none());
-        self.same(text, "first_ill", proved::first_ill(text), first_ill);
-        self.same(text, "first_zero", proved::first_zero(text), zero);
-        self.same(text, "first_fault", proved::first_fault(text), zero.min(first_ill));
-
-        // an output that fits, with bytes to spare on both sides or none
-        let (before, after) = match self.random.below(4) {
-            0 => (0, 0),
-            1 => (0, self.random.below(MARGIN)),
-            2 => (self.random.below(MARGIN), 0),
-            _ => (self.random.below(MARGIN), self.random.below(MARGIN)),
-        };
-        self.decoded(text, wanted, before + wanted.len() + after, before);
-        // one that is too short by some bytes or by nearly all
-        let most = wanted.len().saturating_sub(1);
-        let short = match self.random.below(3) {
-            0 => most.saturating_sub(self.random.below(5)),
-            1 => self.random.below(most + 1).min(self.random.below(40)),
-            _ => self.random.below(most + 1),
-        };
-        let before = if self.random.below(2) == 0 { 0 } else { self.random.below(MARGIN) };
-        self.decoded(text, wanted, before + short, before);
-        // a start at the end or past it
-        if self.random.below(8) == 0 {
-            let room = self.random.below(MARGIN);
-            let past = match self.random.below(4) {
-                0 => room,
-                1 => room + 1 + self.random.below(100),
-                2 => usize::MAX - self.random.below(text.len() + 9),
-                _ => usize::MAX,
-            };
-            self.decoded(text, wanted, room, past);
-        }
-    }
-
-    /// Looks at a text that stands at any place in memory, between bytes that do not belong to it.
-    fn look_amid(&mut self, text: &[u8]) {
-        let before = self.random.below(33);
-        let after = self.random.below(33);
-        let mut held = Vec::with_capacity(before + text.len() + after);
-        let fill = *self.random.one(&[0x00, 0x41, 0x80, 0xBF, 0xC3, 0xE2, 0xF0, 0xFF]);
-        held.resize(before, fill);
-        held.extend_from_slice(text);
-        held.resize(before + text.len() + after, fill);
-        self.look(&held[before..before + text.len()]);
-    }
-}
-
-/// A length from 0 to 200, the small ones and those around a multiple of 32 more often.
-fn length(random: &mut Random) -> usize {
-    match random.below(3) {
-        0 => random.below(201),
-        1 => random.below(40),
-        _ => (32 * random.within(1, 6) + random.below(7)).saturating_sub(3),
-    }
-}
-
-/// A run of ASCII or of characters of one length, of a number of bytes around a multiple of 32, or of 8.
-fn push_run(random: &mut Random, text: &mut Vec<u8>) {
-    let unit = *random.one(&[8, 32, 32, 64]);
-    let bytes = (unit * random.within(1, 4) + random.below(7)).saturating_sub(3);
-    let len = *random.one(&[1, 1, 1, 2, 3, 4]);
-    let end = text.len() + bytes;
-    while text.len() + len <= end {
-        push(text, char_of_len(random, len));
-    }
-}
-
-/// The kinds of longer text, each with its maker.
-type Make = fn(&mut Random, &[Vec<u8>], usize) -> Vec<u8>;
-const MAKERS: [(&str, Make); 10] = [
-    ("random bytes", |random, _, n| (0..n).map(|_| random.byte()).collect()),
-    ("bytes from 80 on", |random, _, n| (0..n).map(|_| 0x80 | random.byte()).collect()),
-    ("ASCII", |random, _, n| (0..n).map(|_| random.byte() & 0x7F).collect()),
-    ("characters of all lengths", |random, _, n| {
-        let mut text = Vec::new();
-        while text.len() < n {
-            push_char(random, &mut text);
-        }
-        text
-    }),
-    ("the same, cut at a byte", |random, _, n| {
-        let mut text = Vec::new();
-        while text.len() < n {
-            push_char(random, &mut text);
-        }
-        text.truncate(n);
-        text
-    }),
-    ("the same, damaged", |random, _, n| {
-        let mut text = Vec::new();
-        while text.len() < n {
-            push_char(random, &mut text);
-        }
-        for _ in 0..random.within(1, 4) {
-            damage(random, &mut text);
-        }
-        text
-    }),
-    ("words, damaged", |random, _, n| {
-        let mut text = Vec::new();
-        while text.len() < n {
-            text.extend_from_slice(random.one(&WORDS).as_bytes());
-            text.push(b' ');
-        }
-        for _ in 0..random.below(3) {
-            damage(random, &mut text);
-        }
-        text
-    }),
-    ("edges of Table 3-7", |random, pieces, n| {
-        let mut text = Vec::new();
-        while text.len() < n {
-            text.extend_from_slice(random.one(pieces).as_slice());
-        }
-        text
-    }),
-    ("ASCII with one edge", |random, pieces, n| {
-        let mut text: Vec<u8> = (0..n).map(|_| 0x20 + random.byte() % 0x5F).collect();
-        let at = random.below(n + 1);
-        text.splice(at..at, random.one(pieces).iter().copied());
-        text
-    }),
-    ("runs around 32 bytes", |random, pieces, _| {
-        let mut text = Vec::new();
-        for _ in 0..random.within(1, 3) {
-            push_run(random, &mut text);
-            if random.below(2) == 0 {
-                text.extend_from_slice(random.one(pieces).as_slice());
-            } else {
-                push_char(random, &mut text);
-            }
-        }
-        if random.below(2) == 0 {
-            damage(random, &mut text);
-        }
-        text
-    }),
-];
 
 fn main() -> ExitCode {
     let mut args = Args::new("differential [texts|sections|records|edits] [SEED] [MILLIONS, or for edits CALLS]");
@@ -260,6 +36,19 @@ fn main() -> ExitCode {
     if differences == 0 { ExitCode::SUCCESS } else { ExitCode::FAILURE }
 }
 
+/// The functions of texts beside the standard library.
+fn texts(seed: u64, millions: u64) -> u64 {
+    println!("seed {seed}, {millions} million longer texts");
+    let mut texts = Texts::new(DECODERS, seed);
+    for len in 0..=3 {
+        texts.every(len);
+    }
+    texts.longer(millions * 1_000_000);
+    texts.print();
+    texts.differences
+}
+
+/// Sections beside the reference.
 fn sections(seed: u64, millions: u64) -> u64 {
     println!("seed {seed}, {millions} million sections");
     let mut comparison = Comparison::new(&Proved, seed);
@@ -287,68 +76,4 @@ fn changes(seed: u64, calls: u64) -> u64 {
     trials.shrink();
     trials.print();
     trials.differences
-}
-
-fn texts(seed: u64, millions: u64) -> u64 {
-    println!("seed {seed}, {millions} million longer texts");
-
-    let mut run = Run { random: Random(seed), kinds: Vec::new(), differences: 0, buffer: Vec::new() };
-    run.kind("no byte");
-    run.look(&[]);
-    run.kind("every byte");
-    for a in 0..=255 {
-        run.look(&[a]);
-    }
-    run.kind("every two bytes");
-    for n in 0..=0xFFFFu32 {
-        run.look(&n.to_be_bytes()[2..]);
-    }
-    run.kind("every three bytes");
-    for n in 0..=0xFF_FFFFu32 {
-        run.look(&n.to_be_bytes()[1..]);
-    }
-
-    let pieces = boundary_pieces();
-    run.kind("every two edges of Table 3-7");
-    for a in &pieces {
-        for b in &pieces {
-            run.look_amid(&[a.as_slice(), b].concat());
-        }
-    }
-    for (name, make) in MAKERS {
-        run.kind(name);
-        for _ in 0..millions * 1_000_000 / MAKERS.len() as u64 {
-            let n = length(&mut run.random);
-            let text = make(&mut run.random, &pieces, n);
-            run.look_amid(&text);
-        }
-    }
-    run.kind("long, of each kind");
-    for _ in 0..millions * 200 {
-        let n = run.random.within(1_000, 20_000);
-        let (_, make) = *run.random.one(&MAKERS);
-        let mut text = make(&mut run.random, &pieces, n);
-        while text.len() < n {
-            let (_, more) = *run.random.one(&MAKERS);
-            text.extend_from_slice(&more(&mut run.random, &pieces, 300));
-        }
-        run.look_amid(&text);
-    }
-
-    println!("{:<30} {:>12} {:>12} {:>14} {:>13}", "kind", "texts", "ill-formed", "bytes", "calls");
-    let mut sum = Kind { name: "all".to_owned(), ..Kind::default() };
-    for kind in &run.kinds {
-        line(kind);
-        sum.texts += kind.texts;
-        sum.ill += kind.ill;
-        sum.bytes += kind.bytes;
-        sum.calls += kind.calls;
-    }
-    line(&sum);
-    println!("{} differences", run.differences);
-    run.differences
-}
-
-fn line(k: &Kind) {
-    println!("{:<30} {:>12} {:>12} {:>14} {:>13}", k.name, k.texts, k.ill, k.bytes, k.calls);
 }

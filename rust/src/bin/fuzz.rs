@@ -21,6 +21,7 @@ use compare::layout::{Rules, TARGET_NUMBERS, walk};
 use compare::pages::{Access, Pages};
 use compare::proved::{self, Proved};
 use compare::random::Random;
+use compare::reader::{FIND_NUMBERS, READ_NUMBERS};
 use compare::record::LIMIT;
 use compare::sections::{Maker, READABLE, fixed_sections, large_sections, random_sections};
 use pai1::raw;
@@ -107,6 +108,8 @@ extern "C" fn fault(_: c_int) {
         _exit(2)
     }
 }
+
+type Decode = fn(&[u8], &mut [u8], usize, &mut usize) -> usize;
 
 /// What a call answered and stored at the first place where it was tried.
 type First<S> = Option<(Vec<usize>, S)>;
@@ -207,25 +210,27 @@ impl Run {
             1 => usize::MAX - random.below(4),
             _ => random.below(room + 4),
         };
+        let before = random.next() as usize;
         let mut first = None;
         for ends in [0, 1] {
             self.bytes_in.place(text, ends == 1);
             let len = self.make(0, |run| raw::decoded_len(run.bytes_in.given()));
             let mut decoded = Vec::new();
-            for (call, decode) in
-                [(1, raw::decode_into as fn(&[u8], &mut [u8], usize) -> usize), (2, raw::decode_plain)]
-            {
+            for (call, decode) in [(1, raw::decode_into as Decode), (2, raw::decode_plain)] {
                 self.bytes.place(&out, ends == 1);
+                self.answer.place(&[before], ends == 1);
                 let said = self.make(call, |run| {
-                    let Run { bytes_in, bytes, .. } = run;
-                    decode(bytes_in.given(), bytes.given_mut(), at)
+                    let Run { bytes_in, bytes, answer, .. } = run;
+                    decode(bytes_in.given(), bytes.given_mut(), at, &mut answer.given_mut()[0])
                 });
                 self.must(call, said == len, "the length is another");
+                let replaced = self.answer.now()[0];
+                self.must(call, replaced <= text.len() && 3 * replaced <= len, "more was replaced than is there");
                 let from = at.min(room);
                 let to = room.min(from.saturating_add(len));
                 let now = self.bytes.now().to_vec();
                 self.must(call, now[..from] == out[..from] && now[to..] == out[to..], "a byte outside was stored");
-                decoded.push(now);
+                decoded.push((now, replaced));
                 self.around(call);
                 self.count(call, 0);
             }
@@ -235,6 +240,7 @@ impl Run {
             let zero = self.make(5, |run| raw::first_zero(run.bytes_in.given()));
             let fault = self.make(6, |run| raw::first_fault(run.bytes_in.given()));
             self.must(3, formed == (ill == text.len()), "well-formed and ill-formed");
+            self.must(1, formed == (decoded[0].1 == 0), "well-formed and replaced");
             self.must(6, fault == ill.min(zero) && ill.max(zero) <= text.len(), "not the first fault");
             for call in [0, 3, 4, 5, 6] {
                 self.count(call, 0);
@@ -260,7 +266,7 @@ impl Run {
         let words: Vec<u32> = (0..words.min(self.words.most())).map(|_| random.next() as u32).collect();
         let texts: Vec<u8> = (0..texts.min(self.texts.most())).map(|_| random.byte()).collect();
         let mut first: First<(Vec<u32>, Vec<u8>)> = None;
-        for (ends, answer) in placings(random, 3) {
+        for (ends, answer) in placings(random, READ_NUMBERS) {
             self.bytes_in.place(section, ends & 1 != 0);
             self.words.place(&words, ends & 2 != 0);
             self.texts.place(&texts, ends & 4 != 0);
@@ -270,8 +276,9 @@ impl Run {
                 raw::read(bytes_in.given(), words.given_mut(), texts.given_mut(), answer.given_mut());
             });
             self.around(READING);
-            let said = self.answered(READING, &answer, 3, first.as_ref());
+            let said = self.answered(READING, &answer, READ_NUMBERS, first.as_ref());
             let (w, t) = if said[0] == 0 { (said[1], said[2]) } else { (0, 0) };
+            self.must(READING, 3 * said[3] <= t, "more was replaced than is there");
             let (words_now, texts_now) = (self.words.now().to_vec(), self.texts.now().to_vec());
             let kept = behind(&words, &words_now, w) && behind(&texts, &texts_now, t);
             self.must(READING, kept, "more was stored than was said");
@@ -283,7 +290,7 @@ impl Run {
     fn find(&mut self, random: &mut Random, section: &[u8], text: usize, scratch: usize) {
         let scratch: Vec<u8> = (0..scratch.min(self.texts.most())).map(|_| random.byte()).collect();
         let mut first: First<Vec<u8>> = None;
-        for (ends, answer) in placings(random, 4) {
+        for (ends, answer) in placings(random, FIND_NUMBERS) {
             self.bytes_in.place(section, ends & 1 != 0);
             self.texts.place(&scratch, ends & 2 != 0);
             self.answer.place(&answer, ends & 4 != 0);
@@ -292,7 +299,7 @@ impl Run {
                 raw::find_text(bytes_in.given(), text, texts.given_mut(), answer.given_mut());
             });
             self.around(FINDING);
-            let said = self.answered(FINDING, &answer, 4, first.as_ref());
+            let said = self.answered(FINDING, &answer, FIND_NUMBERS, first.as_ref());
             let now = self.texts.now().to_vec();
             let stored = if said[0] == 0 && said[1] == 1 { said[3] } else { 0 };
             self.must(FINDING, behind(&scratch, &now, stored), "more was stored than was said");
@@ -301,6 +308,11 @@ impl Run {
                 let part = list.get(said[2]..).and_then(|list| list.get(..said[3]));
                 let formed = part.is_some_and(|part| std::str::from_utf8(part).is_ok());
                 self.must(FINDING, said[1] <= 1 && formed, "no text is there");
+                // what is copied is so because something was replaced
+                let replaced = if said[1] == 0 { said[4] == 0 } else { (3..=said[3]).contains(&(3 * said[4])) };
+                self.must(FINDING, replaced, "another number was replaced than can be");
+            } else {
+                self.must(FINDING, said[3..] == [0, 0], "values that this answer has not");
             }
             self.same(FINDING, &mut first, said, now);
         }
@@ -446,7 +458,7 @@ impl Run {
                 1 => usize::MAX,
                 _ => random.below(6),
             };
-            let mut answer = [0; 4];
+            let mut answer = [0; FIND_NUMBERS];
             raw::find_text(section, text, &mut [], &mut answer);
             let scratch = near(random, if answer[0] == 5 { answer[2] } else { 10 });
             self.find(random, section, text, scratch);

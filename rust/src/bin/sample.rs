@@ -28,7 +28,10 @@ fn cases() -> std::io::Result<()> {
     let sections = sample();
     let [well_formed, others] = sections.texts;
     eprintln!("{} sections in {} bytes; answers 0 to 5: {:?}", sections.cases, sections.bytes.len(), sections.numbers);
-    eprintln!("texts of the sections that are read: {well_formed} well-formed, {others} others");
+    eprintln!(
+        "texts of the sections that are read: {well_formed} well-formed, {others} others, in which {} characters are replaced",
+        sections.replaced
+    );
     let records = sample_records::sample();
     eprintln!("{} records in {} bytes; answers 0 to 9: {:?}", records.cases, records.bytes.len(), records.numbers);
     eprintln!(
