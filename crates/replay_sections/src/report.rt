@@ -1,6 +1,7 @@
 // What is counted, and the report.
 use console::output::say;
 use console::output::say_number;
+use std::num::wrapping_add_u64;
 
 // The counts: first those of the answers with each number, then these.
 const ANSWERS: usize = 10;
@@ -22,10 +23,7 @@ pub(crate) const COUNTS: usize = 16;
 // So many more at a place.
 pub(crate) fn add(counts: &mut [u64], place: usize, more: u64) {
     if place < counts.len() {
-        let n = counts[place];
-        if more <= u64::MAX - n {
-            counts[place] = n + more;
-        }
+        counts[place] = wrapping_add_u64(counts[place], more);
     }
 }
 
