@@ -1,14 +1,14 @@
 // UTF-8 by the Unicode Standard's Table 3-7: decoding with one U+FFFD for each maximal ill-formed subpart, and what is asked of a text.
 ghost use mathlib.Core.Path.{_≡_};
 ghost use mathlib.Core.Bool.{true, _&&_};
-ghost use Prim.Native.Nat.{_+_, _-_, min};
+ghost use Prim.Native.Nat.{_+_, _-_, _≤_, min};
 ghost use lib.Dec.{ltb, eqb};
-ghost use lib.ListN.{length, getD};
+ghost use lib.ListN.{length, getD, drop};
 ghost use lib.Seq.{sets};
 ghost use Rattle.core.specs.Choice.{pick};
 ghost use Rattle.core.specs.Utf8.{Classes, classOf, replacement, decode, decodedSize, validUpTo, replacements, wellFormed};
 ghost use Rattle.core.specs.inner.Flow.{Rows};
-ghost use Rattle.core.specs.inner.Scan.{added};
+ghost use Rattle.core.specs.inner.Scan.{added, Lones};
 use crate::fill::ahead;
 use crate::fill::copy;
 use crate::fill::copy_on;
@@ -115,6 +115,27 @@ fn lone(text: &[u8], at: usize, classes: &[u8; 256]) -> bool
     false
 }
 
+// Where lone bytes end, and the place behind what was stored for them.
+struct LoneEnd {
+    end: usize,
+    next: usize,
+}
+
+// Lone bytes from `i` on: a U+FFFD for each, from `o` on. Nothing is counted on the way: there are as many as bytes.
+fn put_lone(text: &[u8], i: usize, out: &mut [u8], o: usize, classes: &[u8; 256]) -> LoneEnd
+    requires { ⌜ Classes (now classes) × (i ≤ length (now text)) ⌝ }
+    ensures { λ r. ⌜ Lones (now (text .entry)) i (r .end)
+        × (sets (now (out .exit)) (r .next) (decode (drop (r .end) (now (text .entry)))) ≡ sets (now (out .entry)) o (decode (drop i (now (text .entry))))) ⌝ }
+{
+    let mut end = i;
+    let mut next = o;
+    while lone(text, end, classes) {
+        next = put_replacement(out, next);
+        end += 1;
+    }
+    LoneEnd { end, next }
+}
+
 // The decoding by runs of characters, each up to an ill-formed subpart. Where these come one after another they are not looked for. The U+FFFD put
 // in are added to `replaced`.
 fn decode_runs(
@@ -134,17 +155,15 @@ fn decode_runs(
     let mut grown: usize = 0;
     let mut count: usize = 0;
     loop {
-        if lone(text, i, classes) {
-            o = put_replacement(out, o);
-            grown += 2;
-            count += 1;
-            i += 1;
-            continue;
-        }
-        let run = next_run(text, i, classes, rows);
+        let lones = put_lone(text, i, out, o, classes);
+        let from = lones.end;
+        let more = from - i;
+        grown += 2 * more;
+        count += more;
+        let run = next_run(text, from, classes, rows);
         let end = run.end;
         let skip = run.skip;
-        let next = copy_on(&text[i..end], out, o);
+        let next = copy_on(&text[from..end], out, lones.next);
         if skip == 0 {
             *replaced = total(*replaced, count);
             return total(text.len(), grown);

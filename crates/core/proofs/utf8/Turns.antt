@@ -16,7 +16,7 @@ use Rattle.core.specs.declared.utf8.step.Step.the-variants.{Good, Bad}
 use Rattle.core.specs.Utf8.{rows, classOf, laterOf, matched, more, good, stepOf, replacement, decode, decodedSize, validUpTo, replacements}
 use Rattle.core.specs.Choice.{pick}
 use Rattle.core.specs.Text.{beforeZero, firstFault, every, notZero, ascii, plain, isPlain, plainAt, endedOf}
-use Rattle.core.specs.inner.Scan.{illSize, asciiSeen, added}
+use Rattle.core.specs.inner.Scan.{illSize, asciiSeen, added, Lones}
 use Rattle.core.specs.declared.text.TextAt.the-variants.{Text}
 use Rattle.core.proofs.Stores.{sets-on}
 use Rattle.core.proofs.Tests.{every-at}
@@ -268,6 +268,21 @@ added-is before n h = go (eqb n 0) refl
     go : (b : Bool) → eqb n 0 ≡ b → min (before + n) 18446744073709551615 ≡ pick b before (min (before + n) 18446744073709551615)
     go true e = let z = eqb-true n 0 e in omega arith
     go false e = refl
+
+-- lone bytes: none yet, one more, and all of them passed
+pub no-lones : (s : List ℕ) (i : ℕ) → i ≤ length s → Lones s i i
+no-lones s i h = (omega arith, h, omega arith, omega arith)
+
+pub one-lone : (s : List ℕ) (i j : ℕ) → Lones s i j → RunAt s j j 1 → Lones s i (j + 1)
+one-lone s i j l r =
+    let a = ap length (r .split (omega arith)) in
+    let b = length-append (slice j j s) (replacement ++ decode (drop (j + 1) s)) in
+    let c = length-slice j j s (omega (arith, l .1)) in
+    let o = r .one (omega arith) in
+    (omega (arith, l .0), r .reach, omega (arith, l .0, l .2, a, b, c), omega (arith, l .0, l .3, o))
+
+pub counted-lones : (s : List ℕ) (i grown n j : ℕ) → Counted s i grown n → Lones s i j → Counted s j (grown + 2 * (j - i)) (n + (j - i))
+counted-lones s i grown n j c l = (l .1, omega (arith, l .0, l .2, c .1), omega (arith, l .0, c .2), omega (arith, l .0, l .3, c .3))
 
 -- at the end
 pub counted-last : (s : List ℕ) (i grown n end skip : ℕ) → Counted s i grown n → RunAt s i end skip → skip ≡ 0 → (length s + grown ≡ length (decode s)) × (n ≡ replacements s)

@@ -1,6 +1,6 @@
 -- `utf8::decode_runs` meets its contract. The loop's invariant: what is still to be decoded, stored, makes the list that all of it makes.
 -- Assumes nothing.
-use Prim.Native.Nat.{ℕ, _+_, _-_, _<_, min}
+use Prim.Native.Nat.{ℕ, _+_, _-_, _*_, _<_, min}
 use mathlib.Core.Path.{_≡_, sym, ap, ap₂, _∙_}
 use native.Mathlib.Omega.{arith}
 use mathlib.Core.List.{List}
@@ -8,7 +8,7 @@ use denote.Ref.{now}
 use lib.ListN.{length, drop}
 use lib.Seq.{sets}
 use Rattle.core.specs.Utf8.{decode}
-use Rattle.core.proofs.utf8.Turns.{part-is, BadAt, RunAt, run-at, run-bad, lone-bad, Counted, counted-most, counted-run, counted-last, counted-size, added-is, sets-run, sets-bad}
+use Rattle.core.proofs.utf8.Turns.{part-is, RunAt, run-at, Counted, counted-lones, counted-most, counted-run, counted-last, counted-size, added-is, sets-run}
 use borrow.Author.Needs.{needs}
 use Rattle.core.proofs.utf8.decode_runs.Statement.{statement}
 use Rattle.core.proofs.utf8.decode_runs.Tie as tie
@@ -19,32 +19,28 @@ Inv-loop text out₀ at classes rows replaced₀ i₀ o₀ grown₀ count₀ out
 abbrev μ-loop : tie.MeasureT-loop
 μ-loop text out₀ at classes rows replaced₀ i₀ o₀ grown₀ count₀ out replaced i o grown count = length text - i
 
-bad : (c : tie.Then1 Inv-loop μ-loop) → BadAt (now (c .before .before .before .before .before .args .text)) (c .before .before .loop .i) 1
-bad c = lone-bad _ _ (sym (c .before .lone .ensures) ∙ c .if1 .taken)
+-- behind the lone bytes
+lones : (c : tie.After-slice-known2 Inv-loop μ-loop)
+    → Counted (now (c .before .before .before .before .before .before .before .args .text)) (c .before .before .put-lone .result .end) (c .before .before .before .before .loop .grown + 2 * (c .before .before .put-lone .result .end - c .before .before .before .before .loop .i)) (c .before .before .before .before .loop .count + (c .before .before .put-lone .result .end - c .before .before .before .before .loop .i))
+lones c = counted-lones _ _ _ _ _ (c .before .before .before .before .loop .inv .0) (c .before .before .put-lone .ensures .0)
 
-run : (c : tie.After-next-run Inv-loop μ-loop) → RunAt (now (c .before .before .before .before .before .before .args .text)) (c .before .before .before .loop .i) (c .next-run .result .end) (c .next-run .result .skip)
-run c = run-at _ _ _ _ (c .before .before .before .loop .inv .0 .0) (c .next-run .ensures .0) (c .next-run .ensures .1)
+run : (c : tie.After-next-run Inv-loop μ-loop) → RunAt (now (c .before .before .before .before .before .before .before .before .args .text)) (c .before .before .before .put-lone .result .end) (c .next-run .result .end) (c .next-run .result .skip)
+run c = run-at _ _ _ _ (lones (c .before) .0) (c .next-run .ensures .0) (c .next-run .ensures .1)
 
 some : (n : ℕ) → (n ≡ 0 → ⊥) → 0 < n
 some n h = omega arith
 
+sub-more : tie.Need-sub-more Inv-loop μ-loop
+sub-more c = c .before .before .put-lone .ensures .0 .0
+
+mul-grown : tie.Need-mul-grown Inv-loop μ-loop
+mul-grown c = let k = lones c in omega (arith, k .0, k .2, c .before .before .before .before .before .before .before .good)
+
 add-grown : tie.Need-add-grown Inv-loop μ-loop
-add-grown c = let b = bad (c .before .before .before .before) in let k = counted-run _ _ _ _ _ _ (c .before .before .before .before .before .before .loop .inv .0) (run-bad _ _ _ b) (b .some) in omega (arith, k .0, k .2, c .before .before .before .before .before .before .before .before .before .good)
+add-grown c = let k = lones c in omega (arith, k .0, k .2, c .before .before .before .before .before .before .before .good)
 
 add-count : tie.Need-add-count Inv-loop μ-loop
-add-count c = let b = bad (c .before .before .before .before) in let m = counted-most _ _ _ _ (counted-run _ _ _ _ _ _ (c .before .before .before .before .before .before .loop .inv .0) (run-bad _ _ _ b) (b .some)) in omega (arith, m, c .before .before .before .before .before .before .before .before .before .good)
-
-loop-less : tie.Need-loop-less Inv-loop μ-loop
-loop-less c = let b = bad (c .before .before .before .before) in omega (arith, b .reach)
-
-loop-again : tie.Need-loop-again Inv-loop μ-loop
-loop-again c =
-    let b = bad (c .before .before .before .before) in (
-      counted-run _ _ _ _ _ _ (c .before .before .before .before .before .before .loop .inv .0) (run-bad _ _ _ b) (b .some),
-      c .before .before .put-replacement .kept .0 ∙ c .before .before .before .before .before .before .loop .inv .1,
-      sets-bad _ _ _ _ _ _ _ b (c .before .before .put-replacement .ensures .0) (c .before .before .put-replacement .ensures .1) ∙ c .before .before .before .before .before .before .loop .inv .2,
-      c .before .before .before .before .before .before .loop .inv .3,
-    )
+add-count c = let m = counted-most _ _ _ _ (lones c) in omega (arith, m, c .before .before .before .before .before .before .before .good)
 
 part-copy-on-end : tie.Need-part-copy-on-end Inv-loop μ-loop
 part-copy-on-end c = let r = run c in omega (arith, r .reach)
@@ -52,40 +48,40 @@ part-copy-on-end c = let r = run c in omega (arith, r .reach)
 returns : tie.Need-returns Inv-loop μ-loop
 returns c =
     let r = run (c .before .before .before .before .before .before .before .before .before) in
-    let n = counted-last _ _ _ _ _ _ (c .before .before .before .before .before .before .before .before .before .before .before .before .loop .inv .0) r (c .before .before .before .if2 .taken) in (
+    let n = counted-last _ _ _ _ _ _ (lones (c .before .before .before .before .before .before .before .before .before .before)) r (c .before .before .before .if1 .taken) in (
       counted-size _ _ _ (n .0) (c .total2 .ensures),
-      c .before .total .ensures ∙ ap₂ (λ (a b : ℕ). min (a + b) 18446744073709551615) (c .before .before .before .before .before .before .before .before .before .before .before .before .loop .inv .3) (n .1) ∙ added-is _ _ (omega (arith, c .before .before .before .before .before .before .before .before .before .before .before .before .loop .inv .3, c .before .before .row-known .given)),
-      c .before .before .before .before .before .before .copy-on .ensures .0 ∙ ap (λ (l : List ℕ). sets (c .before .before .before .before .before .before .before .before .before .before .before .before .loop .out) (c .before .before .before .before .before .before .before .before .before .before .before .before .loop .o) l) (part-is _ _ _ (r .start) ∙ sym (r .whole (c .before .before .before .if2 .taken))) ∙ c .before .before .before .before .before .before .before .before .before .before .before .before .loop .inv .2,
+      c .before .total .ensures ∙ ap₂ (λ (a b : ℕ). min (a + b) 18446744073709551615) (c .before .before .before .before .before .before .before .before .before .before .before .before .before .before .loop .inv .3) (n .1) ∙ added-is _ _ (omega (arith, c .before .before .before .before .before .before .before .before .before .before .before .before .before .before .loop .inv .3, c .before .before .row-known .given)),
+      c .before .before .before .before .before .before .copy-on .ensures .0 ∙ ap (sets (c .before .before .before .before .before .before .before .before .before .before .before .before .put-lone .last .1 .1 .0) (c .before .before .before .before .before .before .before .before .before .before .before .before .put-lone .result .next)) (part-is _ _ _ (r .start) ∙ sym (r .whole (c .before .before .before .if1 .taken))) ∙ c .before .before .before .before .before .before .before .before .before .before .before .before .put-lone .ensures .1 ∙ c .before .before .before .before .before .before .before .before .before .before .before .before .before .before .loop .inv .2,
     )
 
 sub-grown : tie.Need-sub-grown Inv-loop μ-loop
 sub-grown c = let r = run (c .before .before .before .before .before .before .before .before .before .before) in omega (arith, r .short)
 
 add-grown-2 : tie.Need-add-grown-2 Inv-loop μ-loop
-add-grown-2 c = let k = counted-run _ _ _ _ _ _ (c .before .before .before .before .before .before .before .before .before .before .before .before .before .loop .inv .0) (run (c .before .before .before .before .before .before .before .before .before .before)) (some _ (c .before .before .before .before .if2 .left)) in omega (arith, k .0, k .2, c .before .before .before .before .before .before .before .before .before .before .before .before .before .before .before .before .good)
+add-grown-2 c = let k = counted-run _ _ _ _ _ _ (lones (c .before .before .before .before .before .before .before .before .before .before .before)) (run (c .before .before .before .before .before .before .before .before .before .before)) (some _ (c .before .before .before .before .if1 .left)) in omega (arith, k .0, k .2, c .before .before .before .before .before .before .before .before .before .before .before .before .before .before .before .before .before .before .good)
 
 add-count-2 : tie.Need-add-count-2 Inv-loop μ-loop
-add-count-2 c = let m = counted-most _ _ _ _ (counted-run _ _ _ _ _ _ (c .before .before .before .before .before .before .before .before .before .before .before .before .before .loop .inv .0) (run (c .before .before .before .before .before .before .before .before .before .before)) (some _ (c .before .before .before .before .if2 .left))) in omega (arith, m, c .before .before .before .before .before .before .before .before .before .before .before .before .before .before .before .before .good)
+add-count-2 c = let m = counted-most _ _ _ _ (counted-run _ _ _ _ _ _ (lones (c .before .before .before .before .before .before .before .before .before .before .before)) (run (c .before .before .before .before .before .before .before .before .before .before)) (some _ (c .before .before .before .before .if1 .left))) in omega (arith, m, c .before .before .before .before .before .before .before .before .before .before .before .before .before .before .before .before .before .before .good)
 
-add-i-2 : tie.Need-add-i-2 Inv-loop μ-loop
-add-i-2 c = let r = run (c .before .before .before .before .before .before .before .before .before .before) in omega (arith, r .reach)
+add-i : tie.Need-add-i Inv-loop μ-loop
+add-i c = let r = run (c .before .before .before .before .before .before .before .before .before .before) in omega (arith, r .reach)
 
-loop-less-2 : tie.Need-loop-less-2 Inv-loop μ-loop
-loop-less-2 c = let r = run (c .before .before .before .before .before .before .before .before .before .before) in let s = some _ (c .before .before .before .before .if2 .left) in omega (arith, r .start, r .reach, s)
+loop-less : tie.Need-loop-less Inv-loop μ-loop
+loop-less c = let r = run (c .before .before .before .before .before .before .before .before .before .before) in let s = some _ (c .before .before .before .before .if1 .left) in omega (arith, c .before .before .before .before .before .before .before .before .before .before .before .before .before .put-lone .ensures .0 .0, r .start, r .reach, s)
 
-loop-again-2 : tie.Need-loop-again-2 Inv-loop μ-loop
-loop-again-2 c =
+loop-again : tie.Need-loop-again Inv-loop μ-loop
+loop-again c =
     let r = run (c .before .before .before .before .before .before .before .before .before .before) in
-    let h = some _ (c .before .before .before .before .if2 .left) in (
-      counted-run _ _ _ _ _ _ (c .before .before .before .before .before .before .before .before .before .before .before .before .before .loop .inv .0) r h,
-      c .before .before .put-replacement2 .kept .0 ∙ c .before .before .before .before .before .before .before .copy-on .kept .1 .0 ∙ c .before .before .before .before .before .before .before .before .before .before .before .before .before .loop .inv .1,
-      sets-run _ _ _ _ _ _ _ _ _ _ _ r h (part-is _ _ _ (r .start)) (c .before .before .before .before .before .before .before .copy-on .ensures .0) (c .before .before .before .before .before .before .before .copy-on .ensures .1) (c .before .before .put-replacement2 .ensures .0) (c .before .before .put-replacement2 .ensures .1) ∙ c .before .before .before .before .before .before .before .before .before .before .before .before .before .loop .inv .2,
-      c .before .before .before .before .before .before .before .before .before .before .before .before .before .loop .inv .3,
+    let h = some _ (c .before .before .before .before .if1 .left) in (
+      counted-run _ _ _ _ _ _ (lones (c .before .before .before .before .before .before .before .before .before .before .before)) r h,
+      c .before .before .put-replacement .kept .0 ∙ c .before .before .before .before .before .before .before .copy-on .kept .1 .0 ∙ c .before .before .before .before .before .before .before .before .before .before .before .before .before .put-lone .kept .1 .1 .0 ∙ c .before .before .before .before .before .before .before .before .before .before .before .before .before .before .before .loop .inv .1,
+      sets-run _ _ _ _ _ _ _ _ _ _ _ r h (part-is _ _ _ (r .start)) (c .before .before .before .before .before .before .before .copy-on .ensures .0) (c .before .before .before .before .before .before .before .copy-on .ensures .1) (c .before .before .put-replacement .ensures .0) (c .before .before .put-replacement .ensures .1) ∙ c .before .before .before .before .before .before .before .before .before .before .before .before .before .put-lone .ensures .1 ∙ c .before .before .before .before .before .before .before .before .before .before .before .before .before .before .before .loop .inv .2,
+      c .before .before .before .before .before .before .before .before .before .before .before .before .before .before .before .loop .inv .3,
     )
 
 pub decode-runs-spec : {M : Type 1} → statement M
 decode-runs-spec =
     tie.close
-    (tie.spec Inv-loop μ-loop (λ c. search needs) (λ c κs. search needs) (search needs) add-grown add-count (search needs) loop-less
-    loop-again (λ c κs. search needs) (search needs) (search needs) part-copy-on-end (search needs) (search needs) (search needs) (search needs)
-    returns (search needs) sub-grown add-grown-2 add-count-2 add-i-2 loop-less-2 loop-again-2)
+    (tie.spec Inv-loop μ-loop (λ c. search needs) (λ c κs. search needs) sub-more mul-grown add-grown add-count (λ c κs. search needs)
+    (search needs) (search needs) part-copy-on-end (search needs) (search needs) (search needs) (search needs) returns (search needs)
+    sub-grown add-grown-2 add-count-2 add-i loop-less loop-again)
