@@ -81,17 +81,20 @@ fn plain_four(s: &[u8]) -> bool
 
 // Whether a text is seen to be ASCII. A no is also said of a text of 8 to 32 bytes that is ASCII and has a zero, and the caller then takes the way
 // that is right for every text.
+// It looks at a part, which is all of the text: the text's address is then read at once whatever its length, and so the compiler passes address and
+// length in registers. Without that a caller stores both, and they are read back.
 pub(crate) fn is_ascii(s: &[u8]) -> bool
     ensures { λ r. ⌜ r ≡ asciiSeen (now (s .entry)) ⌝ }
 {
     let n = s.len();
+    let t = &s[0..n];
     if n < 8 {
-        return ascii_in(s, 0, n);
+        return ascii_in(t, 0, n);
     }
     if n < 33 {
-        return plain_four(s);
+        return plain_four(t);
     }
-    ascii_long(s)
+    ascii_long(t)
 }
 
 // Whether a text has 8 to 32 bytes and is ASCII without a zero. It asks `is_ascii`, so that this stays one function.
