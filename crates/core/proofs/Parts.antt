@@ -1,12 +1,13 @@
 -- What a part of a list is, and where it lies. Assumes nothing.
 use mathlib.Core.Path.{_≡_}
 use mathlib.Core.List.{List, [], _∷_}
-use Prim.Native.Nat.{ℕ, zero, suc, _+_, _<_, _≤_}
+use Prim.Native.Nat.{ℕ, zero, suc, _+_, _-_, _<_, _≤_}
 use native.Mathlib.Nat.{zero-add, suc-add}
+use native.Mathlib.Omega.{arith}
 use borrow.Author.Tests.{le-leb, lt-leb}
 use denote.Ref.{RefT, now}
 use lib.ListN.{length, take, drop}
-use lib.Seq.{slice, take-nil}
+use lib.Seq.{slice, take-nil, take-all}
 use Rattle.core.specs.Part.{partOf, partPtr}
 
 -- n places from i on are those from i to i + n
@@ -14,6 +15,10 @@ pub take-drop : (n i : ℕ) (s : List ℕ) → take n (drop i s) ≡ slice i (i 
 take-drop n zero s = rw zero-add
 take-drop n (suc i) [] = simp take-nil
 take-drop n (suc i) (x ∷ s) = rw suc-add (take-drop n i s)
+
+-- the part that is all of a list
+pub part-all : (s : List ℕ) → take (length s - 0) (drop 0 s) ≡ s
+part-all s = take-all (length s - 0) s (omega arith)
 
 pub part-there : (s : List ℕ) (start len : ℕ) → start + len ≤ length s → partOf s start len ≡ slice start (start + len) s
 unfolding partOf

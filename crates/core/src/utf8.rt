@@ -195,13 +195,15 @@ fn decode_by(
     decode_runs(text, out, at, classes, rows, replaced)
 }
 
+// The same with the tables in place. It goes on with a part that is all of the text, for the reason that `is_ascii` does.
 fn decode_mixed(text: &[u8], out: &mut [u8], at: usize, replaced: &mut usize) -> usize
     ensures { λ r. ⌜ (r ≡ decodedSize (now (text .entry))) × (now (replaced .exit) ≡ added (now (replaced .entry)) (replacements (now (text .entry))))
         × (now (out .exit) ≡ sets (now (out .entry)) at (decode (now (text .entry)))) ⌝ }
 {
     let classes = CLASSES;
     let rows = ROWS;
-    decode_by(text, out, at, &classes, &rows, replaced)
+    let n = text.len();
+    decode_by(&text[0..n], out, at, &classes, &rows, replaced)
 }
 
 // How many bytes the text decodes to: it is decoded into nothing.

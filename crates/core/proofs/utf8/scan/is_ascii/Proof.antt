@@ -1,6 +1,6 @@
 -- `utf8::scan::is_ascii` meets its contract.
 -- Assumes nothing.
-use Prim.Native.Nat.{ℕ, _-_, _<_, _≤_}
+use Prim.Native.Nat.{ℕ, _<_, _≤_}
 use mathlib.Core.Path.{_≡_, ap, _∙_}
 use mathlib.Core.Bool.{Bool}
 use mathlib.Core.List.{List}
@@ -12,12 +12,9 @@ use lib.ListN.{length, take, drop}
 use lib.Seq.{take-all}
 use Rattle.core.specs.Text.{every, ascii, plain}
 use Rattle.core.specs.inner.Scan.{asciiSeen}
+use Rattle.core.proofs.Parts.{part-all}
 use Rattle.core.proofs.utf8.scan.is_ascii.Statement.{statement}
 use Rattle.core.proofs.utf8.scan.is_ascii.Tie as tie
-
--- the part that is looked at is the text
-all : (s : List ℕ) → take (length s - 0) (drop 0 s) ≡ s
-all s = take-all (length s - 0) s (omega arith)
 
 -- which of the two tests it is, by the length
 module _ (s : List ℕ) (r : Bool) where
@@ -34,13 +31,13 @@ module _ (s : List ℕ) (r : Bool) where
   longer h e = rw (le-leb 8 (length s) (omega arith), lt-leb (length s) 32 h) e
 
 returns : tie.Need-returns
-returns c = let t₀ = now (c .before .before .before .before .args .s) in fewer t₀ _ (c .before .if1 .taken) (c .ascii-in .ensures ∙ ap (λ (t : List ℕ). every ascii (take (length t₀) (drop 0 t))) (all t₀))
+returns c = let t₀ = now (c .before .before .before .before .args .s) in fewer t₀ _ (c .before .if1 .taken) (c .ascii-in .ensures ∙ ap (λ (t : List ℕ). every ascii (take (length t₀) (drop 0 t))) (part-all t₀))
 
 returns-2 : tie.Need-returns-2
-returns-2 c = between _ _ (c .before .before .if1 .left) (omega (arith, c .before .if2 .taken)) (c .plain-four .ensures ∙ ap (every plain) (all _))
+returns-2 c = between _ _ (c .before .before .if1 .left) (omega (arith, c .before .if2 .taken)) (c .plain-four .ensures ∙ ap (every plain) (part-all _))
 
 returns-3 : tie.Need-returns-3
-returns-3 c = longer _ _ (omega (arith, c .before .if2 .left)) (c .ascii-long .ensures ∙ ap (every ascii) (all _))
+returns-3 c = longer _ _ (omega (arith, c .before .if2 .left)) (c .ascii-long .ensures ∙ ap (every ascii) (part-all _))
 
 pub is-ascii-spec : {M : Type 1} → statement M
 is-ascii-spec =
