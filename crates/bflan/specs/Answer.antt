@@ -1,5 +1,5 @@
 -- Calls of reading, of any format: for any arguments what they answer, and what the lists that they may change hold afterwards (document 01,
--- 'Flat record', 'Texts on screen' and the refusals' table). The order of the refusals is the order of the cases.
+-- 'Flat record', 'Texts on screen' and the refusals' table; document 02, Point 1). The order of the refusals is the order of the cases.
 use Prim.Native.Nat.{ℕ, _+_}
 use denote.Ref.{RefT, now}
 use mathlib.Core.Bool.{_&&_}
@@ -85,7 +85,7 @@ found s t x (ok is end) = pick (ltb t (length (textsIn is))) (shownIn s x (getD 
 unfoldable pub findingBy : P (List Item) → List ℕ → ℕ → List ℕ → Outcome × List ℕ
 findingBy p s t x = pick (leb (length s) limit) (found s t x (p s 0)) (tooLong (length s), x)
 
--- ---- the part that a text's three numbers say, of the section or of the scratch, and where it lies
+-- ---- the part that a text's source, start and length say, of the section or of the scratch, and where it lies
 
 unfoldable pub textPart : List ℕ → List ℕ → ℕ → ℕ → ℕ → List ℕ
 textPart s x source start len = pick (eqb source 0) (partOf s start len) (pick (eqb source 1) (partOf x start len) [])

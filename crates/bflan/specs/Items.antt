@@ -1,4 +1,5 @@
--- The views of what a reading gives: the words and the text bytes of its items, and where its texts stand (document 01, 'Flat record').
+-- The views of what a reading gives: the words and the text bytes of its items, where its texts stand (document 01, 'Flat record'), and how many
+-- U+FFFD were put into them (document 02, Point 1).
 use Prim.Native.Nat.{ℕ, _+_}
 use mathlib.Core.List.{List, [], _∷_, _++_}
 use lib.ListN.{length}

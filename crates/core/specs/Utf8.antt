@@ -1,5 +1,6 @@
 -- UTF-8 as the Unicode Standard, chapter 3, has it: Table 3-7 (well-formed byte sequences), and a text cut into characters and
--- maximal ill-formed subparts (D93b), each of which is shown as one U+FFFD ('U+FFFD Substitution of Maximal Subparts').
+-- maximal ill-formed subparts (D93b), each of which is shown as one U+FFFD ('U+FFFD Substitution of Maximal Subparts') and counts as one
+-- (document 02, Point 1).
 use Prim.Native.Nat.{ℕ, zero, suc, _+_, _<_, min}
 use mathlib.Core.Path.{_≡_}
 use mathlib.Core.Bool.{Bool, true, false, _&&_}

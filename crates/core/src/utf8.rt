@@ -219,7 +219,7 @@ pub fn decoded_len(text: &[u8]) -> usize
 }
 
 // The text is decoded and stored from `at` on; what would stand past the end is dropped. How many bytes it decodes to, and in `replaced` how many
-// U+FFFD that puts in.
+// U+FFFD that puts in: of the whole decoding, also where `out` is too short.
 pub fn decode_into(text: &[u8], out: &mut [u8], at: usize, replaced: &mut usize) -> usize
     ensures { λ r. ⌜ (r ≡ decodedSize (now (text .entry))) × (now (replaced .exit) ≡ replacements (now (text .entry)))
         × (now (out .exit) ≡ sets (now (out .entry)) at (decode (now (text .entry)))) ⌝ }
@@ -233,7 +233,7 @@ pub fn decode_into(text: &[u8], out: &mut [u8], at: usize, replaced: &mut usize)
 }
 
 // The same where the text may be known to be shown as it is: then it is stored as it is. `replaced` is the sum of `before` and the U+FFFD put in.
-// On the way of most texts there is one copy and no store but its own: the function is in the loop over a section's texts.
+// It is in the loop over a section's texts. For one that is ASCII `before` is handed back: compiled into that loop, no memory is touched for it.
 pub fn decode_known(
     text: &[u8],
     plain: bool,

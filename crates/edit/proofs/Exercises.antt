@@ -1,5 +1,5 @@
--- The starred exercises of document 01 ('Exercises with their solutions') and the examples of document 02, Point 1, as one theorem over a list
--- of them.
+-- The starred exercises of document 01 ('Exercises with their solutions') and examples for document 02, Point 1, as one theorem over a list of
+-- them.
 -- Assumes nothing.
 use Prim.Native.Nat.{ℕ}
 use mathlib.Core.Path.{_≡_, refl, ap}

@@ -155,7 +155,7 @@ pub fn find_text(section: &[u8], text: usize, scratch: &mut [u8], answer: &mut [
     }
 }
 
-/// Stores the part that [`find_text`]'s three numbers say, of the section or of the scratch, in `out` from its start on,
+/// Stores the part that [`find_text`]'s source, start and length say, of the section or of the scratch, in `out` from its start on,
 /// without what would stand past the end, and returns its whole length. The part is empty where the numbers run past that
 /// slice or the source is neither 0 nor 1.
 pub fn text_part(section: &[u8], scratch: &[u8], source: usize, start: usize, len: usize, out: &mut [u8]) -> usize {

@@ -133,8 +133,12 @@ module _ (s : List ℕ) (is : List Item) (t : Tally) (k : ℕ) (new : Fresh k t)
 
 module _ (s : List ℕ) (fits : length s ≤ 16777216) (is : List Item) (m : Countable s is) where
   -- what the tables need
-  pub needs-bound : (length (wordsOf s is) ≤ 144115188075855872) × (length (textsOf s is) ≤ 576460752303423488)
-  needs-bound = (omega (arith, m .items, words-length s is), omega (arith, m .texts, texts-most s fits is))
+  pub needs-bound : (length (wordsOf s is) ≤ 144115188075855872) × (length (textsOf s is) ≤ 576460752303423488) × (replacementsOf s is ≤ 576460752303423488)
+  needs-bound = (
+    omega (arith, m .items, words-length s is),
+    omega (arith, m .texts, texts-most s fits is),
+    omega (arith, m .texts, texts-most s fits is, replaced-most s is),
+  )
 
   module _ (t : Tally) (k : ℕ) (new : Fresh k t) where
     whole-room : Room s t is

@@ -34,7 +34,7 @@ unfoldable pub withWords : Tally → ℕ → Tally
 withWords t n =
     record { words = sat (t .words + n); bytes = t .bytes; replaced = t .replaced; left = t .left; start = t .start; len = t .len }
 
--- a text of n bytes at a, whose decoding has so many bytes; with it so many U+FFFD were put in. Where no text was left before the one that is
+-- a text of n bytes at a, whose decoding has so many bytes; the last number is the sum with its U+FFFD. Where no text was left before the one that is
 -- wanted, this is the one
 unfoldable pub withText : Tally → ℕ → ℕ → ℕ → ℕ → Tally
 withText t a n size replaced =

@@ -25,7 +25,8 @@ pub(crate) fn put2(words: &mut [u32], t: Tally, a: u32, b: u32) -> Tally
     more_words(t, 2)
 }
 
-// The text of `len` bytes at `start`, decoded, and its decoded length among the words; `plain` says of a text that it is shown as it is.
+// The text of `len` bytes at `start`, decoded, and its decoded length among the words; the U+FFFD put in are added to those of the tally. `plain`
+// says of a text that it is shown as it is.
 pub(crate) fn put_text(
     s: &[u8],
     start: usize,

@@ -58,7 +58,7 @@ pub(crate) fn more_words(t: Tally, n: usize) -> Tally
     }
 }
 
-// A text more, at `start` with `len` bytes in the section and `size` bytes decoded; with it `replaced` U+FFFD were put in.
+// A text more, at `start` with `len` bytes in the section and `size` bytes decoded. `replaced` is the sum with this text's U+FFFD.
 pub(crate) fn more_text(t: Tally, start: usize, len: usize, size: usize, replaced: usize) -> Tally
     ensures { λ r. ⌜ r ≡ withText t start len size replaced ⌝ }
 {
