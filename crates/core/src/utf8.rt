@@ -233,7 +233,7 @@ pub fn decode_into(text: &[u8], out: &mut [u8], at: usize, replaced: &mut usize)
 }
 
 // The same where the text may be known to be shown as it is: then it is stored as it is. `replaced` is the sum of `before` and the U+FFFD put in.
-// It is in the loop over a section's texts. For one that is ASCII `before` is handed back: compiled into that loop, no memory is touched for it.
+// It is in the loop over a section's texts. For one that is ASCII `before` is handed back, so that the compiler can keep the sum in a register.
 pub fn decode_known(
     text: &[u8],
     plain: bool,
