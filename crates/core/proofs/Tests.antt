@@ -42,12 +42,12 @@ module _ (P : ℕ → Type 0) (s : List ℕ) where
       → (k : ℕ) → k < length s → P (getD s k 0)
   bytes-last i m l e f g k h = bytes-on (length s - m) m (λ j q. f j (omega arith)) g k (omega arith)
 
-  pub bytes-four : (b c : ℕ) → 8 ≤ length s → length s ≤ 32 → b ≡ min 8 (length s - 8) → c ≡ min 16 (length s - 8)
-      → ((k : ℕ) → k < 8 → P (getD s (0 + k) 0)) → ((k : ℕ) → k < 8 → P (getD s (b + k) 0)) → ((k : ℕ) → k < 8 → P (getD s (c + k) 0))
+  pub bytes-four : (b : ℕ) → 8 ≤ length s → length s ≤ 32 → b ≡ min 8 (length s - 8)
+      → ((k : ℕ) → k < 8 → P (getD s (0 + k) 0)) → ((k : ℕ) → k < 8 → P (getD s (b + k) 0)) → ((k : ℕ) → k < 8 → P (getD s (length s - 8 - b + k) 0))
       → ((k : ℕ) → k < 8 → P (getD s (length s - 8 + k) 0)) → (k : ℕ) → k < length s → P (getD s k 0)
-  bytes-four b c l e eb ec f g h i =
-      bytes-last (c + 8) 8 l (omega arith)
-      (λ k x. bytes-on c 8 (λ j y. bytes-on b 8 (λ n z. rw zero-add at (f n (omega arith))) g j (omega arith)) h k x) i
+  bytes-four b l e eb f g h i =
+      bytes-last (length s - 8 - b + 8) 8 l (omega arith)
+      (λ k x. bytes-on (length s - 8 - b) 8 (λ j y. bytes-on b 8 (λ n z. rw zero-add at (f n (omega arith))) g j (omega arith)) h k x) i
 
 -- ---- a test
 
@@ -93,21 +93,21 @@ module _ (test : ℕ → Bool) where
       (λ t. e ∙ every-part s (length s - m) m (omega arith) t)
 
   -- four blocks of 8 bytes, whatever the length from 8 to 32 is
-  pub every-four : (s : List ℕ) (i j : ℕ) (a b c d : Bool) → 8 ≤ length s → length s ≤ 32 → i ≡ min 8 (length s - 8) → j ≡ min 16 (length s - 8)
-      → a ≡ every test (take 8 (drop 0 s)) → b ≡ every test (take 8 (drop i s)) → c ≡ every test (take 8 (drop j s)) → d ≡ every test (take 8 (drop (length s - 8) s))
+  pub every-four : (s : List ℕ) (i : ℕ) (a b c d : Bool) → 8 ≤ length s → length s ≤ 32 → i ≡ min 8 (length s - 8)
+      → a ≡ every test (take 8 (drop 0 s)) → b ≡ every test (take 8 (drop i s)) → c ≡ every test (take 8 (drop (length s - 8 - i) s)) → d ≡ every test (take 8 (drop (length s - 8) s))
       → ((a && b) && c) && d ≡ every test s
-  every-four s i j a b c d h l ei ej ea eb ec ed =
+  every-four s i a b c d h l ei ea eb ec ed =
       same-answer (((a && b) && c) && d) (every test s)
       (λ t.
       let x = both-true ((a && b) && c) d t in
       let y = both-true (a && b) c (x .0) in
       let z = both-true a b (y .0) in
       every-of s
-      (bytes-four (λ v. test v ≡ true) s i j h l ei ej (every-in s 0 8 (omega arith) (sym ea ∙ z .0)) (every-in s i 8 (omega arith) (sym eb ∙ z .1))
-      (every-in s j 8 (omega arith) (sym ec ∙ y .1)) (every-in s (length s - 8) 8 (omega arith) (sym ed ∙ x .1))))
+      (bytes-four (λ v. test v ≡ true) s i h l ei (every-in s 0 8 (omega arith) (sym ea ∙ z .0)) (every-in s i 8 (omega arith) (sym eb ∙ z .1))
+      (every-in s (length s - 8 - i) 8 (omega arith) (sym ec ∙ y .1)) (every-in s (length s - 8) 8 (omega arith) (sym ed ∙ x .1))))
       (λ t.
       both ((a && b) && c) d
-      (both (a && b) c (both a b (ea ∙ every-part s 0 8 (omega arith) t) (eb ∙ every-part s i 8 (omega arith) t)) (ec ∙ every-part s j 8 (omega arith) t))
+      (both (a && b) c (both a b (ea ∙ every-part s 0 8 (omega arith) t) (eb ∙ every-part s i 8 (omega arith) t)) (ec ∙ every-part s (length s - 8 - i) 8 (omega arith) t))
       (ed ∙ every-part s (length s - 8) 8 (omega arith) t))
 
   -- a turn of a loop that tests k bytes, of which it has tested i

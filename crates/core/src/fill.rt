@@ -74,7 +74,7 @@ fn copy_four(src: &[u8], out: &mut [u8], at: usize, n: usize)
 {
     let last = n - 8;
     let b = least(8, last);
-    let c = least(16, last);
+    let c = last - b;
     copy_block(src, 0, out, at, 8);
     copy_block(src, b, out, at + b, 8);
     copy_block(src, c, out, at + c, 8);
@@ -97,6 +97,37 @@ pub(crate) fn copy_on(src: &[u8], out: &mut [u8], at: usize) -> usize
     }
     copy_first(src, out, at, n);
     at + n
+}
+
+// The same, with a store for each byte where they are one to four and there is room for them, as for the bytes of a character: a loop takes longer
+// than they do.
+pub(crate) fn copy_few(src: &[u8], out: &mut [u8], at: usize) -> usize
+    ensures { λ r. ⌜ (now (out .exit) ≡ sets (now (out .entry)) at (now (src .entry))) × (r ≡ at + min (length (now (src .entry))) (length (now (out .entry)) - at)) ⌝ }
+{
+    let n = src.len();
+    if ahead(at, out.len()) < 4 {
+        return copy_on(src, out, at);
+    }
+    if 4 < n {
+        return copy_on(src, out, at);
+    }
+    if n == 0 {
+        return at;
+    }
+    out[at] = src[0];
+    if n == 1 {
+        return at + 1;
+    }
+    out[at + 1] = src[1];
+    if n == 2 {
+        return at + 2;
+    }
+    out[at + 2] = src[2];
+    if n == 3 {
+        return at + 3;
+    }
+    out[at + 3] = src[3];
+    at + 4
 }
 
 pub fn copy(src: &[u8], out: &mut [u8], at: usize)

@@ -11,6 +11,7 @@ ghost use Rattle.core.specs.inner.Flow.{Rows};
 ghost use Rattle.core.specs.inner.Scan.{added, Lones};
 use crate::fill::ahead;
 use crate::fill::copy;
+use crate::fill::copy_few;
 use crate::fill::copy_on;
 use crate::number::total;
 use crate::utf8::class::CLASSES;
@@ -278,7 +279,7 @@ fn decode_steps(
         match step_at(text, i, classes) {
             Step::Good(k) => {
                 let next = i + k;
-                o = copy_on(&text[i..next], out, o);
+                o = copy_few(&text[i..next], out, o);
                 i = next;
             }
             Step::Bad(k) => {

@@ -48,21 +48,33 @@ fn plain_in(s: &[u8], at: usize, n: usize) -> bool
     all
 }
 
-// Whether a whole text of 32 bytes or more is ASCII, by blocks of which the last may overlap the one before it.
+// Whether a whole text of 32 to 64 bytes is ASCII, by its first 32 and its last.
+fn ascii_two(s: &[u8]) -> bool
+    requires { ⌜ (32 ≤ length (now s)) × (length (now s) ≤ 64) ⌝ }
+    ensures { λ r. ⌜ r ≡ every ascii (now (s .entry)) ⌝ }
+{
+    if ascii_in(s, 0, 32) {
+        return ascii_in(s, s.len() - 32, 32);
+    }
+    false
+}
+
+// Whether a whole text of 64 bytes or more is ASCII, by blocks of which the last may overlap the one before it. A test takes as long as the loads of
+// 32 bytes: with 64 to a block there is half as much of it.
 fn ascii_long(s: &[u8]) -> bool
-    requires { ⌜ 32 ≤ length (now s) ⌝ }
+    requires { ⌜ 64 ≤ length (now s) ⌝ }
     ensures { λ r. ⌜ r ≡ every ascii (now (s .entry)) ⌝ }
 {
     let n = s.len();
     let mut i = 0;
-    while 32 <= n - i {
-        if ascii_in(s, i, 32) {
-            i += 32;
+    while 64 <= n - i {
+        if ascii_in(s, i, 64) {
+            i += 64;
         } else {
             return false;
         }
     }
-    ascii_in(s, n - 32, 32)
+    ascii_in(s, n - 64, 64)
 }
 
 // Whether a whole text of 8 to 32 bytes is ASCII and without a zero. It is four blocks whatever the length, so that the processor has no length
@@ -72,9 +84,10 @@ fn plain_four(s: &[u8]) -> bool
     ensures { λ r. ⌜ r ≡ every plain (now (s .entry)) ⌝ }
 {
     let last = s.len() - 8;
+    let next = least(8, last);
     let a = plain_in(s, 0, 8);
-    let b = plain_in(s, least(8, last), 8);
-    let c = plain_in(s, least(16, last), 8);
+    let b = plain_in(s, next, 8);
+    let c = plain_in(s, last - next, 8);
     let d = plain_in(s, last, 8);
     a & b & c & d
 }
@@ -93,6 +106,9 @@ pub(crate) fn is_ascii(s: &[u8]) -> bool
     }
     if n < 33 {
         return plain_four(t);
+    }
+    if n < 64 {
+        return ascii_two(t);
     }
     ascii_long(t)
 }

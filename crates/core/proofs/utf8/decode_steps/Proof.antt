@@ -28,8 +28,8 @@ bad-arm c = bad-at _ _ _ (search needs) _ (c .before .before .before .step-at .e
 add-next : tie.Need-add-next Inv-loop μ-loop
 add-next c = let g = good-arm c in omega (arith, g .reach)
 
-part-copy-on-end : tie.Need-part-copy-on-end Inv-loop μ-loop
-part-copy-on-end c = let g = good-arm c in omega (arith, g .reach)
+part-copy-few-end : tie.Need-part-copy-few-end Inv-loop μ-loop
+part-copy-few-end c = let g = good-arm c in omega (arith, g .reach)
 
 loop-less : tie.Need-loop-less Inv-loop μ-loop
 loop-less c = let g = good-arm (c .before .before .before .before .before) in omega (arith, g .some, g .reach)
@@ -39,8 +39,8 @@ loop-again c =
     let h : c .before .before .before .before .before .before .before .before .before .before .loop .i ≤ c .before .before .before .before .before .before .before .before .before .before .loop .i + c .before .before .before .before .before .before .k .given .0 .0 = omega arith in
     let g = good-arm (c .before .before .before .before .before) in (
       counted-good _ _ _ _ _ (c .before .before .before .before .before .before .before .before .before .before .loop .inv .0) g,
-      c .before .before .copy-on .kept .1 .0 ∙ c .before .before .before .before .before .before .before .before .before .before .loop .inv .1,
-      sets-good _ _ _ _ _ _ _ _ g (part-is _ _ _ h) (c .before .before .copy-on .ensures .0) (c .before .before .copy-on .ensures .1) ∙ c .before .before .before .before .before .before .before .before .before .before .loop .inv .2,
+      c .before .before .copy-few .kept .1 .0 ∙ c .before .before .before .before .before .before .before .before .before .before .loop .inv .1,
+      sets-good _ _ _ _ _ _ _ _ g (part-is _ _ _ h) (c .before .before .copy-few .ensures .0) (c .before .before .copy-few .ensures .1) ∙ c .before .before .before .before .before .before .before .before .before .before .loop .inv .2,
     )
 
 sub-grown : tie.Need-sub-grown Inv-loop μ-loop
@@ -78,5 +78,5 @@ pub decode-steps-spec : {M : Type 1} → statement M
 decode-steps-spec =
     tie.close
     (tie.spec Inv-loop μ-loop (λ c. search needs) (λ c κs. search needs) (search needs) add-next (search needs) (search needs)
-    part-copy-on-end (search needs) loop-less loop-again (search needs) (search needs) sub-grown add-grown add-count add-i loop-less-2
+    part-copy-few-end (search needs) loop-less loop-again (search needs) (search needs) sub-grown add-grown add-count add-i loop-less-2
     loop-again-2 (search needs) (search needs) returns)

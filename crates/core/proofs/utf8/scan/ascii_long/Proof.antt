@@ -21,13 +21,13 @@ loop-holds : tie.Need-loop-holds Inv-loop μ-loop
 loop-holds c = (omega arith, λ k h. absurd (omega arith))
 
 loop-again : tie.Need-loop-again Inv-loop μ-loop
-loop-again c = (omega arith, bytes-on (λ x. ascii x ≡ true) (now (c .before .before .before .before .before .args .s)) _ 32 (c .before .before .before .loop .inv .1) (every-in ascii (now (c .before .before .before .before .before .args .s)) (c .before .before .before .loop .i) 32 (omega arith) (sym (c .before .ascii-in .ensures) ∙ c .if1 .taken)))
+loop-again c = (omega arith, bytes-on (λ x. ascii x ≡ true) (now (c .before .before .before .before .before .args .s)) _ 64 (c .before .before .before .loop .inv .1) (every-in ascii (now (c .before .before .before .before .before .args .s)) (c .before .before .before .loop .i) 64 (omega arith) (sym (c .before .ascii-in .ensures) ∙ c .if1 .taken)))
 
 returns : tie.Need-returns Inv-loop μ-loop
-returns c = every-fails ascii _ (c .before .before .before .loop .i) 32 (omega arith) (sym (c .before .ascii-in .ensures) ∙ c .if1 .left)
+returns c = every-fails ascii _ (c .before .before .before .loop .i) 64 (omega arith) (sym (c .before .ascii-in .ensures) ∙ c .if1 .left)
 
 returns-2 : tie.Need-returns-2 Inv-loop μ-loop
-returns-2 c = every-last ascii (now (c .before .before .before .before .args .s)) (c .before .before .loop .i) 32 _ (c .before .before .before .before .pre) (omega arith) (c .before .before .loop .inv .1) (c .ascii-in2 .ensures)
+returns-2 c = every-last ascii (now (c .before .before .before .before .args .s)) (c .before .before .loop .i) 64 _ (c .before .before .before .before .pre) (omega arith) (c .before .before .loop .inv .1) (c .ascii-in2 .ensures)
 
 pub ascii-long-spec : {M : Type 1} → statement M
 ascii-long-spec =

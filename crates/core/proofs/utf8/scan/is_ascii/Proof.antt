@@ -37,9 +37,13 @@ returns-2 : tie.Need-returns-2
 returns-2 c = between _ _ (c .before .before .if1 .left) (omega (arith, c .before .if2 .taken)) (c .plain-four .ensures ∙ ap (every plain) (part-all _))
 
 returns-3 : tie.Need-returns-3
-returns-3 c = longer _ _ (omega (arith, c .before .if2 .left)) (c .ascii-long .ensures ∙ ap (every ascii) (part-all _))
+returns-3 c = longer _ _ (omega (arith, c .before .before .if2 .left)) (c .ascii-two .ensures ∙ ap (every ascii) (part-all _))
+
+returns-4 : tie.Need-returns-4
+returns-4 c = longer _ _ (omega (arith, c .before .before .if2 .left)) (c .ascii-long .ensures ∙ ap (every ascii) (part-all _))
 
 pub is-ascii-spec : {M : Type 1} → statement M
 is-ascii-spec =
     tie.close
-    (tie.spec (search needs) (search needs) (search needs) (search needs) returns (search needs) returns-2 (search needs) returns-3)
+    (tie.spec (search needs) (search needs) (search needs) (search needs) returns (search needs) returns-2 (search needs)
+    returns-3 (search needs) returns-4)
