@@ -354,7 +354,7 @@ fn texts(budget: Duration) {
             let size = input.bytes.len() as f64 / 1e9;
             let decode = best(budget, || {
                 input.each(|text| {
-                    black_box(proved::decode_into(black_box(text), &mut out, 0, black_box(&mut replaced)));
+                    black_box(proved::decode_into(black_box(text), &mut out, 0, &mut replaced));
                 })
             });
             let lossy = best(budget, || {
@@ -364,7 +364,7 @@ fn texts(budget: Duration) {
             });
             let plain = best(budget, || {
                 input.each(|text| {
-                    black_box(proved::decode_plain(black_box(text), &mut out, 0, black_box(&mut replaced)));
+                    black_box(proved::decode_plain(black_box(text), &mut out, 0, &mut replaced));
                 })
             });
             let formed = best(budget, || {
