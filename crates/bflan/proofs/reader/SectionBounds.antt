@@ -2,17 +2,16 @@
 -- all in the section.
 -- Assumes nothing.
 use Prim.Native.Nat.{ℕ, zero, suc, _+_, _*_, _<_, _≤_}
-use mathlib.Core.Bool.{Bool, true, false}
 use mathlib.Core.List.{List}
 use native.Mathlib.Omega.{arith}
 use lib.Dec.{leb, eqb}
 use lib.ListN.{length}
-use Rattle.core.specs.Choice.{pick}
 use Rattle.core.proofs.Numbers.{Bytes}
 use Rattle.bflan.specs.pai1.Letters.{fleu}
 use Rattle.bflan.specs.Reader.{here, num, seekTo, skip}
 use Rattle.bflan.specs.pai1.Reading.{keyOf, curveOf, countOf, keys, target, datum, info, infoTable, content, texture, ownLetters, contents, body, section}
 use Rattle.bflan.proofs.reader.Bounds.{Gives, none, either, next, past, done, Small, wider, small-none, small-word, small-words, small-append, many-small, visit-small, ended-small, fixed-small, numbers-fit, wider-all, num-lt, Countable}
+use Rattle.bflan.proofs.reader.Unstopped.{pick-by}
 
 module _ (s : List ℕ) where
   texture-small : (base : ℕ) → Gives s (Small s 1 1) (texture base)
@@ -26,11 +25,7 @@ module _ (s : List ℕ) where
 
 pub count-le : (curve n : ℕ) → countOf curve n ≤ n
 unfolding countOf
-count-le curve n = go (leb curve 2)
-  where
-    go : (t : Bool) → pick t n 0 ≤ n
-    go true = omega arith
-    go false = omega arith
+count-le curve n = pick-by (λ c. c ≤ n) (leb curve 2) (λ e. omega arith) (λ e. omega arith)
 
 module _ (s : List ℕ) (bytes : Bytes s) (fits : length s ≤ 16777216) where
   keys-small : (curve n : ℕ) → n < 65536 → Gives s (Small s 196605 0) (keys curve n)

@@ -8,6 +8,7 @@ use native.Mathlib.Omega.{arith}
 use borrow.Author.Tests.{leb-true, leb-false}
 use lib.Dec.{leb}
 use lib.ListN.{length}
+use Rattle.core.specs.Choice.{pick}
 use Rattle.core.specs.Number.{get}
 use Rattle.core.specs.Run.{numbersAt, numbersOf}
 use Rattle.core.specs.declared.run.Run.{Run}
@@ -19,6 +20,11 @@ use Rattle.bflan.specs.Reader.{Res, ok, stop, P, andThen, Item, num, see
 use Rattle.bflan.proofs.reader.Emits.{sought-there, sought-over}
 use Rattle.bflan.proofs.reader.KeyRuns.{asNumbers, num-there, num-short, numbers-run}
 use Rattle.bflan.proofs.reader.Rows.{rowThen, offsetBy, offset-is, fieldsAt, row-there, row-cut}
+
+-- what both sides of a choice have, by its test
+pub pick-by : {A : Type 0} (Q : A → Type 0) (t : Bool) {x y : A} → (t ≡ true → Q x) → (t ≡ false → Q y) → Q (pick t x y)
+pick-by Q true f g = f refl
+pick-by Q false f g = g refl
 
 -- of its value and of the place behind it
 abbrev pub Holds : {A : Type 0} → (A → ℕ → Type 0) → Res A → Type 0

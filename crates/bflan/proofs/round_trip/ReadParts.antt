@@ -5,6 +5,7 @@ use mathlib.Core.Path.{_≡_, refl, ap, ap₂, sym, _∙_}
 use mathlib.Core.Bool.{Bool, true, false}
 use mathlib.Core.List.{List, [], _∷_, _++_, map}
 use native.Mathlib.Omega.{arith}
+use borrow.Author.Tests.{eqb-false}
 use lib.Dec.{eqb}
 use lib.ListN.{length}
 use Rattle.core.specs.Choice.{pick}
@@ -17,12 +18,13 @@ use Rattle.core.proofs.Zeros.{ended-text}
 use Rattle.bflan.specs.declared.fault.Fault.the-variants.{OtherLetters}
 use Rattle.bflan.specs.pai1.FieldValues.{numbersIn}
 use Rattle.bflan.specs.pai1.Letters.{fleu, lettersOf, targetOf}
+use Rattle.bflan.specs.Limits.{All}
 use Rattle.bflan.specs.pai1.Layout.{keySkip}
 use Rattle.bflan.specs.pai1.Places.{total, stride, infoTableIn}
-use Rattle.bflan.specs.Reader.{ok, P, andThen, _>>=_, ret, given, fail, Item, word, text, asText, skip, endedText, oneEnded, numbers, many, visit}
+use Rattle.bflan.specs.Reader.{Res, ok, stop, P, andThen, _>>=_, ret, given, fail, Item, word, text, asText, skip, endedText, oneEnded, numbers, many, visit}
 use Rattle.bflan.specs.pai1.Reading.{keyOf, curveOf, countOf, keys, target, datum, info, typeOf, infoTable, content, texture, ownLetters, flagOf, contents, body, section}
 use Rattle.bflan.specs.pai1.RecordAt.{nameSize, reached, partsAt, endedAt, keysAt, targetAt, datumAt, dataAt, infoAt, contentAt, recordAt}
-use Rattle.bflan.specs.pai1.Record.{Standard, ExtendedUserData, keyWidths, targetCells, datumCells, infoCells, contentCells, cells}
+use Rattle.bflan.specs.pai1.Record.{ExtendedUserDataAnim, AnimInfo, Standard, ExtendedUserData, keyWidths, targetCells, datumCells, infoCells, contentCells, cells}
 use Rattle.bflan.specs.Cells.{Cell, word as wordCell, chars, each, textCells}
 use Rattle.bflan.specs.Items.{shownAt}
 use Rattle.bflan.proofs.Layouts.{stride-three}
@@ -34,7 +36,7 @@ use Rattle.bflan.proofs.reader.InfoParts.{infoAfter, infoWidths}
 use Rattle.bflan.proofs.reader.Rows.{rowThen, fieldsAt}
 use Rattle.bflan.proofs.reader.SectionParts.{headOf, headWidths}
 use Rattle.bflan.proofs.reader.TargetParts.{targetAfter, targetWidths}
-use Rattle.bflan.proofs.reader.Unstopped.{If, if-ok, yes, no, next, after, number, head, sought, table}
+use Rattle.bflan.proofs.reader.Unstopped.{pick-by, If, if-ok, yes, no, next, after, number, head, sought, table}
 use Rattle.bflan.proofs.round_trip.ReadBack.{shownIn, shown-append, shown-words}
 
 module _ (s : List ℕ) where
@@ -47,6 +49,40 @@ module _ (s : List ℕ) where
   unfolding keysAt
   length-keys curve zero p = refl
   length-keys curve (suc n) p = ap suc (length-keys curve n (p + stride curve))
+
+-- ---- what holds of each part holds of the lists of them
+
+module _ (s : List ℕ) where
+  pub parts-all : {X : Type 0} (Q : X → Type 0) (part : ℕ → X) (base n at : ℕ) → ((b : ℕ) → Q (part b)) → All Q (partsAt s part base n at)
+  unfolding partsAt
+  parts-all Q part base zero at h = tt
+  parts-all Q part base (suc n) at h = (h (base + get 4 s at), parts-all Q part base n (at + 4) h)
+
+  pub keys-all : (Q : List ℕ → Type 0) (c n p : ℕ) → ((q : ℕ) → Q (numbersIn (keyWidths c) s q)) → All Q (keysAt s c n p)
+  unfolding keysAt
+  keys-all Q c zero p h = tt
+  keys-all Q c (suc n) p h = (h p, keys-all Q c n (p + stride c) h)
+
+  -- the data that are reached, which are not all of them where reading is stopped
+  reached-by : {A : Type 0} (Q : A → Type 0) (r : Res (List Item)) {none : A} {f : ℕ → A} → Q none → ((q : ℕ) → Q (f q)) → Q (reached r none f)
+  reached-by Q (ok is q) h g = g q
+  reached-by Q (stop w) h g = h
+
+  pub data-all : (Q : ExtendedUserDataAnim → Type 0) (n p : ℕ) → ((q : ℕ) → Q (datumAt s q)) → All Q (dataAt s n p)
+  unfolding dataAt
+  data-all Q zero p h = tt
+  data-all Q (suc n) p h = (h p, reached-by (All Q) (datum s p) tt (λ q. data-all Q n q h))
+
+  pub data-most : (n p : ℕ) → length (dataAt s n p) ≤ n
+  unfolding dataAt
+  data-most zero p = omega arith
+  data-most (suc n) p = let h = reached-by (λ ds. length ds ≤ n) (datum s p) {none = []} {f = λ q. dataAt s n q} (omega arith) (data-most n) in omega (arith, h)
+
+  -- an info of either kind
+  pub info-by : (Q : AnimInfo → Type 0) (b : ℕ) → Q (ExtendedUserData (dataAt s (get 1 s (b + 4)) (b + 8)))
+      → ((get 4 s b ≡ fleu → ⊥) → Q (Standard (lettersOf (get 4 s b)) (partsAt s (targetAt s (get 4 s b)) b (get 1 s (b + 4)) (b + 8)))) → Q (infoAt s b)
+  unfolding infoAt
+  info-by Q b h g = pick-by Q (eqb (get 4 s b) fleu) (λ e. h) (λ e. g (eqb-false (get 4 s b) fleu e))
 
 -- ---- reading gives them: what it shows are their cells
 
