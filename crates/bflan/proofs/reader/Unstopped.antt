@@ -106,6 +106,11 @@ module _ (s : List ℕ) {B : Type 0} {Q : B → ℕ → Type 0} where
           rw d (f (table-fits n s i p h e))
       go (Cut o k) e = let d : numbers n s i ≡ asNumbers (Cut o k) (numbersAt n s i) = numbers-run n s i ∙ rw e in rw d (no _)
 
+  -- a table of offsets, and the parts at them
+  pub listed : (base : ℕ) (p : ℕ → P (List Item)) (n i : ℕ) (q : List Item → P B) {R : List Item → ℕ → Type 0} → i ≤ length s → ((j : ℕ) → If R (visit base p (numbersAt n s i) s j))
+      → (i + 4 * n ≤ length s → (is : List Item) (j : ℕ) → R is j → If Q (q is s j)) → If Q (andThen (numbers n s i) (λ os s j. andThen (visit base p os s j) q s) s)
+  listed base p n i q h g f = table n i _ h (λ l. after s (visit base p (numbersAt n s i) s (i + 4 * n)) q (g (i + 4 * n)) (f l))
+
 -- ---- parts at the offsets of a table
 
 module _ (s : List ℕ) (base : ℕ) (p : ℕ → P (List Item)) (Good : ℕ → Type 0) (h : (b i : ℕ) → If (λ is j. Good b) (p b s i)) where

@@ -15,20 +15,17 @@ use Rattle.core.specs.Text.{endedOf}
 use Rattle.core.specs.declared.text.TextAt.{TextAt}
 use Rattle.core.specs.declared.text.TextAt.the-variants.{Text, Past as TextPast, Unended}
 use Rattle.core.proofs.Zeros.{ended-text}
-use Rattle.bflan.specs.declared.fault.Fault.the-variants.{OtherLetters}
 use Rattle.bflan.specs.pai1.FieldValues.{numbersIn}
 use Rattle.bflan.specs.pai1.Letters.{fleu, lettersOf, targetOf}
 use Rattle.bflan.specs.Limits.{All}
-use Rattle.bflan.specs.pai1.Layout.{keySkip}
 use Rattle.bflan.specs.pai1.Places.{total, stride, infoTableIn}
-use Rattle.bflan.specs.Reader.{Res, ok, stop, P, andThen, _>>=_, ret, given, fail, Item, word, text, asText, skip, endedText, oneEnded, numbers, many, visit}
-use Rattle.bflan.specs.pai1.Reading.{keyOf, curveOf, countOf, keys, target, datum, info, typeOf, infoTable, content, texture, ownLetters, flagOf, contents, body, section}
+use Rattle.bflan.specs.Reader.{Res, ok, stop, P, andThen, _>>=_, ret, given, Item, word, text, asText, endedText, oneEnded, numbers, many, visit}
+use Rattle.bflan.specs.pai1.Reading.{keyOf, curveOf, countOf, keys, target, datum, info, typeOf, infoTable, content, texture, flagOf, contents, body, section}
 use Rattle.bflan.specs.pai1.RecordAt.{nameSize, reached, partsAt, endedAt, keysAt, targetAt, datumAt, dataAt, infoAt, contentAt, recordAt}
 use Rattle.bflan.specs.pai1.Record.{ExtendedUserDataAnim, AnimInfo, Standard, ExtendedUserData, keyWidths, targetCells, datumCells, infoCells, contentCells, cells}
 use Rattle.bflan.specs.Cells.{Cell, word as wordCell, chars, each, textCells}
 use Rattle.bflan.specs.Items.{shownAt}
-use Rattle.bflan.proofs.Layouts.{stride-three}
-use Rattle.bflan.proofs.place.Locating.{table-at}
+use Rattle.bflan.proofs.place.Locating.{key-at, table-at, section-by}
 use Rattle.bflan.specs.inner.SectionParts.{afterHead}
 use Rattle.bflan.proofs.reader.ContentParts.{name, contentAfter, contentWidths}
 use Rattle.bflan.proofs.reader.DatumParts.{fieldsIn, datumAfter, datumWidths}
@@ -36,7 +33,7 @@ use Rattle.bflan.proofs.reader.InfoParts.{infoAfter, infoWidths}
 use Rattle.bflan.proofs.reader.Rows.{rowThen, fieldsAt}
 use Rattle.bflan.proofs.reader.SectionParts.{headOf, headWidths}
 use Rattle.bflan.proofs.reader.TargetParts.{targetAfter, targetWidths}
-use Rattle.bflan.proofs.reader.Unstopped.{pick-by, If, if-ok, yes, no, next, after, number, head, sought, table}
+use Rattle.bflan.proofs.reader.Unstopped.{pick-by, If, if-ok, yes, no, next, after, number, head, sought, table, listed}
 use Rattle.bflan.proofs.round_trip.ReadBack.{shownIn, shown-append, shown-words}
 
 module _ (s : List ℕ) where
@@ -126,20 +123,12 @@ module _ (s : List ℕ) where
   texture-shown b i = sought s b i _ (λ l. ended-shown b)
 
   -- keys
-  key-shown : (c p : ℕ) → If (λ is j. (shownIn s is ≡ map wordCell (numbersIn (keyWidths c) s p)) × (j ≡ p + stride c)) (keyOf c s p)
-  unfolding stride total keyWidths keySkip skip rowThen fieldsAt numbersIn shownIn
-  key-shown zero p = head s (keyWidths 0) (λ vs. ret (map word vs)) p 0 (omega arith) (λ h. yes (refl, refl))
-  key-shown (suc zero) p = head s (keyWidths 1) (λ vs. _>>=_ (skip 2) (λ n. ret (map word vs))) p 0 (omega arith) (λ h. yes (refl, omega arith))
-  key-shown (suc (suc c)) p =
-      head s (keyWidths 2) (λ vs. ret (map word vs)) p 0 (omega arith) (λ h.
-      yes (let e : p + 4 + 4 ≡ p + 8 = omega arith in rw e, ap (λ (n : ℕ). p + n) (sym (stride-three c))))
-
   keys-shown : (c n p : ℕ) → If (Shows (each (map wordCell)) (keysAt s c n p)) (many n (keyOf c) s p)
   unfolding many keysAt
   keys-shown c zero p = yes (shows-none (map wordCell))
   keys-shown c (suc n) p =
-      after s (keyOf c s p) _ (key-shown c p) (λ x j h. after s (many n (keyOf c) s j) _ (keys-shown c n j) (λ xs j′ hs.
-      yes (shows-more (map wordCell) (numbersIn (keyWidths c) s p) (keysAt s c n (p + stride c)) x xs (h .0) (hs ∙ rw (h .1)))))
+      after s (keyOf c s p) _ (key-at s c p) (λ x j h. after s (many n (keyOf c) s j) _ (keys-shown c n j) (λ xs j′ hs.
+      yes (shows-more (map wordCell) (numbersIn (keyWidths c) s p) (keysAt s c n (p + stride c)) x xs (ap (shownIn s) (h .0) ∙ shown-words s (numbersIn (keyWidths c) s p)) (hs ∙ rw (h .1)))))
 
   -- a target
   target-cells : (letters b : ℕ) (ks : List Item) → shownIn s ks ≡ each (map wordCell) (targetAt s letters b .keys)
@@ -179,18 +168,13 @@ module _ (s : List ℕ) where
       (ended-shown (p + 16 + 4 * (3 * get 4 s (p + 8)) + get 4 s (p + 16 + 4 * (3 * get 4 s (p + 8)))))
       (λ key j h. yes (datum-cells p key (unfold datumAt in h)))))))
 
-  data-shown : (n p : ℕ) → If (Shows (each datumCells) (dataAt s n p)) (many n datum s p)
+  -- where all are read, they are all reached
+  data-shown : (n p : ℕ) → If (λ is j. (length (dataAt s n p) ≡ n) × (shownIn s is ≡ each datumCells (dataAt s n p))) (many n datum s p)
   unfolding many dataAt
-  data-shown zero p = yes (shows-none datumCells)
+  data-shown zero p = yes (refl, shows-none datumCells)
   data-shown (suc n) p =
       next s (datum s p) _ (λ x j e. after s (many n datum s j) _ (data-shown n j) (λ xs j′ hs.
-      yes (shows-more datumCells (datumAt s p) (reached (datum s p) [] (λ q. dataAt s n q)) x xs (if-ok (Shows datumCells (datumAt s p)) (datum s p) (datum-shown p) e) (rw e hs))))
-
-  length-data : (n p : ℕ) → If (λ is j. length (dataAt s n p) ≡ n) (many n datum s p)
-  unfolding many dataAt
-  length-data zero p = yes refl
-  length-data (suc n) p =
-      next s (datum s p) _ (λ x j e. after s (many n datum s j) _ (length-data n j) (λ xs j′ h. yes (rw e (ap suc h))))
+      yes (rw e (ap suc (hs .0)), shows-more datumCells (datumAt s p) (reached (datum s p) [] (λ q. dataAt s n q)) x xs (if-ok (Shows datumCells (datumAt s p)) (datum s p) (datum-shown p) e) (rw e (hs .1)))))
 
   -- infos
   info-shown : (b i : ℕ) → If (Shows infoCells (infoAt s b)) (info b s i)
@@ -205,15 +189,10 @@ module _ (s : List ℕ) where
           (given t (_>>=_ (many n datum) (λ ds. ret (word fleu ∷ word n ∷ ds)))
           (_>>=_ (numbers n) (λ offsets. _>>=_ (visit b (target (get 4 s b)) offsets) (λ ts. ret (word (lettersOf (get 4 s b)) ∷ word n ∷ ts)))) s (b + 8))
       kind h true =
-          next s (many n datum s (b + 8)) _ (λ ds j e.
-          yes (ap₂ (λ (m : ℕ) (cs : List Cell). wordCell fleu ∷ wordCell m ∷ cs)
-          (sym (if-ok (λ is j. length (dataAt s n (b + 8)) ≡ n) (many n datum s (b + 8)) (length-data n (b + 8)) e))
-          (if-ok (Shows (each datumCells) (dataAt s n (b + 8))) (many n datum s (b + 8)) (data-shown n (b + 8)) e)))
+          after s (many n datum s (b + 8)) _ (data-shown n (b + 8)) (λ ds j h. yes (ap₂ (λ (m : ℕ) (cs : List Cell). wordCell fleu ∷ wordCell m ∷ cs) (sym (h .0)) (h .1)))
       kind h false =
-          table s n (b + 8) _ h (λ l.
-          after s (visit b (target (get 4 s b)) (numbersAt n s (b + 8)) s (b + 8 + 4 * n)) _
-          (parts-shown targetCells (targetAt s (get 4 s b)) b (target (get 4 s b)) (target-shown (get 4 s b)) n (b + 8) (b + 8 + 4 * n)) (λ ts j hs.
-          yes (ap₂ (λ (m : ℕ) (cs : List Cell). wordCell (lettersOf (get 4 s b)) ∷ wordCell m ∷ cs) (sym (length-parts s (targetAt s (get 4 s b)) b n (b + 8))) hs)))
+          listed s b (target (get 4 s b)) n (b + 8) _ h (parts-shown targetCells (targetAt s (get 4 s b)) b (target (get 4 s b)) (target-shown (get 4 s b)) n (b + 8)) (λ l ts j hs.
+          yes (ap₂ (λ (m : ℕ) (cs : List Cell). wordCell (lettersOf (get 4 s b)) ∷ wordCell m ∷ cs) (sym (length-parts s (targetAt s (get 4 s b)) b n (b + 8))) hs))
 
   -- contents
   content-cells : (b : ℕ) (is : List Item) → shownIn s is ≡ each infoCells (contentAt s b .infos)
@@ -234,10 +213,8 @@ module _ (s : List ℕ) where
           (_>>=_ (numbers (get 1 s (b + 28))) (λ offsets. _>>=_ (visit b info offsets) (λ is. ret (text b (nameSize s b) ∷ word (typeOf (get 1 s (b + 29))) ∷ word (get 1 s (b + 28)) ∷ is))) s j)
       infos j e h =
           rw e
-          (table s (get 1 s (b + 28)) (infoTableIn s b) _ h (λ l.
-          after s (visit b info (numbersAt (get 1 s (b + 28)) s (infoTableIn s b)) s (infoTableIn s b + 4 * get 1 s (b + 28))) _
-          (parts-shown infoCells (infoAt s) b info info-shown (get 1 s (b + 28)) (infoTableIn s b) (infoTableIn s b + 4 * get 1 s (b + 28))) (λ is k hs.
-          yes (content-cells b is (unfold contentAt in hs)))))
+          (listed s b info (get 1 s (b + 28)) (infoTableIn s b) _ h (parts-shown infoCells (infoAt s) b info info-shown (get 1 s (b + 28)) (infoTableIn s b)) (λ l is k hs.
+          yes (content-cells b is (unfold contentAt in hs))))
 
   contents-shown : (to n i : ℕ) → If (Shows (each contentCells) (partsAt s (contentAt s) 0 n to)) (contents to n s i)
   unfolding contents
@@ -257,19 +234,10 @@ module _ (s : List ℕ) where
   unfolding body afterHead rowThen total fieldsAt
   body-shown size =
       head s headWidths (λ vs. afterHead size (headOf vs)) 8 0 (omega arith) (λ l20.
-      table s (get 2 s 12) 20 _ l20 (λ l.
-      after s (visit 20 texture (numbersAt (get 2 s 12) s 20) s (20 + 4 * get 2 s 12)) _ (parts-shown textCells (endedAt s) 20 texture texture-shown (get 2 s 12) 20 (20 + 4 * get 2 s 12)) (λ ts k ht.
+      listed s 20 texture (get 2 s 12) 20 _ l20 (parts-shown textCells (endedAt s) 20 texture texture-shown (get 2 s 12) 20) (λ l ts k ht.
       after s (contents (get 4 s 16) (get 2 s 14) s k) _ (contents-shown (get 4 s 16) (get 2 s 14) k) (λ cs m hc.
-      sought s size m _ (λ z. yes (section-cells ts cs (unfold recordAt in ht) (unfold recordAt in hc)))))))
-
-  section-shows : If (Shows cells (recordAt s)) (section s 0)
-  unfolding section
-  section-shows = number s 4 0 _ (λ l4. number s 4 4 _ (λ l8. kind (eqb (get 4 s 0) ownLetters)))
-    where
-      kind : (t : Bool) → If (Shows cells (recordAt s)) (given t (body (get 4 s 4)) (fail (OtherLetters (get 4 s 0))) s 8)
-      kind true = body-shown (get 4 s 4)
-      kind false = no _
+      sought s size m _ (λ z. yes (section-cells ts cs (unfold recordAt in ht) (unfold recordAt in hc))))))
 
   -- what reads is the record that the bytes are
   pub section-shown : (is : List Item) (end : ℕ) → section s 0 ≡ ok is end → shownIn s is ≡ cells (recordAt s)
-  section-shown is end e = if-ok (Shows cells (recordAt s)) (section s 0) section-shows e
+  section-shown is end e = if-ok (Shows cells (recordAt s)) (section s 0) (section-by s body-shown) e
