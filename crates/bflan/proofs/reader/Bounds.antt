@@ -93,7 +93,7 @@ module _ (s : List ℕ) where
   unfolding textsIn
   small-word v h = record { items = omega (arith, h .items); texts = h .texts; inside = h .inside }
 
-  pub small-text : (a n : ℕ) → a + n ≤ length s → Small s 1 1 (text a n ∷ [])
+  small-text : (a n : ℕ) → a + n ≤ length s → Small s 1 1 (text a n ∷ [])
   unfolding textsIn
   small-text a n h = record { items = omega arith; texts = omega arith; inside = at }
     where
