@@ -7,20 +7,20 @@ use mathlib.Core.List.{List, [], _∷_, _++_, map}
 use native.Mathlib.Omega.{arith}
 use lib.ListN.{length, getD, length-append, length-map}
 use Rattle.core.specs.Run.{numbersOf, numbersAt}
-use Rattle.core.specs.Text.{fixedOf, endedOf}
+use Rattle.core.specs.Text.{fixedOf}
 use Rattle.core.specs.declared.run.Run.{Run}
 use Rattle.core.specs.declared.run.Run.the-variants.{Next, Cut}
 use Rattle.core.specs.declared.text.TextAt.{TextAt}
 use Rattle.core.specs.declared.text.TextAt.the-variants.{Text, Past as TextPast, Unended}
 use Rattle.core.proofs.Runs.{length-numbers, numbers-next}
-use Rattle.core.proofs.Zeros.{fixed-text, ended-text}
+use Rattle.core.proofs.Zeros.{fixed-text}
 use Rattle.bflan.specs.declared.fault.Fault.{Fault}
 use Rattle.bflan.specs.Items.{textsIn}
 use Rattle.bflan.specs.pai1.Places.{total}
-use Rattle.bflan.specs.Reader.{ok, P, andThen, _>>=_, ret, given, fail, Item, word, text, asText, fixedText, endedText, oneEnded, numbers, many, visit}
+use Rattle.bflan.specs.Reader.{ok, P, _>>=_, ret, given, fail, Item, word, text, asText, fixedText, oneEnded, numbers, many, visit}
 use Rattle.bflan.proofs.reader.KeyRuns.{asNumbers, numbers-run}
 use Rattle.bflan.proofs.reader.Rows.{rowThen, fieldsAt}
-use Rattle.bflan.proofs.reader.Unstopped.{If, if-ok, yes, no, weaker, next as then, after, head}
+use Rattle.bflan.proofs.reader.Unstopped.{If, if-ok, yes, no, weaker, next as then, after, head, ended}
 
 -- ---- what holds of what a reading gives, wherever it starts, unless it is stopped
 
@@ -126,13 +126,7 @@ module _ (s : List ℕ) where
   -- ---- single reads
 
   pub ended-small : Gives s (Small s 1 1) oneEnded
-  unfolding oneEnded endedText
-  ended-small = record { from = λ i. go i (endedOf s i) refl }
-    where
-      go : (i : ℕ) (r : TextAt) → endedOf s i ≡ r → If (λ is j. Small s 1 1 is) (andThen (asText i r) (λ t. ret (t ∷ [])) s)
-      go i (Text n q) e = let f = ended-text s i n q e in yes (small-text i n (omega (arith, f .after, f .fits)))
-      go i (TextPast o k) e = no _
-      go i (Unended a) e = no _
+  ended-small = record { from = λ i. ended s i (λ h j. small-text i _ h) }
 
   pub fixed-small : (n : ℕ) → Gives s (λ t. Small s 1 1 (t ∷ [])) (fixedText n)
   unfolding fixedText

@@ -1,4 +1,5 @@
--- The record that a section's bytes are, part by part: reading gives it where it is not stopped.
+-- The record that a section's bytes are, part by part: what holds of each part holds of the lists of them, and reading gives the record where it
+-- is not stopped.
 -- Assumes nothing.
 use Prim.Native.Nat.{ℕ, zero, suc, _+_, _*_, _≤_}
 use mathlib.Core.Path.{_≡_, refl, ap, ap₂, sym, _∙_}
@@ -11,15 +12,11 @@ use lib.ListN.{length}
 use Rattle.core.specs.Choice.{pick}
 use Rattle.core.specs.Number.{get}
 use Rattle.core.specs.Run.{numbersAt}
-use Rattle.core.specs.Text.{endedOf}
-use Rattle.core.specs.declared.text.TextAt.{TextAt}
-use Rattle.core.specs.declared.text.TextAt.the-variants.{Text, Past as TextPast, Unended}
-use Rattle.core.proofs.Zeros.{ended-text}
 use Rattle.bflan.specs.pai1.FieldValues.{numbersIn}
 use Rattle.bflan.specs.pai1.Letters.{fleu, lettersOf, targetOf}
 use Rattle.bflan.specs.Limits.{All}
 use Rattle.bflan.specs.pai1.Places.{total, stride, infoTableIn}
-use Rattle.bflan.specs.Reader.{Res, ok, stop, P, andThen, _>>=_, ret, given, Item, word, text, asText, endedText, oneEnded, numbers, many, visit}
+use Rattle.bflan.specs.Reader.{Res, ok, stop, P, _>>=_, ret, given, Item, word, text, oneEnded, numbers, many, visit}
 use Rattle.bflan.specs.pai1.Reading.{keyOf, curveOf, countOf, keys, target, datum, info, typeOf, infoTable, content, texture, flagOf, contents, body, section}
 use Rattle.bflan.specs.pai1.RecordAt.{nameSize, reached, partsAt, endedAt, keysAt, targetAt, datumAt, dataAt, infoAt, contentAt, recordAt}
 use Rattle.bflan.specs.pai1.Record.{ExtendedUserDataAnim, AnimInfo, Standard, ExtendedUserData, keyWidths, targetCells, datumCells, infoCells, contentCells, cells}
@@ -33,7 +30,7 @@ use Rattle.bflan.proofs.reader.InfoParts.{infoAfter, infoWidths}
 use Rattle.bflan.proofs.reader.Rows.{rowThen, fieldsAt}
 use Rattle.bflan.proofs.reader.SectionParts.{headOf, headWidths}
 use Rattle.bflan.proofs.reader.TargetParts.{targetAfter, targetWidths}
-use Rattle.bflan.proofs.reader.Unstopped.{pick-by, If, if-ok, yes, no, next, after, number, head, sought, table, listed}
+use Rattle.bflan.proofs.reader.Unstopped.{pick-by, If, if-ok, yes, next, after, number, head, sought, table, listed, ended}
 use Rattle.bflan.proofs.round_trip.ReadBack.{shownIn, shown-append, shown-words}
 
 module _ (s : List ℕ) where
@@ -110,13 +107,8 @@ module _ (s : List ℕ) where
 
   -- a text that ends at a zero, and a texture
   ended-shown : (i : ℕ) → If (Shows textCells (endedAt s i)) (oneEnded s i)
-  unfolding oneEnded endedText textCells shownIn endedAt
-  ended-shown i = go (endedOf s i) refl
-    where
-      go : (r : TextAt) → endedOf s i ≡ r → If (Shows textCells (endedAt s i)) (andThen (asText i r) (λ t. ret (t ∷ [])) s)
-      go (Text n q) e = yes (rw (ended-text s i n q e .text))
-      go (TextPast o k) e = no _
-      go (Unended a) e = no _
+  unfolding textCells shownIn endedAt
+  ended-shown i = ended s i (λ h j. refl)
 
   texture-shown : (b i : ℕ) → If (Shows textCells (endedAt s b)) (texture b s i)
   unfolding texture
