@@ -54,7 +54,7 @@ use Rattle.bflan.proofs.reader.Walks.{before, on-no, on-place}
 -- ---- keys
 
 module _ (s : List ℕ) where
-  -- what it gives, where it ends, and that its numbers are in the section
+  -- what a key gives, where it ends, and that its numbers are in the section
   abbrev KeyAt : ℕ → ℕ → List Item → ℕ → Type 0
   KeyAt c p is j = (is ≡ map word (numbersIn (keyWidths c) s p)) × (j ≡ p + stride c) × (p + total (keyWidths c) ≤ length s)
 

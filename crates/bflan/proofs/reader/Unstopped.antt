@@ -115,7 +115,7 @@ module _ (s : List ℕ) {B : Type 0} {Q : B → ℕ → Type 0} where
       → (i + 4 * n ≤ length s → (is : List Item) (j : ℕ) → R is j → If Q (q is s j)) → If Q (andThen (numbers n s i) (λ os s j. andThen (visit base p os s j) q s) s)
   listed base p n i q h g f = table n i _ h (λ l. after s (visit base p (numbersAt n s i) s (i + 4 * n)) q (g (i + 4 * n)) (f l))
 
--- a text that ends at a zero, and the place behind it
+-- a text that ends at a zero: it lies in the section
 pub ended : (s : List ℕ) {Q : List Item → ℕ → Type 0} (i : ℕ) → (i + beforeZero (drop i s) ≤ length s → (j : ℕ) → Q (text i (beforeZero (drop i s)) ∷ []) j) → If Q (oneEnded s i)
 unfolding oneEnded endedText
 ended s {Q} i f = go (endedOf s i) refl
