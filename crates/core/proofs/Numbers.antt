@@ -252,10 +252,6 @@ read-past k s at p m = go (leb (at + k) (length s)) refl
     go true t e = let z : _≡_ {A = ℕ} 0 1 = cc in absurd (omega arith)
     go false t e = record { over = leb-false (at + k) (length s) t; place = cc; asked = cc }
 
--- a number that was read is below its width's bound
-pub read-lt : (k : ℕ) (s : List ℕ) (at v n : ℕ) → Bytes s → readOf k s at ≡ Value v n → v < 256 ^ k
-read-lt k s at v n h e = rw (read-value k s at v n e .number) (get-lt k s at h)
-
 -- a read of what was written, and a read beside it
 pub read-put : (k : ℕ) (s : List ℕ) (at n : ℕ) → n < 256 ^ k → at + k ≤ length s → readOf k (put k s at n) at ≡ Value n (at + k)
 read-put k s at n h l =

@@ -7,7 +7,7 @@ use mathlib.Core.Bool.{Bool, true, false, _&&_}
 use mathlib.Core.List.{List, [], _∷_, _++_}
 use native.Mathlib.Nat.{zero-add, suc-mul, mul-le-mul-right}
 use native.Mathlib.Omega.{arith}
-use borrow.Author.Tests.{ltb-true, lt-ltb, le-ltb, eqb-false}
+use borrow.Author.Tests.{ltb-true, lt-ltb, le-ltb}
 use lib.Dec.{eqb, ltb, leb·suc-suc}
 use lib.ListN.{length, set}
 use Rattle.core.specs.Choice.{pick}
@@ -23,7 +23,6 @@ use Rattle.bflan.specs.declared.place.Place.the-variants.{FrameCount, Lo
 use Rattle.bflan.specs.pai1.FieldValues.{foundOf, numbersIn, asRead, valuesAt}
 use Rattle.bflan.specs.pai1.Layout.{keySkip}
 use Rattle.bflan.specs.pai1.Letters.{listings, fleu, kindOf, lettersOf, targetOf as numberOf}
-use Rattle.bflan.specs.Limits.{All}
 use Rattle.bflan.specs.pai1.Limits.{Readable}
 use Rattle.bflan.specs.pai1.Places.{Spot, nowhere, spot, widths, total, stride, after, keyIn, valueIn, targetIn, datumIn, infoTableIn, infoIn, contentIn, locate, ofElement, Found, missing, found, atTarget, atDatum, atInfo, fieldOf}
 use Rattle.bflan.specs.Reader.{Res, ok, stop, andThen, ret, Item, word, text, num, seekTo, fixedText, numbers, many, visit}
@@ -38,7 +37,7 @@ use Rattle.bflan.proofs.round_trip.FlatOnce.{KeyShape, TargetShape, Dat
 use Rattle.bflan.proofs.reader.KeyRuns.{many-stop}
 use Rattle.bflan.proofs.round_trip.ReadBack.{words-shown, texts-shown}
 use Rattle.bflan.specs.pai1.RecordAt.{reached, partsAt, keysAt, targetAt, datumAt, dataAt, infoAt, contentAt, recordAt}
-use Rattle.bflan.proofs.round_trip.ReadParts.{length-keys, section-shown}
+use Rattle.bflan.proofs.round_trip.ReadParts.{length-keys, parts-all, keys-all, data-all, info-by, section-shown}
 use Rattle.bflan.proofs.round_trip.ReadTree.{standard-kept}
 
 -- ---- tests by their next number
@@ -270,57 +269,31 @@ module _ (s : List ℕ) where
 -- ---- the record that the bytes are has the shape that its two lists need to determine it
 
 module _ (s : List ℕ) where
-  parts-all : {X : Type 0} (Q : X → Type 0) (part : ℕ → X) (base n at : ℕ) → ((b : ℕ) → Q (part b)) → All Q (partsAt s part base n at)
-  unfolding partsAt
-  parts-all Q part base zero at h = tt
-  parts-all Q part base (suc n) at h = (h (base + get 4 s at), parts-all Q part base n (at + 4) h)
-
   length-numbers-in : (ks : List ℕ) (at : ℕ) → length (numbersIn ks s at) ≡ length ks
   unfolding numbersIn
   length-numbers-in [] at = refl
   length-numbers-in (k ∷ ks) at = ap suc (length-numbers-in ks (at + k))
 
-  keys-shape : (c n p : ℕ) → All (KeyShape c) (keysAt s c n p)
-  unfolding keysAt
-  keys-shape c zero p = tt
-  keys-shape c (suc n) p = (length-numbers-in (keyWidths c) p, keys-shape c n (p + stride c))
-
   target-shape : (letters b : ℕ) → TargetShape (targetAt s letters b)
   unfolding targetAt
-  target-shape letters b = keys-shape (curveOf (get 1 s (b + 2))) (countOf (get 1 s (b + 2)) (get 2 s (b + 4))) (b + get 4 s (b + 8))
+  target-shape letters b = keys-all s (KeyShape (curveOf (get 1 s (b + 2)))) _ _ _ (length-numbers-in (keyWidths (curveOf (get 1 s (b + 2)))))
 
   datum-shape : (p : ℕ) → DatumShape (datumAt s p)
   unfolding datumAt
   datum-shape p = length-numbers (3 * get 4 s (p + 8)) s (p + 16)
 
-  data-shape : (n p : ℕ) → All DatumShape (dataAt s n p)
-  unfolding dataAt
-  data-shape zero p = tt
-  data-shape (suc n) p = (datum-shape p, go (datum s p) (data-shape n))
-    where
-      go : (r : Res (List Item)) → ((q : ℕ) → All DatumShape (dataAt s n q)) → All DatumShape (reached r [] (λ q. dataAt s n q))
-      go (ok is q) h = h q
-      go (stop f) h = tt
-
   info-shape : (b : ℕ) → InfoShape (infoAt s b)
-  unfolding infoAt
-  info-shape b = go (eqb (get 4 s b) fleu) refl
-    where
-      go : (t : Bool) → eqb (get 4 s b) fleu ≡ t
-          → InfoShape (pick t (ExtendedUserData (dataAt s (get 1 s (b + 4)) (b + 8))) (Standard (lettersOf (get 4 s b)) (partsAt s (targetAt s (get 4 s b)) b (get 1 s (b + 4)) (b + 8))))
-      go true e = data-shape (get 1 s (b + 4)) (b + 8)
-      go false e = (
-        standard-kept (get 4 s b) (eqb-false (get 4 s b) fleu e),
-        parts-all TargetShape (targetAt s (get 4 s b)) b (get 1 s (b + 4)) (b + 8) (target-shape (get 4 s b)),
-      )
+  info-shape b =
+      info-by s InfoShape b (data-all s DatumShape _ _ datum-shape)
+      (λ d. (standard-kept (get 4 s b) d, parts-all s TargetShape (targetAt s (get 4 s b)) _ _ _ (target-shape (get 4 s b))))
 
   content-shape : (b : ℕ) → ContentShape (contentAt s b)
   unfolding contentAt
-  content-shape b = parts-all InfoShape (infoAt s) b (get 1 s (b + 28)) (infoTableIn s b) info-shape
+  content-shape b = parts-all s InfoShape (infoAt s) _ _ _ info-shape
 
   record-shape : Shape (recordAt s)
   unfolding recordAt
-  record-shape = parts-all ContentShape (contentAt s) 0 (get 2 s 14) (get 4 s 16) content-shape
+  record-shape = parts-all s ContentShape (contentAt s) _ _ _ content-shape
 
 -- ---- the law: of every section that reads, and the record that it reads as (there is one: `ReadTree.read-tree`)
 

@@ -21,6 +21,7 @@ use Rattle.bflan.specs.declared.place.Located.{Located}
 use Rattle.bflan.specs.declared.place.Located.the-variants.{TooLong, Refused, NoSuchPlace, At}
 use Rattle.bflan.specs.declared.place.Base.{Base}
 use Rattle.bflan.specs.declared.place.Base.the-variants.{From, Missing}
+use Rattle.bflan.specs.pai1.FieldValues.{numbersIn}
 use Rattle.bflan.specs.pai1.Layout.{keySkip}
 use Rattle.core.specs.Choice.{pick}
 use Rattle.bflan.specs.pai1.Letters.{fleu, lettersOf}
@@ -47,31 +48,34 @@ use Rattle.bflan.proofs.reader.KeyRuns.{many-on}
 use Rattle.bflan.proofs.reader.Rows.{rowThen, fieldsAt}
 use Rattle.bflan.proofs.reader.SectionParts.{headOf, headWidths}
 use Rattle.bflan.proofs.reader.TargetParts.{targetAfter, targetWidths}
-use Rattle.bflan.proofs.reader.Unstopped.{If, if-ok, yes, no, weaker, sure, next, after, number, head, sought, table, visited}
+use Rattle.bflan.proofs.reader.Unstopped.{If, if-ok, yes, no, weaker, sure, next, after, number, head, sought, table, listed, visited}
 use Rattle.bflan.proofs.reader.Walks.{before, on-no, on-place}
 
 -- ---- keys
 
 module _ (s : List ℕ) where
+  -- what a key gives, where it ends, and that its numbers are in the section
   abbrev KeyAt : ℕ → ℕ → List Item → ℕ → Type 0
-  KeyAt c p is j = (j ≡ p + stride c) × (p + total (keyWidths c) ≤ length s)
+  KeyAt c p is j = (is ≡ map word (numbersIn (keyWidths c) s p)) × (j ≡ p + stride c) × (p + total (keyWidths c) ≤ length s)
 
-  key-at : (c p : ℕ) → If (KeyAt c p) (keyOf c s p)
-  unfolding stride total keyWidths keySkip skip rowThen
-  key-at zero p = head s (keyWidths 0) (λ vs. ret (map word vs)) p 0 (omega arith) (λ h. yes (refl, h))
-  key-at (suc zero) p = head s (keyWidths 1) (λ vs. _>>=_ (skip 2) (λ n. ret (map word vs))) p 0 (omega arith) (λ h. yes (omega arith, h))
-  key-at (suc (suc c)) p = head s (keyWidths 2) (λ vs. ret (map word vs)) p 0 (omega arith) (λ h. yes (ap (λ (n : ℕ). p + n) (sym (stride-three c)), h))
+  pub key-at : (c p : ℕ) → If (KeyAt c p) (keyOf c s p)
+  unfolding stride total keyWidths keySkip skip rowThen fieldsAt numbersIn
+  key-at zero p = head s (keyWidths 0) (λ vs. ret (map word vs)) p 0 (omega arith) (λ h. yes (refl, refl, h))
+  key-at (suc zero) p = head s (keyWidths 1) (λ vs. _>>=_ (skip 2) (λ n. ret (map word vs))) p 0 (omega arith) (λ h. yes (refl, omega arith, h))
+  key-at (suc (suc c)) p =
+      head s (keyWidths 2) (λ vs. ret (map word vs)) p 0 (omega arith) (λ h.
+      yes (let e : p + 4 + 4 ≡ p + 8 = omega arith in rw e, ap (λ (n : ℕ). p + n) (sym (stride-three c)), h))
 
   keys-at : (c n p : ℕ) → If (λ is j. (k : ℕ) → k < n → p + k * stride c + total (keyWidths c) ≤ length s) (many n (keyOf c) s p)
   unfolding many
   keys-at c zero p = yes (λ k l. absurd (omega arith))
   keys-at c (suc n) p =
-      after s (keyOf c s p) _ (key-at c p) (λ x j h. after s (many n (keyOf c) s j) _ (keys-at c n j) (λ xs j′ hs. yes (found j h hs)))
+      after s (keyOf c s p) _ (key-at c p) (λ x j h. after s (many n (keyOf c) s j) _ (keys-at c n j) (λ xs j′ hs. yes (found j (h .1) (h .2) hs)))
     where
-      found : (j : ℕ) → (j ≡ p + stride c) × (p + total (keyWidths c) ≤ length s) → ((k : ℕ) → k < n → j + k * stride c + total (keyWidths c) ≤ length s)
+      found : (j : ℕ) → j ≡ p + stride c → p + total (keyWidths c) ≤ length s → ((k : ℕ) → k < n → j + k * stride c + total (keyWidths c) ≤ length s)
           → (k : ℕ) → k < suc n → p + k * stride c + total (keyWidths c) ≤ length s
-      found j h hs zero l = omega (arith, h .1)
-      found j h hs (suc k) l = omega (arith, h .0, hs k (omega arith), suc-mul k (stride c))
+      found j e h hs zero l = omega (arith, h)
+      found j e h hs (suc k) l = omega (arith, e, hs k (omega arith), suc-mul k (stride c))
 
   target-at : (letters b i : ℕ) → If (λ is j. TargetAt s b) (target letters b s i)
   unfolding target keys rowThen total fieldsAt
@@ -124,10 +128,8 @@ module _ (s : List ℕ) where
           after s (many (get 1 s (b + 4)) datum s (b + 8)) _ (data-at (get 1 s (b + 4)) (b + 8)) (λ ds j hs.
           yes (record { head = h; table = λ x. absurd (x (eqb-true (get 4 s b) fleu e)); targets = λ x. absurd (x (eqb-true (get 4 s b) fleu e)); extended = λ x. hs }))
       kind h false e =
-          table s (get 1 s (b + 4)) (b + 8) _ h (λ l.
-          after s (visit b (target (get 4 s b)) (numbersAt (get 1 s (b + 4)) s (b + 8)) s (b + 8 + 4 * get 1 s (b + 4))) _
-          (visited s b (target (get 4 s b)) (TargetAt s) (target-at s (get 4 s b)) (get 1 s (b + 4)) (b + 8) (b + 8 + 4 * get 1 s (b + 4))) (λ ts j hs.
-          yes (record { head = h; table = λ x. l; targets = λ x. hs; extended = λ x. absurd (eqb-false (get 4 s b) fleu e x) })))
+          listed s b (target (get 4 s b)) (get 1 s (b + 4)) (b + 8) _ h (visited s b (target (get 4 s b)) (TargetAt s) (target-at s (get 4 s b)) (get 1 s (b + 4)) (b + 8)) (λ l ts j hs.
+          yes (record { head = h; table = λ x. l; targets = λ x. hs; extended = λ x. absurd (eqb-false (get 4 s b) fleu e x) }))
 
   -- ---- contents
 
@@ -147,10 +149,8 @@ module _ (s : List ℕ) where
           (_>>=_ (numbers (get 1 s (b + 28))) (λ offsets. _>>=_ (visit b info offsets) (λ is. ret (text b (nameSize s b) ∷ word (typeOf (get 1 s (b + 29))) ∷ word (get 1 s (b + 28)) ∷ is))) s j)
       infos l32 j h =
           rw (h .0)
-          (table s (get 1 s (b + 28)) (infoTableIn s b) _ (h .1) (λ l.
-          after s (visit b info (numbersAt (get 1 s (b + 28)) s (infoTableIn s b)) s (infoTableIn s b + 4 * get 1 s (b + 28))) _
-          (visited s b info (InfoAt s) info-at (get 1 s (b + 28)) (infoTableIn s b) (infoTableIn s b + 4 * get 1 s (b + 28))) (λ is k hs.
-          yes (record { head = l32; user = λ x. omega (arith, h .2 x); table = l; infos = hs }))))
+          (listed s b info (get 1 s (b + 28)) (infoTableIn s b) _ (h .1) (visited s b info (InfoAt s) info-at (get 1 s (b + 28)) (infoTableIn s b)) (λ l is k hs.
+          yes (record { head = l32; user = λ x. omega (arith, h .2 x); table = l; infos = hs })))
 
   -- ---- the section
 
@@ -168,16 +168,17 @@ module _ (s : List ℕ) where
       after s (contents (get 4 s 16) (get 2 s 14) s k) _ (contents-at (get 4 s 16) (get 2 s 14) k) (λ cs m h.
       sure _ (record { head = l20; table = h .0; contents = h .1 })))))
 
-  section-if : If (λ is j. SectionAt s) (section s 0)
+  -- what holds of each body holds of the section
+  pub section-by : {Q : List Item → ℕ → Type 0} → ((size : ℕ) → If Q (body size s 8)) → If Q (section s 0)
   unfolding section
-  section-if = number s 4 0 _ (λ l4. number s 4 4 _ (λ l8. kind (eqb (get 4 s 0) ownLetters)))
+  section-by {Q} h = number s 4 0 _ (λ l4. number s 4 4 _ (λ l8. kind (eqb (get 4 s 0) ownLetters)))
     where
-      kind : (t : Bool) → If (λ is j. SectionAt s) (given t (body (get 4 s 4)) (fail (OtherLetters (get 4 s 0))) s 8)
-      kind true = body-at (get 4 s 4)
+      kind : (t : Bool) → If Q (given t (body (get 4 s 4)) (fail (OtherLetters (get 4 s 0))) s 8)
+      kind true = h (get 4 s 4)
       kind false = no _
 
   pub section-at : (is : List Item) (e : ℕ) → section s 0 ≡ ok is e → SectionAt s
-  section-at is e h = if-ok (λ is j. SectionAt s) (section s 0) section-if h
+  section-at is e h = if-ok (λ is j. SectionAt s) (section s 0) (section-by body-at) h
 
 -- ---- a path by its steps
 

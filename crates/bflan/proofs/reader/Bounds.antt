@@ -1,28 +1,26 @@
 -- How much a reading of a section can give: so many items and texts at most, and each text lies in the section. Of any format.
 -- Assumes nothing.
-use Prim.Native.Nat.{ℕ, zero, suc, _+_, _*_, _^_, _<_, _≤_}
+use Prim.Native.Nat.{ℕ, zero, suc, _+_, _*_, _<_, _≤_}
 use mathlib.Core.Path.{_≡_, refl, ap}
 use mathlib.Core.Bool.{Bool, true, false}
 use mathlib.Core.List.{List, [], _∷_, _++_, map}
 use native.Mathlib.Omega.{arith}
 use lib.ListN.{length, getD, length-append, length-map}
-use Rattle.core.specs.Number.{readOf}
 use Rattle.core.specs.Run.{numbersOf, numbersAt}
-use Rattle.core.specs.Text.{fixedOf, endedOf}
-use Rattle.core.specs.declared.number.Read.{Read}
-use Rattle.core.specs.declared.number.Read.the-variants.{Value, Past as ReadPast}
+use Rattle.core.specs.Text.{fixedOf}
 use Rattle.core.specs.declared.run.Run.{Run}
 use Rattle.core.specs.declared.run.Run.the-variants.{Next, Cut}
 use Rattle.core.specs.declared.text.TextAt.{TextAt}
 use Rattle.core.specs.declared.text.TextAt.the-variants.{Text, Past as TextPast, Unended}
-use Rattle.core.proofs.Numbers.{Bytes, read-lt}
 use Rattle.core.proofs.Runs.{length-numbers, numbers-next}
-use Rattle.core.proofs.Zeros.{fixed-text, ended-text}
+use Rattle.core.proofs.Zeros.{fixed-text}
 use Rattle.bflan.specs.declared.fault.Fault.{Fault}
 use Rattle.bflan.specs.Items.{textsIn}
-use Rattle.bflan.specs.Reader.{ok, P, andThen, _>>=_, ret, given, fail, Item, word, text, asNumber, asText, num, fixedText, endedText, oneEnded, numbers, many, visit}
+use Rattle.bflan.specs.pai1.Places.{total}
+use Rattle.bflan.specs.Reader.{ok, P, _>>=_, ret, given, fail, Item, word, text, asText, fixedText, oneEnded, numbers, many, visit}
 use Rattle.bflan.proofs.reader.KeyRuns.{asNumbers, numbers-run}
-use Rattle.bflan.proofs.reader.Unstopped.{If, if-ok, yes, no, weaker, next as then, after}
+use Rattle.bflan.proofs.reader.Rows.{rowThen, fieldsAt}
+use Rattle.bflan.proofs.reader.Unstopped.{If, if-ok, yes, no, weaker, next as then, after, head, ended}
 
 -- ---- what holds of what a reading gives, wherever it starts, unless it is stopped
 
@@ -45,12 +43,16 @@ module _ (s : List ℕ) {A : Type 0} {Q : A → Type 0} where
   either false g h = h
 
 -- one reading after another: what follows may use what the first gives
-module _ (s : List ℕ) {A B : Type 0} {Q : B → Type 0} where
-  pub next : {R : A → Type 0} {p : P A} (q : A → P B) → Gives s R p → ((v : A) → R v → Gives s Q (q v)) → Gives s Q (_>>=_ p q)
+module _ (s : List ℕ) {B : Type 0} {Q : B → Type 0} where
+  pub next : {A : Type 0} {R : A → Type 0} {p : P A} (q : A → P B) → Gives s R p → ((v : A) → R v → Gives s Q (q v)) → Gives s Q (_>>=_ p q)
   next {p = p} q g h = record { from = λ i. after s (p s i) q (g .from i) (λ v j k. h v k .from j) }
 
-  pub past : (p : P A) (q : A → P B) → ((v : A) → Gives s Q (q v)) → Gives s Q (_>>=_ p q)
+  pub past : {A : Type 0} (p : P A) (q : A → P B) → ((v : A) → Gives s Q (q v)) → Gives s Q (_>>=_ p q)
   past p q h = record { from = λ i. then s (p s i) q (λ v j e. h v .from j) }
+
+  -- a head of fixed fields
+  pub row-gives : (ks : List ℕ) (c : List ℕ → P B) → 0 < total ks → ((i : ℕ) → Gives s Q (c (fieldsAt ks s i 0))) → Gives s Q (rowThen ks c)
+  row-gives ks c z h = record { from = λ i. head s ks c i 0 z (λ l. h i .from (i + (0 + total ks))) }
 
 -- ---- items: how many they are, how many of them are texts, and where those lie
 
@@ -91,7 +93,7 @@ module _ (s : List ℕ) where
   unfolding textsIn
   small-word v h = record { items = omega (arith, h .items); texts = h .texts; inside = h .inside }
 
-  pub small-text : (a n : ℕ) → a + n ≤ length s → Small s 1 1 (text a n ∷ [])
+  small-text : (a n : ℕ) → a + n ≤ length s → Small s 1 1 (text a n ∷ [])
   unfolding textsIn
   small-text a n h = record { items = omega arith; texts = omega arith; inside = at }
     where
@@ -124,13 +126,7 @@ module _ (s : List ℕ) where
   -- ---- single reads
 
   pub ended-small : Gives s (Small s 1 1) oneEnded
-  unfolding oneEnded endedText
-  ended-small = record { from = λ i. go i (endedOf s i) refl }
-    where
-      go : (i : ℕ) (r : TextAt) → endedOf s i ≡ r → If (λ is j. Small s 1 1 is) (andThen (asText i r) (λ t. ret (t ∷ [])) s)
-      go i (Text n q) e = let f = ended-text s i n q e in yes (small-text i n (omega (arith, f .after, f .fits)))
-      go i (TextPast o k) e = no _
-      go i (Unended a) e = no _
+  ended-small = record { from = λ i. ended s i (λ h j. small-text i _ h) }
 
   pub fixed-small : (n : ℕ) → Gives s (λ t. Small s 1 1 (t ∷ [])) (fixedText n)
   unfolding fixedText
@@ -152,15 +148,6 @@ module _ (s : List ℕ) where
 
 pub wider-all : (s : List ℕ) {a b : ℕ} (c d : ℕ) {p : P (List Item)} → Gives s (Small s a b) p → a ≤ c → b ≤ d → Gives s (Small s c d) p
 wider-all s c d {p} g x y = record { from = λ i. weaker (p s i) (g .from i) (λ is j k. wider s k x y) }
-
-module _ (s : List ℕ) (bytes : Bytes s) where
-  pub num-lt : (k : ℕ) → Gives s (λ v. v < 256 ^ k) (num k)
-  unfolding num
-  num-lt k = record { from = λ i. go i (readOf k s i) refl }
-    where
-      go : (i : ℕ) (r : Read) → readOf k s i ≡ r → If (λ v j. v < 256 ^ k) (asNumber r)
-      go i (Value v q) e = yes (read-lt k s i v q bytes e)
-      go i (ReadPast o m) e = no _
 
 -- items whose counts a usize holds
 abbrev pub Countable : List ℕ → List Item → Type 0

@@ -21,7 +21,7 @@ use Rattle.bflan.proofs.reader.Bounds.{Countable}
 
 module _ (s : List ℕ) where
   -- each item is one word
-  pub words-length : (is : List Item) → length (wordsOf s is) ≡ length is
+  words-length : (is : List Item) → length (wordsOf s is) ≡ length is
   unfolding wordsOf
   words-length [] = refl
   words-length (word v ∷ is) = ap suc (words-length is)
@@ -31,7 +31,7 @@ module _ (s : List ℕ) where
   shown-most : length s ≤ 16777216 → (a n : ℕ) → length (shownAt s a n) ≤ 50331648
   shown-most h a n = omega (arith, decode-bound (slice a (a + n) s), length-drop a (take (a + n) s), length-take (a + n) s)
 
-  pub texts-most : length s ≤ 16777216 → (is : List Item) → length (textsOf s is) ≤ 50331648 * length (textsIn is)
+  texts-most : length s ≤ 16777216 → (is : List Item) → length (textsOf s is) ≤ 50331648 * length (textsIn is)
   unfolding textsOf textsIn
   texts-most h [] = omega arith
   texts-most h (word v ∷ is) = texts-most h is
@@ -49,17 +49,17 @@ module _ (s : List ℕ) where
 
 module _ (s : List ℕ) where
   -- room for items behind what was counted
-  pub record Room (t : Tally) (is : List Item) : Type 0 where
-    pub words : t .words + length is ≤ 18446744073709551615
-    pub bytes : t .bytes + length (textsOf s is) ≤ 18446744073709551615
-    pub replaced : t .replaced + replacementsOf s is ≤ 18446744073709551615
+  record Room (t : Tally) (is : List Item) : Type 0 where
+    words : t .words + length is ≤ 18446744073709551615
+    bytes : t .bytes + length (textsOf s is) ≤ 18446744073709551615
+    replaced : t .replaced + replacementsOf s is ≤ 18446744073709551615
 
-  pub record Counted (t : Tally) (is : List Item) : Type 0 where
-    pub words : tallied s t is .words ≡ t .words + length is
-    pub bytes : tallied s t is .bytes ≡ t .bytes + length (textsOf s is)
-    pub replaced : tallied s t is .replaced ≡ t .replaced + replacementsOf s is
+  record Counted (t : Tally) (is : List Item) : Type 0 where
+    words : tallied s t is .words ≡ t .words + length is
+    bytes : tallied s t is .bytes ≡ t .bytes + length (textsOf s is)
+    replaced : tallied s t is .replaced ≡ t .replaced + replacementsOf s is
 
-  pub counted : (t : Tally) (is : List Item) → Room t is → Counted t is
+  counted : (t : Tally) (is : List Item) → Room t is → Counted t is
   unfolding tallied withWords withText textsOf replacementsOf
   counted t [] r = record { words = omega arith; bytes = omega arith; replaced = omega arith }
   counted t (word v ∷ is) r =
@@ -110,26 +110,7 @@ module _ (s : List ℕ) where
 abbrev pub Fresh : ℕ → Tally → Type 0
 Fresh k t = (t .words ≡ 0) × (t .bytes ≡ 0) × (t .replaced ≡ 0) × (t .left ≡ k)
 
--- it has room for as much as a section can hold
-pub fresh-room : (s : List ℕ) (is : List Item) (t : Tally) (k : ℕ) → Fresh k t → length s ≤ 16777216 → length is ≤ 144115188075855872 → length (textsIn is) ≤ 8589934592 → Room s t is
-fresh-room s is t k new fits m n =
-    record {
-      words = omega (arith, new .0);
-      bytes = omega (arith, new .1, texts-most s fits is);
-      replaced = omega (arith, new .2, texts-most s fits is, replaced-most s is);
-    }
-
-module _ (s : List ℕ) (is : List Item) (t : Tally) (k : ℕ) (new : Fresh k t) (room : Room s t is) where
-  pub fresh-words : tallied s t is .words ≡ length (wordsOf s is)
-  fresh-words = omega (arith, counted s t is room .words, new .0, words-length s is)
-
-  pub fresh-bytes : tallied s t is .bytes ≡ length (textsOf s is)
-  fresh-bytes = omega (arith, counted s t is room .bytes, new .1)
-
-  pub fresh-replaced : tallied s t is .replaced ≡ replacementsOf s is
-  fresh-replaced = omega (arith, counted s t is room .replaced, new .2)
-
--- ---- the same of items whose counts fit
+-- ---- of items whose counts fit
 
 module _ (s : List ℕ) (fits : length s ≤ 16777216) (is : List Item) (m : Countable s is) where
   -- what the tables need
@@ -141,17 +122,18 @@ module _ (s : List ℕ) (fits : length s ≤ 16777216) (is : List Item) (m : Cou
   )
 
   module _ (t : Tally) (k : ℕ) (new : Fresh k t) where
-    whole-room : Room s t is
-    whole-room = fresh-room s is t k new fits (m .items) (m .texts)
+    -- it has room for them
+    whole : Counted s t is
+    whole = counted s t is (record { words = omega (arith, new .0, m .items); bytes = omega (arith, new .1, needs-bound .1); replaced = omega (arith, new .2, needs-bound .2) })
 
     pub whole-words : tallied s t is .words ≡ length (wordsOf s is)
-    whole-words = fresh-words s is t k new whole-room
+    whole-words = omega (arith, whole .words, new .0, words-length s is)
 
     pub whole-bytes : tallied s t is .bytes ≡ length (textsOf s is)
-    whole-bytes = fresh-bytes s is t k new whole-room
+    whole-bytes = omega (arith, whole .bytes, new .1)
 
     pub whole-replaced : tallied s t is .replaced ≡ replacementsOf s is
-    whole-replaced = fresh-replaced s is t k new whole-room
+    whole-replaced = omega (arith, whole .replaced, new .2)
 
     many : length (textsIn is) ≤ 18446744073709551615
     many = omega (arith, m .texts)
@@ -175,7 +157,7 @@ module _ (s : List ℕ) (fits : length s ≤ 16777216) (is : List Item) (m : Cou
         go false e = ltb-false _ _ e
 
     module _ (h : k < length (textsIn is)) where
-      pub whole-place : placeOf (tallied s t is) ≡ getD (textsIn is) k (0, 0)
+      whole-place : placeOf (tallied s t is) ≡ getD (textsIn is) k (0, 0)
       whole-place = place-met s t is k (new .3) h many .0
 
       pub whole-start : tallied s t is .start ≡ getD (textsIn is) k (0, 0) .0

@@ -3,22 +3,32 @@
 use Prim.Native.Nat.{ℕ, zero, suc, _+_, _*_, _<_, _≤_}
 use mathlib.Core.Path.{_≡_, refl, _∙_}
 use mathlib.Core.Bool.{Bool, true, false}
-use mathlib.Core.List.{List}
+use mathlib.Core.List.{List, [], _∷_}
 use native.Mathlib.Omega.{arith}
 use borrow.Author.Tests.{leb-true, leb-false}
 use lib.Dec.{leb}
-use lib.ListN.{length}
+use lib.ListN.{length, drop}
+use Rattle.core.specs.Choice.{pick}
 use Rattle.core.specs.Number.{get}
 use Rattle.core.specs.Run.{numbersAt, numbersOf}
+use Rattle.core.specs.Text.{beforeZero, endedOf}
 use Rattle.core.specs.declared.run.Run.{Run}
 use Rattle.core.specs.declared.run.Run.the-variants.{Next, Cut}
+use Rattle.core.specs.declared.text.TextAt.{TextAt}
+use Rattle.core.specs.declared.text.TextAt.the-variants.{Text, Past as TextPast, Unended}
 use Rattle.core.proofs.Runs.{table-fits, numbers-next}
+use Rattle.core.proofs.Zeros.{ended-text}
 use Rattle.bflan.specs.declared.fault.Fault.{Fault}
 use Rattle.bflan.specs.pai1.Places.{total}
-use Rattle.bflan.specs.Reader.{Res, ok, stop, P, andThen, Item, num, seekTo, numbers, visit}
+use Rattle.bflan.specs.Reader.{Res, ok, stop, P, andThen, ret, Item, text, asText, num, seekTo, endedText, oneEnded, numbers, visit}
 use Rattle.bflan.proofs.reader.Emits.{sought-there, sought-over}
 use Rattle.bflan.proofs.reader.KeyRuns.{asNumbers, num-there, num-short, numbers-run}
 use Rattle.bflan.proofs.reader.Rows.{rowThen, offsetBy, offset-is, fieldsAt, row-there, row-cut}
+
+-- what both sides of a choice have, by its test
+pub pick-by : {A : Type 0} (Q : A → Type 0) (t : Bool) {x y : A} → (t ≡ true → Q x) → (t ≡ false → Q y) → Q (pick t x y)
+pick-by Q true f g = f refl
+pick-by Q false f g = g refl
 
 -- of its value and of the place behind it
 abbrev pub Holds : {A : Type 0} → (A → ℕ → Type 0) → Res A → Type 0
@@ -99,6 +109,21 @@ module _ (s : List ℕ) {B : Type 0} {Q : B → ℕ → Type 0} where
           let d : numbers n s i ≡ ok (numbersAt n s i) (i + 4 * n) = numbers-run n s i ∙ rw (e, numbers-next n s i p e .1) in
           rw d (f (table-fits n s i p h e))
       go (Cut o k) e = let d : numbers n s i ≡ asNumbers (Cut o k) (numbersAt n s i) = numbers-run n s i ∙ rw e in rw d (no _)
+
+  -- a table of offsets, and the parts at them
+  pub listed : (base : ℕ) (p : ℕ → P (List Item)) (n i : ℕ) (q : List Item → P B) {R : List Item → ℕ → Type 0} → i ≤ length s → ((j : ℕ) → If R (visit base p (numbersAt n s i) s j))
+      → (i + 4 * n ≤ length s → (is : List Item) (j : ℕ) → R is j → If Q (q is s j)) → If Q (andThen (numbers n s i) (λ os s j. andThen (visit base p os s j) q s) s)
+  listed base p n i q h g f = table n i _ h (λ l. after s (visit base p (numbersAt n s i) s (i + 4 * n)) q (g (i + 4 * n)) (f l))
+
+-- a text that ends at a zero: it lies in the section
+pub ended : (s : List ℕ) {Q : List Item → ℕ → Type 0} (i : ℕ) → (i + beforeZero (drop i s) ≤ length s → (j : ℕ) → Q (text i (beforeZero (drop i s)) ∷ []) j) → If Q (oneEnded s i)
+unfolding oneEnded endedText
+ended s {Q} i f = go (endedOf s i) refl
+  where
+    go : (r : TextAt) → endedOf s i ≡ r → If Q (andThen (asText i r) (λ t. ret (t ∷ [])) s)
+    go (Text n j) e = let t = ended-text s i n j e in yes (rw (t .text) (f (omega (arith, t .text, t .after, t .fits)) j))
+    go (TextPast o k) e = no _
+    go (Unended a) e = no _
 
 -- ---- parts at the offsets of a table
 

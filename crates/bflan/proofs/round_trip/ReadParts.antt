@@ -1,32 +1,28 @@
--- The record that a section's bytes are, part by part: reading gives it where it is not stopped.
+-- The record that a section's bytes are, part by part: what holds of each part holds of the lists of them, and reading gives the record where it
+-- is not stopped.
 -- Assumes nothing.
 use Prim.Native.Nat.{ℕ, zero, suc, _+_, _*_, _≤_}
 use mathlib.Core.Path.{_≡_, refl, ap, ap₂, sym, _∙_}
 use mathlib.Core.Bool.{Bool, true, false}
 use mathlib.Core.List.{List, [], _∷_, _++_, map}
 use native.Mathlib.Omega.{arith}
+use borrow.Author.Tests.{eqb-false}
 use lib.Dec.{eqb}
 use lib.ListN.{length}
 use Rattle.core.specs.Choice.{pick}
 use Rattle.core.specs.Number.{get}
 use Rattle.core.specs.Run.{numbersAt}
-use Rattle.core.specs.Text.{endedOf}
-use Rattle.core.specs.declared.text.TextAt.{TextAt}
-use Rattle.core.specs.declared.text.TextAt.the-variants.{Text, Past as TextPast, Unended}
-use Rattle.core.proofs.Zeros.{ended-text}
-use Rattle.bflan.specs.declared.fault.Fault.the-variants.{OtherLetters}
 use Rattle.bflan.specs.pai1.FieldValues.{numbersIn}
 use Rattle.bflan.specs.pai1.Letters.{fleu, lettersOf, targetOf}
-use Rattle.bflan.specs.pai1.Layout.{keySkip}
+use Rattle.bflan.specs.Limits.{All}
 use Rattle.bflan.specs.pai1.Places.{total, stride, infoTableIn}
-use Rattle.bflan.specs.Reader.{ok, P, andThen, _>>=_, ret, given, fail, Item, word, text, asText, skip, endedText, oneEnded, numbers, many, visit}
-use Rattle.bflan.specs.pai1.Reading.{keyOf, curveOf, countOf, keys, target, datum, info, typeOf, infoTable, content, texture, ownLetters, flagOf, contents, body, section}
+use Rattle.bflan.specs.Reader.{Res, ok, stop, P, _>>=_, ret, given, Item, word, text, oneEnded, numbers, many, visit}
+use Rattle.bflan.specs.pai1.Reading.{keyOf, curveOf, countOf, keys, target, datum, info, typeOf, infoTable, content, texture, flagOf, contents, body, section}
 use Rattle.bflan.specs.pai1.RecordAt.{nameSize, reached, partsAt, endedAt, keysAt, targetAt, datumAt, dataAt, infoAt, contentAt, recordAt}
-use Rattle.bflan.specs.pai1.Record.{Standard, ExtendedUserData, keyWidths, targetCells, datumCells, infoCells, contentCells, cells}
+use Rattle.bflan.specs.pai1.Record.{ExtendedUserDataAnim, AnimInfo, Standard, ExtendedUserData, keyWidths, targetCells, datumCells, infoCells, contentCells, cells}
 use Rattle.bflan.specs.Cells.{Cell, word as wordCell, chars, each, textCells}
 use Rattle.bflan.specs.Items.{shownAt}
-use Rattle.bflan.proofs.Layouts.{stride-three}
-use Rattle.bflan.proofs.place.Locating.{table-at}
+use Rattle.bflan.proofs.place.Locating.{key-at, table-at, section-by}
 use Rattle.bflan.specs.inner.SectionParts.{afterHead}
 use Rattle.bflan.proofs.reader.ContentParts.{name, contentAfter, contentWidths}
 use Rattle.bflan.proofs.reader.DatumParts.{fieldsIn, datumAfter, datumWidths}
@@ -34,7 +30,7 @@ use Rattle.bflan.proofs.reader.InfoParts.{infoAfter, infoWidths}
 use Rattle.bflan.proofs.reader.Rows.{rowThen, fieldsAt}
 use Rattle.bflan.proofs.reader.SectionParts.{headOf, headWidths}
 use Rattle.bflan.proofs.reader.TargetParts.{targetAfter, targetWidths}
-use Rattle.bflan.proofs.reader.Unstopped.{If, if-ok, yes, no, next, after, number, head, sought, table}
+use Rattle.bflan.proofs.reader.Unstopped.{pick-by, If, if-ok, yes, next, after, number, head, sought, table, listed, ended}
 use Rattle.bflan.proofs.round_trip.ReadBack.{shownIn, shown-append, shown-words}
 
 module _ (s : List ℕ) where
@@ -47,6 +43,40 @@ module _ (s : List ℕ) where
   unfolding keysAt
   length-keys curve zero p = refl
   length-keys curve (suc n) p = ap suc (length-keys curve n (p + stride curve))
+
+-- ---- what holds of each part holds of the lists of them
+
+module _ (s : List ℕ) where
+  pub parts-all : {X : Type 0} (Q : X → Type 0) (part : ℕ → X) (base n at : ℕ) → ((b : ℕ) → Q (part b)) → All Q (partsAt s part base n at)
+  unfolding partsAt
+  parts-all Q part base zero at h = tt
+  parts-all Q part base (suc n) at h = (h (base + get 4 s at), parts-all Q part base n (at + 4) h)
+
+  pub keys-all : (Q : List ℕ → Type 0) (c n p : ℕ) → ((q : ℕ) → Q (numbersIn (keyWidths c) s q)) → All Q (keysAt s c n p)
+  unfolding keysAt
+  keys-all Q c zero p h = tt
+  keys-all Q c (suc n) p h = (h p, keys-all Q c n (p + stride c) h)
+
+  -- the data that are reached, which are not all of them where reading is stopped
+  reached-by : {A : Type 0} (Q : A → Type 0) (r : Res (List Item)) {none : A} {f : ℕ → A} → Q none → ((q : ℕ) → Q (f q)) → Q (reached r none f)
+  reached-by Q (ok is q) h g = g q
+  reached-by Q (stop w) h g = h
+
+  pub data-all : (Q : ExtendedUserDataAnim → Type 0) (n p : ℕ) → ((q : ℕ) → Q (datumAt s q)) → All Q (dataAt s n p)
+  unfolding dataAt
+  data-all Q zero p h = tt
+  data-all Q (suc n) p h = (h p, reached-by (All Q) (datum s p) tt (λ q. data-all Q n q h))
+
+  pub data-most : (n p : ℕ) → length (dataAt s n p) ≤ n
+  unfolding dataAt
+  data-most zero p = omega arith
+  data-most (suc n) p = let h = reached-by (λ ds. length ds ≤ n) (datum s p) {none = []} {f = λ q. dataAt s n q} (omega arith) (data-most n) in omega (arith, h)
+
+  -- an info of either kind
+  pub info-by : (Q : AnimInfo → Type 0) (b : ℕ) → Q (ExtendedUserData (dataAt s (get 1 s (b + 4)) (b + 8)))
+      → ((get 4 s b ≡ fleu → ⊥) → Q (Standard (lettersOf (get 4 s b)) (partsAt s (targetAt s (get 4 s b)) b (get 1 s (b + 4)) (b + 8)))) → Q (infoAt s b)
+  unfolding infoAt
+  info-by Q b h g = pick-by Q (eqb (get 4 s b) fleu) (λ e. h) (λ e. g (eqb-false (get 4 s b) fleu e))
 
 -- ---- reading gives them: what it shows are their cells
 
@@ -77,33 +107,20 @@ module _ (s : List ℕ) where
 
   -- a text that ends at a zero, and a texture
   ended-shown : (i : ℕ) → If (Shows textCells (endedAt s i)) (oneEnded s i)
-  unfolding oneEnded endedText textCells shownIn endedAt
-  ended-shown i = go (endedOf s i) refl
-    where
-      go : (r : TextAt) → endedOf s i ≡ r → If (Shows textCells (endedAt s i)) (andThen (asText i r) (λ t. ret (t ∷ [])) s)
-      go (Text n q) e = yes (rw (ended-text s i n q e .text))
-      go (TextPast o k) e = no _
-      go (Unended a) e = no _
+  unfolding textCells shownIn endedAt
+  ended-shown i = ended s i (λ h j. refl)
 
   texture-shown : (b i : ℕ) → If (Shows textCells (endedAt s b)) (texture b s i)
   unfolding texture
   texture-shown b i = sought s b i _ (λ l. ended-shown b)
 
   -- keys
-  key-shown : (c p : ℕ) → If (λ is j. (shownIn s is ≡ map wordCell (numbersIn (keyWidths c) s p)) × (j ≡ p + stride c)) (keyOf c s p)
-  unfolding stride total keyWidths keySkip skip rowThen fieldsAt numbersIn shownIn
-  key-shown zero p = head s (keyWidths 0) (λ vs. ret (map word vs)) p 0 (omega arith) (λ h. yes (refl, refl))
-  key-shown (suc zero) p = head s (keyWidths 1) (λ vs. _>>=_ (skip 2) (λ n. ret (map word vs))) p 0 (omega arith) (λ h. yes (refl, omega arith))
-  key-shown (suc (suc c)) p =
-      head s (keyWidths 2) (λ vs. ret (map word vs)) p 0 (omega arith) (λ h.
-      yes (let e : p + 4 + 4 ≡ p + 8 = omega arith in rw e, ap (λ (n : ℕ). p + n) (sym (stride-three c))))
-
   keys-shown : (c n p : ℕ) → If (Shows (each (map wordCell)) (keysAt s c n p)) (many n (keyOf c) s p)
   unfolding many keysAt
   keys-shown c zero p = yes (shows-none (map wordCell))
   keys-shown c (suc n) p =
-      after s (keyOf c s p) _ (key-shown c p) (λ x j h. after s (many n (keyOf c) s j) _ (keys-shown c n j) (λ xs j′ hs.
-      yes (shows-more (map wordCell) (numbersIn (keyWidths c) s p) (keysAt s c n (p + stride c)) x xs (h .0) (hs ∙ rw (h .1)))))
+      after s (keyOf c s p) _ (key-at s c p) (λ x j h. after s (many n (keyOf c) s j) _ (keys-shown c n j) (λ xs j′ hs.
+      yes (shows-more (map wordCell) (numbersIn (keyWidths c) s p) (keysAt s c n (p + stride c)) x xs (ap (shownIn s) (h .0) ∙ shown-words s (numbersIn (keyWidths c) s p)) (hs ∙ rw (h .1)))))
 
   -- a target
   target-cells : (letters b : ℕ) (ks : List Item) → shownIn s ks ≡ each (map wordCell) (targetAt s letters b .keys)
@@ -143,18 +160,13 @@ module _ (s : List ℕ) where
       (ended-shown (p + 16 + 4 * (3 * get 4 s (p + 8)) + get 4 s (p + 16 + 4 * (3 * get 4 s (p + 8)))))
       (λ key j h. yes (datum-cells p key (unfold datumAt in h)))))))
 
-  data-shown : (n p : ℕ) → If (Shows (each datumCells) (dataAt s n p)) (many n datum s p)
+  -- where all are read, they are all reached
+  data-shown : (n p : ℕ) → If (λ is j. (length (dataAt s n p) ≡ n) × (shownIn s is ≡ each datumCells (dataAt s n p))) (many n datum s p)
   unfolding many dataAt
-  data-shown zero p = yes (shows-none datumCells)
+  data-shown zero p = yes (refl, shows-none datumCells)
   data-shown (suc n) p =
       next s (datum s p) _ (λ x j e. after s (many n datum s j) _ (data-shown n j) (λ xs j′ hs.
-      yes (shows-more datumCells (datumAt s p) (reached (datum s p) [] (λ q. dataAt s n q)) x xs (if-ok (Shows datumCells (datumAt s p)) (datum s p) (datum-shown p) e) (rw e hs))))
-
-  length-data : (n p : ℕ) → If (λ is j. length (dataAt s n p) ≡ n) (many n datum s p)
-  unfolding many dataAt
-  length-data zero p = yes refl
-  length-data (suc n) p =
-      next s (datum s p) _ (λ x j e. after s (many n datum s j) _ (length-data n j) (λ xs j′ h. yes (rw e (ap suc h))))
+      yes (rw e (ap suc (hs .0)), shows-more datumCells (datumAt s p) (reached (datum s p) [] (λ q. dataAt s n q)) x xs (if-ok (Shows datumCells (datumAt s p)) (datum s p) (datum-shown p) e) (rw e (hs .1)))))
 
   -- infos
   info-shown : (b i : ℕ) → If (Shows infoCells (infoAt s b)) (info b s i)
@@ -169,15 +181,10 @@ module _ (s : List ℕ) where
           (given t (_>>=_ (many n datum) (λ ds. ret (word fleu ∷ word n ∷ ds)))
           (_>>=_ (numbers n) (λ offsets. _>>=_ (visit b (target (get 4 s b)) offsets) (λ ts. ret (word (lettersOf (get 4 s b)) ∷ word n ∷ ts)))) s (b + 8))
       kind h true =
-          next s (many n datum s (b + 8)) _ (λ ds j e.
-          yes (ap₂ (λ (m : ℕ) (cs : List Cell). wordCell fleu ∷ wordCell m ∷ cs)
-          (sym (if-ok (λ is j. length (dataAt s n (b + 8)) ≡ n) (many n datum s (b + 8)) (length-data n (b + 8)) e))
-          (if-ok (Shows (each datumCells) (dataAt s n (b + 8))) (many n datum s (b + 8)) (data-shown n (b + 8)) e)))
+          after s (many n datum s (b + 8)) _ (data-shown n (b + 8)) (λ ds j h. yes (ap₂ (λ (m : ℕ) (cs : List Cell). wordCell fleu ∷ wordCell m ∷ cs) (sym (h .0)) (h .1)))
       kind h false =
-          table s n (b + 8) _ h (λ l.
-          after s (visit b (target (get 4 s b)) (numbersAt n s (b + 8)) s (b + 8 + 4 * n)) _
-          (parts-shown targetCells (targetAt s (get 4 s b)) b (target (get 4 s b)) (target-shown (get 4 s b)) n (b + 8) (b + 8 + 4 * n)) (λ ts j hs.
-          yes (ap₂ (λ (m : ℕ) (cs : List Cell). wordCell (lettersOf (get 4 s b)) ∷ wordCell m ∷ cs) (sym (length-parts s (targetAt s (get 4 s b)) b n (b + 8))) hs)))
+          listed s b (target (get 4 s b)) n (b + 8) _ h (parts-shown targetCells (targetAt s (get 4 s b)) b (target (get 4 s b)) (target-shown (get 4 s b)) n (b + 8)) (λ l ts j hs.
+          yes (ap₂ (λ (m : ℕ) (cs : List Cell). wordCell (lettersOf (get 4 s b)) ∷ wordCell m ∷ cs) (sym (length-parts s (targetAt s (get 4 s b)) b n (b + 8))) hs))
 
   -- contents
   content-cells : (b : ℕ) (is : List Item) → shownIn s is ≡ each infoCells (contentAt s b .infos)
@@ -198,10 +205,8 @@ module _ (s : List ℕ) where
           (_>>=_ (numbers (get 1 s (b + 28))) (λ offsets. _>>=_ (visit b info offsets) (λ is. ret (text b (nameSize s b) ∷ word (typeOf (get 1 s (b + 29))) ∷ word (get 1 s (b + 28)) ∷ is))) s j)
       infos j e h =
           rw e
-          (table s (get 1 s (b + 28)) (infoTableIn s b) _ h (λ l.
-          after s (visit b info (numbersAt (get 1 s (b + 28)) s (infoTableIn s b)) s (infoTableIn s b + 4 * get 1 s (b + 28))) _
-          (parts-shown infoCells (infoAt s) b info info-shown (get 1 s (b + 28)) (infoTableIn s b) (infoTableIn s b + 4 * get 1 s (b + 28))) (λ is k hs.
-          yes (content-cells b is (unfold contentAt in hs)))))
+          (listed s b info (get 1 s (b + 28)) (infoTableIn s b) _ h (parts-shown infoCells (infoAt s) b info info-shown (get 1 s (b + 28)) (infoTableIn s b)) (λ l is k hs.
+          yes (content-cells b is (unfold contentAt in hs))))
 
   contents-shown : (to n i : ℕ) → If (Shows (each contentCells) (partsAt s (contentAt s) 0 n to)) (contents to n s i)
   unfolding contents
@@ -221,19 +226,10 @@ module _ (s : List ℕ) where
   unfolding body afterHead rowThen total fieldsAt
   body-shown size =
       head s headWidths (λ vs. afterHead size (headOf vs)) 8 0 (omega arith) (λ l20.
-      table s (get 2 s 12) 20 _ l20 (λ l.
-      after s (visit 20 texture (numbersAt (get 2 s 12) s 20) s (20 + 4 * get 2 s 12)) _ (parts-shown textCells (endedAt s) 20 texture texture-shown (get 2 s 12) 20 (20 + 4 * get 2 s 12)) (λ ts k ht.
+      listed s 20 texture (get 2 s 12) 20 _ l20 (parts-shown textCells (endedAt s) 20 texture texture-shown (get 2 s 12) 20) (λ l ts k ht.
       after s (contents (get 4 s 16) (get 2 s 14) s k) _ (contents-shown (get 4 s 16) (get 2 s 14) k) (λ cs m hc.
-      sought s size m _ (λ z. yes (section-cells ts cs (unfold recordAt in ht) (unfold recordAt in hc)))))))
-
-  section-shows : If (Shows cells (recordAt s)) (section s 0)
-  unfolding section
-  section-shows = number s 4 0 _ (λ l4. number s 4 4 _ (λ l8. kind (eqb (get 4 s 0) ownLetters)))
-    where
-      kind : (t : Bool) → If (Shows cells (recordAt s)) (given t (body (get 4 s 4)) (fail (OtherLetters (get 4 s 0))) s 8)
-      kind true = body-shown (get 4 s 4)
-      kind false = no _
+      sought s size m _ (λ z. yes (section-cells ts cs (unfold recordAt in ht) (unfold recordAt in hc))))))
 
   -- what reads is the record that the bytes are
   pub section-shown : (is : List Item) (end : ℕ) → section s 0 ≡ ok is end → shownIn s is ≡ cells (recordAt s)
-  section-shown is end e = if-ok (Shows cells (recordAt s)) (section s 0) section-shows e
+  section-shown is end e = if-ok (Shows cells (recordAt s)) (section s 0) (section-by s body-shown) e
