@@ -8,14 +8,14 @@ use mathlib.Core.List.{List, [], _∷_, _++_, map, append-nil}
 use native.Mathlib.Nat.{add-zero}
 use native.Mathlib.Omega.{arith}
 use borrow.Author.Tests.{ltb-true, lt-ltb, leb-true, le-leb, eqb-true, eqb-false, eq-eqb, ne-eqb}
-use lib.Dec.{eqb, ltb, leb}
+use lib.Dec.{eqb, leb}
 use lib.ListN.{length, length-append}
 use Rattle.core.specs.Choice.{pick}
 use Rattle.core.specs.Number.{val}
 use Rattle.core.proofs.utf8.Laws.{both-true}
 use Rattle.bflan.specs.Judge.{fine, badWord, andThen, _>>=_, ret, given, nextWord, nextText, times, wide, row, whole}
 use Rattle.bflan.specs.pai1.Judge.{target, datum, info, content, pane, section}
-use Rattle.bflan.specs.pai1.Letters.{listings, fleu, lettersFit, targetFits}
+use Rattle.bflan.specs.pai1.Letters.{listings, fleu, lettersFit}
 use Rattle.bflan.specs.Limits.{All, Fits, FineText}
 use Rattle.bflan.specs.pai1.Limits.{FineTarget, FineDatum, FineInfo, FineNamed, FineContent, FineBut, Fine}
 use Rattle.bflan.specs.pai1.Record.{AnimTarget, ExtendedUserDataAnim, AnimInfo, Standard, ExtendedUserData, AnimContent, PaneAnimInfo, keyWidths, targetCells, datumCells, infoCells, contentCells, cells, words, texts}
@@ -24,7 +24,7 @@ use Rattle.bflan.specs.inner.JudgeParts.{afterHead}
 use Rattle.bflan.specs.pai1.Rewriting.{namesFit, untilLong, longAt}
 use Rattle.bflan.proofs.judge.Inversion.{targetTests, targetThen, datumTests, datumThen, infoTests, infoThen, namedTests, namedThen, paneTests, paneThen}
 use Rattle.bflan.proofs.judge.Measures.{testsThen}
-use Rattle.bflan.proofs.judge.Laws.{wordCount, byteCount, word-counts, byte-counts, Place, place-left, place-right, place-join, text-next, fine-at, Walks, tests-law, text-law, times-law, row-law, one, values-law, one-text-law, all-map, place-all, text-long, Got, Sound, fine-to, opens, word-join, text-join, opens-word, text-sound, opens-text, AllOf, times-sound, row-sound, values-sound, wide-four, Judges, whole-judges}
+use Rattle.bflan.proofs.judge.Laws.{wordCount, byteCount, word-counts, byte-counts, Place, place-left, place-right, place-join, text-next, fine-at, Walks, tests-law, text-law, times-law, row-law, one, values-law, one-text-law, all-map, place-all, text-long, Got, Sound, fine-to, opens, text-join, opens-row, text-sound, opens-text, AllOf, times-sound, row-sound, values-sound, wide-four, Judges, whole-judges}
 
 -- ---- the walk over the cells of a part gives the part
 
@@ -200,17 +200,14 @@ judge-long most r q e =
 -- ---- the parts
 
 target-sound : (letters : ℕ) → Sound (target letters) targetCells (FineTarget letters)
-unfolding target targetCells
+unfolding target targetCells testsThen
 target-sound letters w x i j t k l a b e =
-    opens-word w x i j t k l a b (wide 1) _ e λ layer p1 q1 a e.
-    opens-word w x (i + 1) j t k l a b (targetFits letters) _ e λ number p2 q2 a e.
-    opens-word w x (i + 1 + 1) j t k l a b (λ c. ltb c 3) _ e λ curve p3 q3 a e.
-    opens-word w x (i + 1 + 1 + 1) j t k l a b (wide 2) _ e λ n p4 q4 a e.
+    opens-row w x j t k l b i a (targetTests letters) targetThen (Place w x i j) (λ cs p. p) e λ layer q1 number q2 curve q3 n q4 head a e.
     opens w x (i + 1 + 1 + 1 + 1) j t k l a b (times n (row (keyWidths curve))) (each (map wordCell)) (AllOf (Fits (keyWidths curve)) n)
     (times-sound (row (keyWidths curve)) (map wordCell) (Fits (keyWidths curve)) (row-sound (keyWidths curve)) n) _ e λ ks p5 q5 a b e.
     fine-to (λ (t : AnimTarget) (k l : ℕ). Got targetCells (FineTarget letters) w x i j t k l) e
     (record {
-      place = word-join p1 (word-join p2 (word-join p3 (word-join (rw (q5 .1) p4) p5)));
+      place = rw (q5 .1) (head _ p5);
       good = record {
         layer = ltb-true layer 256 q1;
         target = q2;
@@ -223,18 +220,14 @@ target-sound letters w x i j t k l a b e =
     })
 
 datum-sound : Sound datum datumCells FineDatum
-unfolding datum datumCells
+unfolding datum datumCells testsThen
 datum-sound w x i j d k l a b e =
-    opens-word w x i j d k l a b (wide 4) _ e λ size p1 q1 a e.
-    opens-word w x (i + 1) j d k l a b (wide 2) _ e λ one p2 q2 a e.
-    opens-word w x (i + 1 + 1) j d k l a b (wide 2) _ e λ two p3 q3 a e.
-    opens-word w x (i + 1 + 1 + 1) j d k l a b (wide 4) _ e λ base p4 q4 a e.
-    opens-word w x (i + 1 + 1 + 1 + 1) j d k l a b (wide 4) _ e λ three p5 q5 a e.
+    opens-row w x j d k l b i a datumTests datumThen (Place w x i j) (λ cs p. p) e λ size q1 one q2 two q3 base q4 three q5 head a e.
     opens w x (i + 1 + 1 + 1 + 1 + 1) j d k l a b (times (3 * base) (nextWord (wide 4))) (map wordCell) (AllOf (λ v. v < 256 ^ 4) (3 * base)) (values-sound (3 * base)) _ e λ vs p6 q6 a b e.
     opens-text w x (i + 1 + 1 + 1 + 1 + 1 + wordCount (map wordCell vs)) (j + byteCount (map wordCell vs)) d k l a b (wide 4) wide-four _ e λ key p7 f q7 a b e.
     fine-to (λ (d : ExtendedUserDataAnim) (k l : ℕ). Got datumCells FineDatum w x i j d k l) e
     (record {
-      place = word-join p1 (word-join p2 (word-join p3 (word-join p4 (word-join p5 (place-join (map wordCell vs) (charsCell key ∷ []) p6 (unfold textCells in p7))))));
+      place = head _ (place-join (map wordCell vs) (charsCell key ∷ []) p6 (unfold textCells in p7));
       good = record {
         headerSize = wide-four size q1;
         unk1 = ltb-true one 65536 q2;
@@ -249,48 +242,44 @@ datum-sound w x i j d k l a b e =
       texts = omega (arith, datum-bytes (record { headerSize = size; unk1 = one; unk2 = two; baseCount = base; unk3 = three; values = vs; key = key }));
     })
 
-module _ (w x : List ℕ) (i j letters n : ℕ) (p : Place w x i j (one letters)) (f : lettersFit letters ≡ true) (p′ : Place w x (i + 1) j (one n)) (h : wide 1 n ≡ true) where
-  infos-sound : (t : Bool) → eqb letters fleu ≡ t → (y : AnimInfo) (k l : ℕ) → i + 1 + 1 ≤ length w → j ≤ length x
-      → given t (_>>=_ (times n datum) (λ ds. ret (ExtendedUserData ds))) (_>>=_ (times n (target letters)) (λ ts. ret (Standard letters ts))) w x (i + 1 + 1) j ≡ fine y k l
-      → Got infoCells FineInfo w x i j y k l
-  unfolding infoCells
-  infos-sound true t y k l a b e =
-      opens w x (i + 1 + 1) j y k l a b (times n datum) (each datumCells) (AllOf FineDatum n) (times-sound datum datumCells FineDatum datum-sound n) _ e λ ds pd qd a b e.
-      fine-to (λ (y : AnimInfo) (k l : ℕ). Got infoCells FineInfo w x i j y k l) e
-      (record {
-        place = word-join (rw (← eqb-true letters fleu t) p) (word-join (rw (qd .1) p′) pd);
-        good = (rw (qd .1) (ltb-true n 256 h), qd .0);
-        words = unfold wordsIn in omega arith;
-        texts = unfold bytesIn in refl;
-      })
-  infos-sound false t y k l a b e =
-      opens w x (i + 1 + 1) j y k l a b (times n (target letters)) (each targetCells) (AllOf (FineTarget letters) n)
-      (times-sound (target letters) targetCells (FineTarget letters) (target-sound letters) n) _ e λ ts pt qt a b e.
-      fine-to (λ (y : AnimInfo) (k l : ℕ). Got infoCells FineInfo w x i j y k l) e
-      (record {
-        place = word-join p (word-join (rw (qt .1) p′) pt);
-        good = record { letters = f; standard = eqb-false letters fleu t; count = rw (qt .1) (ltb-true n 256 h); targets = qt .0 };
-        words = unfold wordsIn in omega arith;
-        texts = unfold bytesIn in refl;
-      })
-
 info-sound : Sound info infoCells FineInfo
-unfolding info
+unfolding info infoCells testsThen
 info-sound w x i j y k l a b e =
-    opens-word w x i j y k l a b lettersFit _ e λ letters p1 q1 a e.
-    opens-word w x (i + 1) j y k l a b (wide 1) _ e λ n p2 q2 a e.
-    infos-sound w x i j letters n p1 q1 p2 q2 (eqb letters fleu) refl y k l a b e
+    opens-row w x j y k l b i a infoTests infoThen (Place w x i j) (λ cs p. p) e λ letters f n q head a e. go letters f n q head a (eqb letters fleu) refl e
+  where
+    go : (letters : ℕ) → lettersFit letters ≡ true → (n : ℕ) → wide 1 n ≡ true → ((cs : List Cell) → Place w x (i + 1 + 1) j cs → Place w x i j (wordCell letters ∷ wordCell n ∷ cs)) → i + 1 + 1 ≤ length w
+        → (t : Bool) → eqb letters fleu ≡ t
+        → given t (_>>=_ (times n datum) (λ ds. ret (ExtendedUserData ds))) (_>>=_ (times n (target letters)) (λ ts. ret (Standard letters ts))) w x (i + 1 + 1) j ≡ fine y k l
+        → Got infoCells FineInfo w x i j y k l
+    go letters f n q head a true t e =
+        opens w x (i + 1 + 1) j y k l a b (times n datum) (each datumCells) (AllOf FineDatum n) (times-sound datum datumCells FineDatum datum-sound n) _ e λ ds pd qd a b e.
+        fine-to (λ (y : AnimInfo) (k l : ℕ). Got infoCells FineInfo w x i j y k l) e
+        (record {
+          place = rw (qd .1, ← eqb-true letters fleu t) (head _ pd);
+          good = (rw (qd .1) (ltb-true n 256 q), qd .0);
+          words = unfold wordsIn in omega arith;
+          texts = unfold bytesIn in refl;
+        })
+    go letters f n q head a false t e =
+        opens w x (i + 1 + 1) j y k l a b (times n (target letters)) (each targetCells) (AllOf (FineTarget letters) n)
+        (times-sound (target letters) targetCells (FineTarget letters) (target-sound letters) n) _ e λ ts pt qt a b e.
+        fine-to (λ (y : AnimInfo) (k l : ℕ). Got infoCells FineInfo w x i j y k l) e
+        (record {
+          place = rw (qt .1) (head _ pt);
+          good = record { letters = f; standard = eqb-false letters fleu t; count = rw (qt .1) (ltb-true n 256 q); targets = qt .0 };
+          words = unfold wordsIn in omega arith;
+          texts = unfold bytesIn in refl;
+        })
 
 content-sound : Sound content contentCells FineContent
-unfolding content contentCells
+unfolding content contentCells testsThen
 content-sound w x i j c k l a b e =
     opens-text w x i j c k l a b (λ n. leb n 28) (λ n t. let h = leb-true n 28 t in omega arith) _ e λ name p1 f q1 a b e.
-    opens-word w x (i + 1) (j + length name) c k l a b (λ t. leb t 4) _ e λ type p2 q2 a e.
-    opens-word w x (i + 1 + 1) (j + length name) c k l a b (wide 1) _ e λ n p3 q3 a e.
+    opens-row w x (j + length name) c k l b (i + 1) a namedTests (namedThen name) (λ cs. Place w x i j (charsCell name ∷ cs)) (λ cs p. text-join p1 p) e λ type q2 n q3 head a e.
     opens w x (i + 1 + 1 + 1) (j + length name) c k l a b (times n info) (each infoCells) (AllOf FineInfo n) (times-sound info infoCells FineInfo info-sound n) _ e λ is p4 q4 a b e.
     fine-to (λ (c : AnimContent) (k l : ℕ). Got contentCells FineContent w x i j c k l) e
     (record {
-      place = text-join p1 (word-join p2 (word-join (rw (q4 .1) p3) p4));
+      place = rw (q4 .1) (head _ p4);
       good = record {
         short = leb-true (length name) 28 q1;
         name = f;
@@ -303,12 +292,9 @@ content-sound w x i j c k l a b e =
     })
 
 pane-sound : Sound pane cells Fine
-unfolding pane
+unfolding pane afterHead testsThen
 pane-sound w x i j r k l a b e =
-    opens-word w x i j r k l a b (wide 2) _ e λ frames p1 q1 a e.
-    opens-word w x (i + 1) j r k l a b (λ b. leb b 1) _ e λ looping p2 q2 a e.
-    opens-word w x (i + 1 + 1) j r k l a b (wide 2) _ e λ nt p3 q3 a e.
-    opens-word w x (i + 1 + 1 + 1) j r k l a b (wide 2) _ e λ nc p4 q4 a e.
+    opens-row w x j r k l b i a paneTests paneThen (Place w x i j) (λ cs p. p) e λ frames q1 looping q2 nt q3 nc q4 head a e.
     opens w x (i + 1 + 1 + 1 + 1) j r k l a b (times nt (nextText (wide 4))) (each textCells) (AllOf (λ t. FineText t × (wide 4 (length t) ≡ true)) nt)
     (times-sound (nextText (wide 4)) textCells (λ t. FineText t × (wide 4 (length t) ≡ true)) (text-sound (wide 4) wide-four) nt) _ e λ ts p5 q5 a b e.
     opens w x (i + 1 + 1 + 1 + 1 + wordCount (each textCells ts)) (j + byteCount (each textCells ts)) r k l a b (times nc content) (each contentCells) (AllOf FineContent nc)
@@ -316,7 +302,7 @@ pane-sound w x i j r k l a b e =
     let q : PaneAnimInfo = record { frames = frames; looping = looping; textures = ts; contents = cs } in
     fine-to (λ (r : PaneAnimInfo) (k l : ℕ). Got cells Fine w x i j r k l) e
     (record {
-      place = unfold cells in word-join p1 (word-join p2 (word-join (rw (q5 .1) p3) (word-join (rw (q6 .1) p4) (place-join (each textCells ts) (each contentCells cs) p5 p6))));
+      place = unfold cells in rw (q5 .1, q6 .1) (head _ (place-join (each textCells ts) (each contentCells cs) p5 p6));
       good = record {
         frames = ltb-true frames 65536 q1;
         looping = let h = leb-true looping 1 q2 in omega arith;

@@ -377,6 +377,22 @@ module _ {Y C : Type 0} (w x : List ℕ) (i j : ℕ) (y : Y) (k l : ℕ) (a : i 
       opens w x i j y k l a b (nextWord test) one (λ v. test v ≡ true) (word-sound test) q e λ v p t m n d.
       f v p t m (rw add-zero at d)
 
+-- what is said of the words that a row of tests lets pass, each word by its own name
+abbrev pub Passing : List (ℕ → Bool) → (List ℕ → Type 0) → Type 0
+Passing [] K = K []
+Passing (t ∷ ts) K = (v : ℕ) → t v ≡ true → Passing ts (λ vs. K (v ∷ vs))
+
+-- a row of words with a test each: what P says of cells that stand where the row begins, it says of the row with the cells behind it
+module _ {Y C : Type 0} (w x : List ℕ) (j : ℕ) (y : Y) (k l : ℕ) (b : j ≤ length x) where
+  pub opens-row : (i : ℕ) → i ≤ length w → (ts : List (ℕ → Bool)) (c : List ℕ → J Y) (P : List Cell → Type 0) → ((cs : List Cell) → Place w x i j cs → P cs) → testsThen ts c w x i j ≡ fine y k l
+      → Passing ts (λ vs. ((cs : List Cell) → Place w x (wordsEnd ts i) j cs → P (map wordCell vs ++ cs)) → wordsEnd ts i ≤ length w → c vs w x (wordsEnd ts i) j ≡ fine y k l → C)
+      → C
+  unfolding testsThen
+  opens-row i a [] c P h e f = f h a e
+  opens-row i a (t ∷ ts) c P h e f =
+      opens-word w x i j y k l a b t _ e λ v p q a e.
+      opens-row (i + 1) a ts (λ vs. c (v ∷ vs)) (λ cs. P (wordCell v ∷ cs)) (λ cs r. h (wordCell v ∷ cs) (word-join p r)) e (f v q)
+
 pub taken-length : (n j : ℕ) (x : List ℕ) → j + n ≤ length x → length (take n (drop j x)) ≡ n
 taken-length n j x h = simp (length-take, length-drop) (omega arith)
 
