@@ -28,7 +28,7 @@ use Rattle.bflan.specs.pai1.Record.{AnimTarget, Standard, AnimInfo, Anim
 use Rattle.bflan.specs.inner.Walk.{sat}
 use Rattle.bflan.proofs.Layouts.{size-key, stride-three, size-table, user-size, section-size}
 use Rattle.bflan.proofs.judge.Inversion.{times-length, targetTests, targetThen, datumTests, datumThen, infoTests, infoThen, namedTests, namedThen, paneTests, paneThen}
-use Rattle.bflan.proofs.judge.Measures.{testsThen, Tested, Fitting, tests-fine, bad-at, marked, measured-padded, sat-filled, grown-sat, was-word, was-text, was-then, measured-by, measured-grown, measured-made, then-grown, word-fine, word-bad, times-none, times-turn, steps-as, steps-word, steps-row, steps-times, ran, steps-measured, size-parts, size-numbers}
+use Rattle.bflan.proofs.judge.Measures.{testsThen, Tested, Fitting, tests-fine, bad-at, marked, measured-padded, sat-filled, grown-sat, was-then, measured-by, measured-grown, measured-made, then-grown, word-fine, word-bad, times-none, times-turn, steps-as, steps-word, steps-row, steps-times, ran, steps-measured, size-parts, size-numbers}
 
 -- ---- texts
 
@@ -190,14 +190,6 @@ abbrev pub behindSize : ValuesAndKey → ℕ
 behindSize b = size (parts (number 4) (b .values)) + size (ended (b .key))
 
 module _ (n : ℕ) (w x : List ℕ) (i j : ℕ) where
-  pub behind-word : (k : ℕ) → verdictOf (λ vs. size (parts (number 4) vs)) (times n (nextWord (wide 4)) w x i j) ≡ BadWord k → BadWord k ≡ verdictOf behindSize (valuesAndKey n w x i j)
-  unfolding valuesAndKey verdictOf
-  behind-word k e = rw (was-word (λ vs. size (parts (number 4) vs)) (times n (nextWord (wide 4)) w x i j) k e)
-
-  pub behind-text : (k : ℕ) → verdictOf (λ vs. size (parts (number 4) vs)) (times n (nextWord (wide 4)) w x i j) ≡ BadText k → BadText k ≡ verdictOf behindSize (valuesAndKey n w x i j)
-  unfolding valuesAndKey verdictOf
-  behind-text k e = rw (was-text (λ vs. size (parts (number 4) vs)) (times n (nextWord (wide 4)) w x i j) k e)
-
   pub behind-fine : (m : Mark) (v : Verdict) → verdictOf (λ vs. size (parts (number 4) vs)) (times n (nextWord (wide 4)) w x i j) ≡ Fine m
       → v ≡ verdictOf (λ t. size (ended t)) (nextText (wide 4) w x (m .word) (m .byte)) → grown (m .size) v ≡ verdictOf behindSize (valuesAndKey n w x i j)
   unfolding valuesAndKey
@@ -295,14 +287,6 @@ module _ (name w x : List ℕ) (i j : ℕ) where
       (named-made head n type eh h (times n info w x (i + 1 + 1) j) (λ ps u v e. times-length info w x n (i + 1 + 1) j e))
 
 module _ (w x : List ℕ) (i j : ℕ) where
-  pub content-word : (k : ℕ) → verdictOf (λ (t : List ℕ). length t) (nextText (λ n. leb n 28) w x i j) ≡ BadWord k → BadWord k ≡ verdictOf (λ c. size (contentLay c)) (content w x i j)
-  unfolding content verdictOf
-  content-word k e = rw (was-word (λ (t : List ℕ). length t) (nextText (λ n. leb n 28) w x i j) k e)
-
-  pub content-text : (k : ℕ) → verdictOf (λ (t : List ℕ). length t) (nextText (λ n. leb n 28) w x i j) ≡ BadText k → BadText k ≡ verdictOf (λ c. size (contentLay c)) (content w x i j)
-  unfolding content verdictOf
-  content-text k e = rw (was-text (λ (t : List ℕ). length t) (nextText (λ n. leb n 28) w x i j) k e)
-
   pub content-fine : (m : Mark) (v : Verdict) → verdictOf (λ (t : List ℕ). length t) (nextText (λ n. leb n 28) w x i j) ≡ Fine m
       → ((name : List ℕ) → length name ≤ 28 → v ≡ verdictOf (λ c. size (contentLay c)) (afterName name w x (m .word) (m .byte))) → v ≡ verdictOf (λ c. size (contentLay c)) (content w x i j)
   unfolding content afterName
@@ -327,14 +311,6 @@ module _ (w x : List ℕ) (i j : ℕ) where
 
 -- a value that is all there is has the value's size
 module _ {A : Type 0} (s : A → ℕ) (p : J A) (w x : List ℕ) (i j : ℕ) where
-  pub whole-word : (k : ℕ) → verdictOf s (p w x i j) ≡ BadWord k → BadWord k ≡ verdictOf s (whole p w x i j)
-  unfolding whole verdictOf
-  whole-word k e = rw (was-word s (p w x i j) k e)
-
-  pub whole-text : (k : ℕ) → verdictOf s (p w x i j) ≡ BadText k → BadText k ≡ verdictOf s (whole p w x i j)
-  unfolding whole verdictOf
-  whole-text k e = rw (was-text s (p w x i j) k e)
-
   pub whole-fine : (m : Mark) (v : Verdict) → verdictOf s (p w x i j) ≡ Fine m → v ≡ verdictOf (λ z. 0) (ends w x (m .word) (m .byte))
       → grown (m .size) v ≡ verdictOf s (whole p w x i j)
   unfolding whole
@@ -354,14 +330,6 @@ unfolding sectionSize contentTable namesEnd filledUp
 filled-size r = omega (arith, section-size r)
 
 module _ (frames looping nt nc : ℕ) (w x : List ℕ) (i j : ℕ) where
-  pub headed-word : (k : ℕ) → verdictOf (λ ts. size (parts ended ts)) (times nt (nextText (wide 4)) w x i j) ≡ BadWord k → BadWord k ≡ verdictOf (λ (a : PaneAnimInfo). size (sectionLay a)) (afterHead frames looping nt nc w x i j)
-  unfolding afterHead verdictOf
-  headed-word k e = rw (was-word (λ ts. size (parts ended ts)) (times nt (nextText (wide 4)) w x i j) k e)
-
-  pub headed-text : (k : ℕ) → verdictOf (λ ts. size (parts ended ts)) (times nt (nextText (wide 4)) w x i j) ≡ BadText k → BadText k ≡ verdictOf (λ (a : PaneAnimInfo). size (sectionLay a)) (afterHead frames looping nt nc w x i j)
-  unfolding afterHead verdictOf
-  headed-text k e = rw (was-text (λ ts. size (parts ended ts)) (times nt (nextText (wide 4)) w x i j) k e)
-
   pub headed-fine : (m : Mark) (t k : ℕ) (v : Verdict) → verdictOf (λ ts. size (parts ended ts)) (times nt (nextText (wide 4)) w x i j) ≡ Fine m → t ≡ sat (filledUp (20 + (4 * nt + m .size)))
       → k ≡ sat (t + 4 * nc) → v ≡ verdictOf (λ cs. size (parts contentLay cs)) (times nc content w x (m .word) (m .byte))
       → grown k v ≡ verdictOf (λ (a : PaneAnimInfo). size (sectionLay a)) (afterHead frames looping nt nc w x i j)
