@@ -3,7 +3,7 @@
 -- Assumes nothing.
 use Prim.Native.Nat.{ℕ, zero, suc, _+_, _^_, _≤_, _<_}
 use mathlib.Core.Path.{_≡_, refl, sym, ap, ap₂, _∙_}
-use mathlib.Core.Bool.{Bool, true, false, _&&_}
+use mathlib.Core.Bool.{Bool, true, false}
 use mathlib.Core.List.{List, [], _∷_, _++_, map, append-assoc, append-nil}
 use native.Mathlib.Nat.{add-zero}
 use native.Mathlib.Omega.{arith}
@@ -19,8 +19,9 @@ use Rattle.core.proofs.utf8.Laws.{valid-le, well-valid}
 use Rattle.bflan.specs.Judge.{Judged, fine, badWord, badText, J, andThen, _>>=_, ret, nextWord, nextChars, nextText, times, wide, row, ends, whole}
 use Rattle.bflan.specs.Layout.{bytes, _⨾_, size, written}
 use Rattle.bflan.specs.Limits.{All, Fits, FineText}
+use Rattle.bflan.specs.inner.Measure.{fits}
 use Rattle.bflan.specs.Cells.{Cell, word as wordCell, chars as charsCell, wordsIn, bytesIn, textCells, each}
-use Rattle.bflan.proofs.judge.Measures.{testsThen, wordsEnd}
+use Rattle.bflan.proofs.judge.Measures.{fits-there, fits-holds, testsThen, wordsEnd}
 use Rattle.bflan.proofs.Layouts.{Stands, stands-left, stands-right}
 
 -- ---- texts
@@ -317,20 +318,39 @@ module _ {A C : Type 0} {a : A} {k l n : ℕ} where
   pub no-text : badText n ≡ fine a k l → C
   no-text e = let z : _≡_ {A = ℕ} 0 1 = cc in absurd (omega arith)
 
--- where a walk goes on after its first part: that part stands there, and the positions are within the lists
+-- where a walk goes on after its first part
+module _ {Y C : Type 0} (w x : List ℕ) (i j : ℕ) {y : Y} {k l : ℕ} where
+  pub opened : {X : Type 0} (p : J X) (q : X → J Y) → _>>=_ p q w x i j ≡ fine y k l
+      → ((v : X) (m n : ℕ) → p w x i j ≡ fine v m n → q v w x m n ≡ fine y k l → C)
+      → C
+  opened {X} p q e f = go (p w x i j) refl e
+    where
+      go : (r : Judged X) → p w x i j ≡ r → andThen r q w x ≡ fine y k l → C
+      go (fine v m n) c d = f v m n c d
+      go (badWord m) c d = no-word d
+      go (badText m) c d = no-text d
+
+  -- a word
+  pub opened-word : (test : ℕ → Bool) (q : ℕ → J Y) → _>>=_ (nextWord test) q w x i j ≡ fine y k l
+      → (fits test w i ≡ true → q (getD w i 0) w x (i + 1) j ≡ fine y k l → C)
+      → C
+  unfolding nextWord fits
+  opened-word test q e f = go (fits test w i) refl e
+    where
+      go : (b : Bool) → fits test w i ≡ b → andThen (pick b (fine (getD w i 0) (i + 1) j) (badWord i)) q w x ≡ fine y k l → C
+      go true a d = f a d
+      go false a d = no-word d
+
+-- that part stands there, and the positions are within the lists
 module _ {Y C : Type 0} (w x : List ℕ) (i j : ℕ) (y : Y) (k l : ℕ) (a : i ≤ length w) (b : j ≤ length x) where
   pub opens : {X : Type 0} (p : J X) (cellsOf : X → List Cell) (Q : X → Type 0) → Sound p cellsOf Q → (q : X → J Y) → _>>=_ p q w x i j ≡ fine y k l
       → ((v : X) → Place w x i j (cellsOf v) → Q v → i + wordCount (cellsOf v) ≤ length w → j + byteCount (cellsOf v) ≤ length x
       → q v w x (i + wordCount (cellsOf v)) (j + byteCount (cellsOf v)) ≡ fine y k l → C)
       → C
-  opens {X} p cellsOf Q sound q e f = go (p w x i j) refl e
-    where
-      go : (r : Judged X) → p w x i j ≡ r → andThen r q w x ≡ fine y k l → C
-      go (fine v m n) c d =
-          let g : Got cellsOf Q w x i j v m n = sound w x i j v m n a b c in
-          f v (g .place) (g .good) (place-words (g .place)) (place-texts (g .place)) (rw (g .words, g .texts) at d)
-      go (badWord m) c d = no-word d
-      go (badText m) c d = no-text d
+  opens p cellsOf Q sound q e f =
+      opened w x i j p q e λ v m n c d.
+      let g : Got cellsOf Q w x i j v m n = sound w x i j v m n a b c in
+      f v (g .place) (g .good) (place-words (g .place)) (place-texts (g .place)) (rw (g .words, g .texts) at d)
 
 -- ---- words and texts
 
@@ -343,21 +363,19 @@ word-there {w} {x} {i} {j} a b =
     }
 
 pub word-sound : (test : ℕ → Bool) → Sound (nextWord test) one (λ v. test v ≡ true)
-unfolding nextWord
-word-sound test w x i j v k l a b e = go (ltb i (length w)) (test (getD w i 0)) refl refl e
+unfolding nextWord fits
+word-sound test w x i j v k l a b e = go (fits test w i) refl e
   where
-    go : (s t : Bool) → ltb i (length w) ≡ s → test (getD w i 0) ≡ t → pick (s && t) (fine (getD w i 0) (i + 1) j) (badWord i) ≡ fine v k l
-        → Got one (λ v. test v ≡ true) w x i j v k l
-    go true true c t d =
+    go : (t : Bool) → fits test w i ≡ t → pick t (fine (getD w i 0) (i + 1) j) (badWord i) ≡ fine v k l → Got one (λ v. test v ≡ true) w x i j v k l
+    go true h d =
         fine-to (λ (v k l : ℕ). Got one (λ v. test v ≡ true) w x i j v k l) d
         (record {
-          place = word-there (ltb-true i (length w) c) b;
-          good = t;
+          place = word-there (fits-there test w i h) b;
+          good = fits-holds test w i h;
           words = unfold wordsIn in refl;
           texts = unfold bytesIn in sym (add-zero j);
         })
-    go true false c t d = no-word d
-    go false t c u d = no-word d
+    go false h d = no-word d
 
 module _ {w x : List ℕ} {i j v : ℕ} {cs : List Cell} where
   pub word-join : Place w x i j (one v) → Place w x (i + 1) j cs → Place w x i j (wordCell v ∷ cs)
@@ -409,27 +427,42 @@ text-place {w} {x} {i} {j} {n} p h =
       texts = rw append-nil (record { fits = omega (arith, m); same = rw m refl });
     }
 
-pub text-sound : (test : ℕ → Bool) → ((n : ℕ) → test n ≡ true → n < 256 ^ 4) → Sound (nextText test) textCells (λ t. FineText t × (test (length t) ≡ true))
+pub record TextAt (test : ℕ → Bool) (w x : List ℕ) (i j : ℕ) (t : List ℕ) (k l : ℕ) : Type 0 where
+  pub there : i < length w
+  pub good : test (getD w i 0) ≡ true
+  pub inside : j + getD w i 0 ≤ length x
+  pub bytes : t ≡ take (getD w i 0) (drop j x)
+  pub size : length t ≡ getD w i 0
+  pub word : k ≡ i + 1
+  pub byte : l ≡ j + getD w i 0
+  pub clean : length t ≤ firstFault t
+
+pub text-at : (test : ℕ → Bool) (w x : List ℕ) (i j : ℕ) {t : List ℕ} {k l : ℕ} → nextText test w x i j ≡ fine t k l → TextAt test w x i j t k l
 unfolding nextText nextChars
-text-sound test small w x i j v k l a b e =
-    opens-word w x i j v k l a b test nextChars e λ n p t m d.
-    go n p t (take n (drop j x)) refl (leb (j + n) (length x)) (ltb (firstFault (take n (drop j x))) n) refl refl d
+text-at test w x i j {t} {k} {l} e =
+    opened-word w x i j test nextChars e λ h d.
+    go (fits-there test w i h) (fits-holds test w i h) (take (getD w i 0) (drop j x)) refl (leb (j + getD w i 0) (length x)) (ltb (firstFault (take (getD w i 0) (drop j x))) (getD w i 0)) refl refl d
   where
-    go : (n : ℕ) → Place w x i j (one n) → test n ≡ true → (u : List ℕ) → take n (drop j x) ≡ u → (c d : Bool) → leb (j + n) (length x) ≡ c → ltb (firstFault u) n ≡ d
-        → pick c (pick d (badText (j + firstFault u)) (fine u (i + 1) (j + n))) (badText (length x)) ≡ fine v k l
-        → Got textCells (λ t. FineText t × (test (length t) ≡ true)) w x i j v k l
-    go n p t u s true true c d f = no-text f
-    go n p t u s true false c d f =
-        let h : j + n ≤ length x = leb-true (j + n) (length x) c in
-        let m : length u ≡ n = ap length (sym s) ∙ taken-length n j x h in
-        fine-to (λ (v : List ℕ) (k l : ℕ). Got textCells (λ t. FineText t × (test (length t) ≡ true)) w x i j v k l) f
-        (record {
-          place = rw (← s) (text-place p h);
-          good = (none-fault u (rw m (small n t)) (rw m (ltb-false (firstFault u) n d)), rw m t);
-          words = unfold textCells wordsIn in refl;
-          texts = omega (arith, text-bytes u, m);
-        })
-    go n p t u s false d c q f = no-text f
+    go : i < length w → test (getD w i 0) ≡ true → (u : List ℕ) → take (getD w i 0) (drop j x) ≡ u → (c d : Bool) → leb (j + getD w i 0) (length x) ≡ c → ltb (firstFault u) (getD w i 0) ≡ d
+        → pick c (pick d (badText (j + firstFault u)) (fine u (i + 1) (j + getD w i 0))) (badText (length x)) ≡ fine t k l
+        → TextAt test w x i j t k l
+    go h g u s true true c d f = no-text f
+    go h g u s true false c d f =
+        let m : j + getD w i 0 ≤ length x = leb-true (j + getD w i 0) (length x) c in
+        let z : length u ≡ getD w i 0 = ap length (sym s) ∙ taken-length (getD w i 0) j x m in
+        fine-to (λ (t : List ℕ) (k l : ℕ). TextAt test w x i j t k l) f
+        (record { there = h; good = g; inside = m; bytes = sym s; size = z; word = refl; byte = refl; clean = rw z (ltb-false (firstFault u) (getD w i 0) d) })
+    go h g u s false d c q f = no-text f
+
+pub text-sound : (test : ℕ → Bool) → ((n : ℕ) → test n ≡ true → n < 256 ^ 4) → Sound (nextText test) textCells (λ t. FineText t × (test (length t) ≡ true))
+text-sound test small w x i j v k l a b e =
+    let t = text-at test w x i j e in
+    record {
+      place = rw (t .bytes) (text-place (word-there (t .there) b) (t .inside));
+      good = (none-fault v (rw (t .size) (small (getD w i 0) (t .good))) (t .clean), rw (t .size) (t .good));
+      words = t .word ∙ unfold textCells wordsIn in refl;
+      texts = omega (arith, text-bytes v, t .size, t .byte);
+    }
 
 module _ {Y C : Type 0} (w x : List ℕ) (i j : ℕ) (y : Y) (k l : ℕ) (a : i ≤ length w) (b : j ≤ length x) where
   pub opens-text : (test : ℕ → Bool) → ((n : ℕ) → test n ≡ true → n < 256 ^ 4) → (q : List ℕ → J Y) → _>>=_ (nextText test) q w x i j ≡ fine y k l
