@@ -104,44 +104,64 @@ word-counts cs ds = ap length (words-append cs ds) ∙ length-append (wordsIn cs
 pub byte-counts : (cs ds : List Cell) → byteCount (cs ++ ds) ≡ byteCount cs + byteCount ds
 byte-counts cs ds = ap length (bytes-append cs ds) ∙ length-append (bytesIn cs) (bytesIn ds)
 
--- the cells' words stand in w from i on, their bytes in x from j on
-pub record Place (w x : List ℕ) (i j : ℕ) (cs : List Cell) : Type 0 where
+-- the cells' words stand in w from i to k, their bytes in x from j to l
+pub record Place (w x : List ℕ) (i j k l : ℕ) (cs : List Cell) : Type 0 where
   pub words : Stands w i (bytes (wordsIn cs))
   pub texts : Stands x j (bytes (bytesIn cs))
+  pub wordsTo : k ≡ i + wordCount cs
+  pub textsTo : l ≡ j + byteCount cs
 
-module _ {w x : List ℕ} {i j : ℕ} (cs ds : List Cell) where
-  pub place-left : Place w x i j (cs ++ ds) → Place w x i j cs
-  place-left h =
+module _ {w x : List ℕ} {i j k l : ℕ} (cs ds : List Cell) (h : Place w x i j k l (cs ++ ds)) where
+  pub place-left : Place w x i j (i + wordCount cs) (j + byteCount cs) cs
+  place-left =
       record {
         words = list-left (wordsIn cs) (wordsIn ds) (rw (words-append cs ds) at (h .words));
         texts = list-left (bytesIn cs) (bytesIn ds) (rw (bytes-append cs ds) at (h .texts));
+        wordsTo = refl;
+        textsTo = refl;
       }
 
-  pub place-right : Place w x i j (cs ++ ds) → Place w x (i + wordCount cs) (j + byteCount cs) ds
-  place-right h =
+  pub place-right : Place w x (i + wordCount cs) (j + byteCount cs) k l ds
+  place-right =
       record {
         words = list-right (wordsIn cs) (wordsIn ds) (rw (words-append cs ds) at (h .words));
         texts = list-right (bytesIn cs) (bytesIn ds) (rw (bytes-append cs ds) at (h .texts));
+        wordsTo = omega (arith, h .wordsTo, word-counts cs ds);
+        textsTo = omega (arith, h .textsTo, byte-counts cs ds);
       }
 
-  pub place-join : Place w x i j cs → Place w x (i + wordCount cs) (j + byteCount cs) ds → Place w x i j (cs ++ ds)
-  place-join h k =
-      record {
-        words = rw (words-append cs ds) (list-join (wordsIn cs) (wordsIn ds) (h .words) (k .words));
-        texts = rw (bytes-append cs ds) (list-join (bytesIn cs) (bytesIn ds) (h .texts) (k .texts));
-      }
+pub place-join : {w x : List ℕ} {i j k l m n : ℕ} {cs ds : List Cell} → Place w x i j m n cs → Place w x m n k l ds → Place w x i j k l (cs ++ ds)
+place-join {cs = cs} {ds = ds} g h =
+    record {
+      words = rw (words-append cs ds) (list-join (wordsIn cs) (wordsIn ds) (g .words) (rw (g .wordsTo) at (h .words)));
+      texts = rw (bytes-append cs ds) (list-join (bytesIn cs) (bytesIn ds) (g .texts) (rw (g .textsTo) at (h .texts)));
+      wordsTo = omega (arith, g .wordsTo, h .wordsTo, word-counts cs ds);
+      textsTo = omega (arith, g .textsTo, h .textsTo, byte-counts cs ds);
+    }
 
-module _ {w x : List ℕ} {i j : ℕ} {cs : List Cell} (h : Place w x i j cs) where
-  pub place-words : i + wordCount cs ≤ length w
-  unfolding size
-  place-words = h .words .fits
+-- positions within the two lists
+pub record Inside (w x : List ℕ) (i j : ℕ) : Type 0 where
+  pub words : i ≤ length w
+  pub texts : j ≤ length x
 
-  pub place-texts : j + byteCount cs ≤ length x
-  unfolding size
-  place-texts = h .texts .fits
+pub place-inside : {w x : List ℕ} {i j k l : ℕ} {cs : List Cell} → Place w x i j k l cs → Inside w x k l
+unfolding size
+place-inside h = record { words = omega (arith, h .words .fits, h .wordsTo); texts = omega (arith, h .texts .fits, h .textsTo) }
 
-pub place-to : {w x : List ℕ} {i k j l : ℕ} {cs : List Cell} → i ≡ k → j ≡ l → Place w x i j cs → Place w x k l cs
-place-to e f h = rw (← e, ← f) h
+-- no cells
+pub none-there : {w x : List ℕ} {i j : ℕ} → Inside w x i j → Place w x i j i j []
+unfolding size written wordsIn bytesIn
+none-there {i = i} {j = j} s =
+    record {
+      words = record { fits = omega (arith, s .words); same = refl };
+      texts = record { fits = omega (arith, s .texts); same = refl };
+      wordsTo = sym (add-zero i);
+      textsTo = sym (add-zero j);
+    }
+
+pub none-left : {A : Type 0} {a : A} {w x : List ℕ} {i j k l : ℕ} → Place w x i j k l [] → fine a i j ≡ fine a k l
+unfolding wordsIn bytesIn
+none-left {a = a} h = ap₂ (fine a) (omega (arith, h .wordsTo)) (omega (arith, h .textsTo))
 
 -- the first of the words that stand there
 pub first-word : {w : List ℕ} {i v : ℕ} {vs : List ℕ} → Stands w i (bytes (v ∷ vs)) → (i < length w) × (getD w i 0 ≡ v)
@@ -150,16 +170,20 @@ first-word {w} {i} {v} {vs} h =
     let l : i < length w = omega (arith, h .fits) in
     (l, ap (λ (s : List ℕ). getD s 0 0) (ap (take (suc (length vs))) (sym (drop-cons w i 0 l)) ∙ h .same))
 
-module _ {w x : List ℕ} {i j v : ℕ} {cs : List Cell} (h : Place w x i j (wordCell v ∷ cs)) where
+-- a word by itself
+abbrev pub one : ℕ → List Cell
+one v = wordCell v ∷ []
+
+module _ {w x : List ℕ} {i j k l v : ℕ} {cs : List Cell} (h : Place w x i j k l (wordCell v ∷ cs)) where
   pub word-first : (i < length w) × (getD w i 0 ≡ v)
   unfolding wordsIn
   word-first = first-word (h .words)
 
-  pub word-next : Place w x (i + 1) j cs
+  pub word-next : Place w x (i + 1) j k l cs
   unfolding wordsIn bytesIn
-  word-next = place-to refl (add-zero j) (place-right (wordCell v ∷ []) cs h)
+  word-next = rw add-zero at (place-right (one v) cs h)
 
-module _ {w x : List ℕ} {i j : ℕ} {t : List ℕ} {cs : List Cell} (h : Place w x i j (charsCell t ∷ cs)) where
+module _ {w x : List ℕ} {i j k l : ℕ} {t : List ℕ} {cs : List Cell} (h : Place w x i j k l (charsCell t ∷ cs)) where
   pub text-first : (i < length w) × (getD w i 0 ≡ length t)
   unfolding wordsIn
   text-first = first-word (h .words)
@@ -168,23 +192,19 @@ module _ {w x : List ℕ} {i j : ℕ} {t : List ℕ} {cs : List Cell} (h : Place
   unfolding bytesIn size written
   text-there = let k = list-left t (bytesIn cs) (h .texts) in (k .fits, k .same)
 
-  pub text-next : Place w x (i + 1) (j + length t) cs
-  unfolding wordsIn bytesIn
-  text-next = place-to refl (rw append-nil) (place-right (charsCell t ∷ []) cs h)
+  pub text-next : Place w x (i + 1) (j + length t) k l cs
+  unfolding wordsIn bytesIn textCells
+  text-next = rw append-nil at (place-right (textCells t) cs h)
 
 -- ---- the walk over the cells of a part gives the part
 
-pub fine-at : {A : Type 0} {a : A} {i k j l : ℕ} → i ≡ k → j ≡ l → fine a i j ≡ fine a k l
-fine-at {a = a} e f = ap₂ (fine a) e f
-
 abbrev pub Walks : {X : Type 0} → J X → (X → List Cell) → (X → Type 0) → Type 0
-Walks {X = X} p cellsOf Q =
-    (w x : List ℕ) (i j : ℕ) (a : X) → Q a → Place w x i j (cellsOf a) → p w x i j ≡ fine a (i + wordCount (cellsOf a)) (j + byteCount (cellsOf a))
+Walks {X = X} p cellsOf Q = (w x : List ℕ) (i j k l : ℕ) (a : X) → Q a → Place w x i j k l (cellsOf a) → p w x i j ≡ fine a k l
 
-pub word-law : {w x : List ℕ} {i j v : ℕ} {cs : List Cell} (test : ℕ → Bool) → test v ≡ true → Place w x i j (wordCell v ∷ cs)
+pub word-law : {w x : List ℕ} {i j k l v : ℕ} {cs : List Cell} (test : ℕ → Bool) → test v ≡ true → Place w x i j k l (wordCell v ∷ cs)
     → nextWord test w x i j ≡ fine v (i + 1) j
 unfolding nextWord
-word-law {w} {x} {i} {j} {v} test q h =
+word-law {w} {x} {i} {j} test q h =
     let f = word-first h in
     rw (lt-ltb i (length w) (f .0), f .1, q)
 
@@ -195,8 +215,8 @@ Pass [] (v ∷ vs) = ⊥
 Pass (t ∷ ts) [] = ⊥
 Pass (t ∷ ts) (v ∷ vs) = (t v ≡ true) × Pass ts vs
 
-pub tests-law : {A : Type 0} {w x : List ℕ} {i j : ℕ} (ts : List (ℕ → Bool)) (c : List ℕ → J A) (vs : List ℕ) (cs : List Cell) → Pass ts vs → Place w x i j (map wordCell vs ++ cs)
-    → (testsThen ts c w x i j ≡ c vs w x (wordsEnd ts i) j) × Place w x (wordsEnd ts i) j cs
+pub tests-law : {A : Type 0} {w x : List ℕ} {i j k l : ℕ} (ts : List (ℕ → Bool)) (c : List ℕ → J A) (vs : List ℕ) (cs : List Cell) → Pass ts vs → Place w x i j k l (map wordCell vs ++ cs)
+    → (testsThen ts c w x i j ≡ c vs w x (wordsEnd ts i) j) × Place w x (wordsEnd ts i) j k l cs
 unfolding testsThen
 tests-law [] c [] cs q h = (refl, h)
 tests-law [] c (v ∷ vs) cs q h = absurd q
@@ -205,10 +225,10 @@ tests-law (t ∷ ts) c (v ∷ vs) cs q h =
     let g = tests-law ts (λ us. c (v ∷ us)) vs cs (q .1) (word-next h) in
     (rw (word-law t (q .0) h) (g .0), g .1)
 
-pub text-law : {w x : List ℕ} {i j : ℕ} {t : List ℕ} {cs : List Cell} (test : ℕ → Bool) → test (length t) ≡ true → FineText t
-    → Place w x i j (charsCell t ∷ cs) → nextText test w x i j ≡ fine t (i + 1) (j + length t)
+pub text-law : {w x : List ℕ} {i j k l : ℕ} {t : List ℕ} {cs : List Cell} (test : ℕ → Bool) → test (length t) ≡ true → FineText t
+    → Place w x i j k l (charsCell t ∷ cs) → nextText test w x i j ≡ fine t (i + 1) (j + length t)
 unfolding nextText nextWord nextChars
-text-law {w} {x} {i} {j} {t} test q f h =
+text-law {w} {x} {i} {j} {t = t} test q f h =
     let a = text-first h in
     let b = text-there h in
     rw (
@@ -222,32 +242,24 @@ text-law {w} {x} {i} {j} {t} test q f h =
     )
 
 module _ {X : Type 0} (p : J X) (cellsOf : X → List Cell) (Q : X → Type 0) (law : Walks p cellsOf Q) where
-  pub times-law : (w x : List ℕ) (i j : ℕ) (ys : List X) → All Q ys → Place w x i j (each cellsOf ys)
-      → times (length ys) p w x i j ≡ fine ys (i + wordCount (each cellsOf ys)) (j + byteCount (each cellsOf ys))
+  pub times-law : {w x : List ℕ} {i j k l : ℕ} (ys : List X) → All Q ys → Place w x i j k l (each cellsOf ys) → times (length ys) p w x i j ≡ fine ys k l
   unfolding times each
-  times-law w x i j [] q h = unfold wordsIn bytesIn in fine-at (sym (add-zero i)) (sym (add-zero j))
-  times-law w x i j (a ∷ ys) q h =
+  times-law [] q h = none-left h
+  times-law {w} {x} {i} {j} (a ∷ ys) q h =
       rw (
-        law w x i j a (q .0) (place-left (cellsOf a) (each cellsOf ys) h),
-        times-law w x (i + wordCount (cellsOf a)) (j + byteCount (cellsOf a)) ys (q .1) (place-right (cellsOf a) (each cellsOf ys) h),
+        law w x i j _ _ a (q .0) (place-left (cellsOf a) (each cellsOf ys) h),
+        times-law ys (q .1) (place-right (cellsOf a) (each cellsOf ys) h),
       )
-      (fine-at (omega (arith, word-counts (cellsOf a) (each cellsOf ys))) (omega (arith, byte-counts (cellsOf a) (each cellsOf ys))))
 
 pub row-law : (ks : List ℕ) → Walks (row ks) (map wordCell) (Fits ks)
 unfolding row
-row-law [] w x i j [] q h = unfold wordsIn bytesIn in fine-at (sym (add-zero i)) (sym (add-zero j))
-row-law [] w x i j (v ∷ vs) q h = absurd q
-row-law (k ∷ ks) w x i j [] q h = absurd q
-row-law (k ∷ ks) w x i j (v ∷ vs) q h =
-    rw (word-law (wide k) (lt-ltb v (256 ^ k) (q .0)) h, row-law ks w x (i + 1) j vs (q .1) (word-next h))
-    (unfold wordsIn bytesIn in fine-at (omega arith) refl)
-
--- a word by itself
-abbrev pub one : ℕ → List Cell
-one v = wordCell v ∷ []
+row-law [] w x i j k l [] q h = none-left h
+row-law [] w x i j k l (v ∷ vs) q h = absurd q
+row-law (c ∷ cs) w x i j k l [] q h = absurd q
+row-law (c ∷ cs) w x i j k l (v ∷ vs) q h = rw (word-law (wide c) (lt-ltb v (256 ^ c) (q .0)) h, row-law cs w x (i + 1) j k l vs (q .1) (word-next h))
 
 pub one-law : (test : ℕ → Bool) → Walks (nextWord test) one (λ v. test v ≡ true)
-one-law test w x i j v q h = word-law test q h ∙ unfold wordsIn bytesIn in fine-at refl (sym (add-zero j))
+one-law test w x i j k l v q h = word-law test q h ∙ none-left (word-next h)
 
 pub each-one : (vs : List ℕ) → each one vs ≡ map wordCell vs
 unfolding each
@@ -258,25 +270,24 @@ pub all-map : {X : Type 0} (Q R : X → Type 0) → ((a : X) → Q a → R a) �
 all-map Q R f [] q = tt
 all-map Q R f (x ∷ xs) q = (f x (q .0), all-map Q R f xs (q .1))
 
-pub values-law : (w x : List ℕ) (i j : ℕ) (vs : List ℕ) → All (λ v. v < 256 ^ 4) vs → Place w x i j (map wordCell vs)
-    → times (length vs) (nextWord (wide 4)) w x i j ≡ fine vs (i + wordCount (map wordCell vs)) (j + byteCount (map wordCell vs))
-values-law w x i j vs q h =
-    rw (← each-one vs)
-    (times-law (nextWord (wide 4)) one (λ v. wide 4 v ≡ true) (one-law (wide 4)) w x i j vs
-    (all-map (λ v. v < 256 ^ 4) (λ v. wide 4 v ≡ true) (λ v l. lt-ltb v (256 ^ 4) l) vs q) (rw (each-one vs) h))
+pub values-law : {w x : List ℕ} {i j k l : ℕ} (vs : List ℕ) → All (λ v. v < 256 ^ 4) vs → Place w x i j k l (map wordCell vs) → times (length vs) (nextWord (wide 4)) w x i j ≡ fine vs k l
+values-law vs q h =
+    times-law (nextWord (wide 4)) one (λ v. wide 4 v ≡ true) (one-law (wide 4)) vs
+    (all-map (λ v. v < 256 ^ 4) (λ v. wide 4 v ≡ true) (λ v l. lt-ltb v (256 ^ 4) l) vs q) (rw (each-one vs) h)
 
 pub one-text-law : Walks (nextText (wide 4)) textCells FineText
 unfolding textCells
-one-text-law w x i j t q h =
-    text-law (wide 4) (lt-ltb (length t) (256 ^ 4) (q .short)) q h ∙ unfold wordsIn bytesIn in fine-at refl (rw append-nil)
+one-text-law w x i j k l t q h = text-law (wide 4) (lt-ltb (length t) (256 ^ 4) (q .short)) q h ∙ none-left (text-next h)
 
 -- cells that stand there from the start on and are all of the two lists
-pub place-all : (cs : List Cell) → Place (wordsIn cs) (bytesIn cs) 0 0 cs
+pub place-all : (cs : List Cell) → Place (wordsIn cs) (bytesIn cs) 0 0 (wordCount cs) (byteCount cs) cs
 unfolding size written
 place-all cs =
     record {
       words = record { fits = omega arith; same = take-length (wordsIn cs) };
       texts = record { fits = omega arith; same = take-length (bytesIn cs) };
+      wordsTo = omega arith;
+      textsTo = omega arith;
     }
 
 pub ends-law : (w x : List ℕ) (i j : ℕ) → length w ≤ i → length x ≤ j → ends w x i j ≡ fine 0 i j
@@ -284,7 +295,7 @@ unfolding ends
 ends-law w x i j h k = rw (le-ltb i (length w) h, le-ltb j (length x) k)
 
 -- a text whose length fails its test is refused at its length
-pub text-long : {w x : List ℕ} {i j : ℕ} {t : List ℕ} {cs : List Cell} (test : ℕ → Bool) → test (length t) ≡ false → Place w x i j (charsCell t ∷ cs)
+pub text-long : {w x : List ℕ} {i j k l : ℕ} {t : List ℕ} {cs : List Cell} (test : ℕ → Bool) → test (length t) ≡ false → Place w x i j k l (charsCell t ∷ cs)
     → nextText test w x i j ≡ badWord i
 unfolding nextText nextWord
 text-long {w} {i = i} test q h =
@@ -294,14 +305,11 @@ text-long {w} {i = i} test q h =
 -- ---- what the walk accepts stands there
 
 pub record Got {X : Type 0} (cellsOf : X → List Cell) (Q : X → Type 0) (w x : List ℕ) (i j : ℕ) (a : X) (k l : ℕ) : Type 0 where
-  pub place : Place w x i j (cellsOf a)
+  pub place : Place w x i j k l (cellsOf a)
   pub good : Q a
-  pub words : k ≡ i + wordCount (cellsOf a)
-  pub texts : l ≡ j + byteCount (cellsOf a)
 
 abbrev pub Sound : {X : Type 0} → J X → (X → List Cell) → (X → Type 0) → Type 0
-Sound {X = X} p cellsOf Q =
-    (w x : List ℕ) (i j : ℕ) (a : X) (k l : ℕ) → i ≤ length w → j ≤ length x → p w x i j ≡ fine a k l → Got cellsOf Q w x i j a k l
+Sound {X = X} p cellsOf Q = (w x : List ℕ) (i j k l : ℕ) (a : X) → Inside w x i j → p w x i j ≡ fine a k l → Got cellsOf Q w x i j a k l
 
 pub fine-to : {A : Type 0} (R : A → ℕ → ℕ → Type 0) {a b : A} {i j k l : ℕ} → fine a i j ≡ fine b k l → R a i j → R b k l
 fine-to R {a} {b} {i} {j} {k} {l} e r =
@@ -318,7 +326,7 @@ module _ {A C : Type 0} {a : A} {k l n : ℕ} where
   pub no-text : badText n ≡ fine a k l → C
   no-text e = let z : _≡_ {A = ℕ} 0 1 = cc in absurd (omega arith)
 
--- where a walk goes on after its first part
+-- where a walk is accepted, so is its first part, and what is behind it
 module _ {Y C : Type 0} (w x : List ℕ) (i j : ℕ) {y : Y} {k l : ℕ} where
   pub opened : {X : Type 0} (p : J X) (q : X → J Y) → _>>=_ p q w x i j ≡ fine y k l
       → ((v : X) (m n : ℕ) → p w x i j ≡ fine v m n → q v w x m n ≡ fine y k l → C)
@@ -341,75 +349,54 @@ module _ {Y C : Type 0} (w x : List ℕ) (i j : ℕ) {y : Y} {k l : ℕ} where
       go true a d = f a d
       go false a d = no-word d
 
--- that part stands there, and the positions are within the lists
-module _ {Y C : Type 0} (w x : List ℕ) (i j : ℕ) (y : Y) (k l : ℕ) (a : i ≤ length w) (b : j ≤ length x) where
-  pub opens : {X : Type 0} (p : J X) (cellsOf : X → List Cell) (Q : X → Type 0) → Sound p cellsOf Q → (q : X → J Y) → _>>=_ p q w x i j ≡ fine y k l
-      → ((v : X) → Place w x i j (cellsOf v) → Q v → i + wordCount (cellsOf v) ≤ length w → j + byteCount (cellsOf v) ≤ length x
-      → q v w x (i + wordCount (cellsOf v)) (j + byteCount (cellsOf v)) ≡ fine y k l → C)
-      → C
-  opens p cellsOf Q sound q e f =
-      opened w x i j p q e λ v m n c d.
-      let g : Got cellsOf Q w x i j v m n = sound w x i j v m n a b c in
-      f v (g .place) (g .good) (place-words (g .place)) (place-texts (g .place)) (rw (g .words, g .texts) at d)
+-- the first part stands there, and it ends within the lists
+pub opens : {X Y C : Type 0} {w x : List ℕ} {i j k l : ℕ} {y : Y} {cellsOf : X → List Cell} {Q : X → Type 0} → Inside w x i j → (p : J X) → Sound p cellsOf Q → (q : X → J Y) → _>>=_ p q w x i j ≡ fine y k l
+    → ((v : X) (m n : ℕ) → Place w x i j m n (cellsOf v) → Q v → Inside w x m n → q v w x m n ≡ fine y k l → C)
+    → C
+opens {w = w} {x = x} {i = i} {j = j} {cellsOf = cellsOf} {Q = Q} s p sound q e f =
+    opened w x i j p q e λ v m n c d.
+    let g : Got cellsOf Q w x i j v m n = sound w x i j m n v s c in
+    f v m n (g .place) (g .good) (place-inside (g .place)) d
 
 -- ---- words and texts
 
-pub word-there : {w x : List ℕ} {i j : ℕ} → i < length w → j ≤ length x → Place w x i j (one (getD w i 0))
+pub word-there : {w x : List ℕ} {i j : ℕ} → i < length w → Inside w x i j → Place w x i j (i + 1) j (one (getD w i 0))
 unfolding size written wordsIn bytesIn
-word-there {w} {x} {i} {j} a b =
+word-there {w} {i = i} {j = j} a s =
     record {
       words = record { fits = omega arith; same = ap (take 1) (drop-cons w i 0 a) };
-      texts = record { fits = omega arith; same = refl };
+      texts = record { fits = omega (arith, s .texts); same = refl };
+      wordsTo = refl;
+      textsTo = sym (add-zero j);
     }
 
 pub word-sound : (test : ℕ → Bool) → Sound (nextWord test) one (λ v. test v ≡ true)
 unfolding nextWord fits
-word-sound test w x i j v k l a b e = go (fits test w i) refl e
+word-sound test w x i j k l v s e = go (fits test w i) refl e
   where
     go : (t : Bool) → fits test w i ≡ t → pick t (fine (getD w i 0) (i + 1) j) (badWord i) ≡ fine v k l → Got one (λ v. test v ≡ true) w x i j v k l
-    go true h d =
-        fine-to (λ (v k l : ℕ). Got one (λ v. test v ≡ true) w x i j v k l) d
-        (record {
-          place = word-there (fits-there test w i h) b;
-          good = fits-holds test w i h;
-          words = unfold wordsIn in refl;
-          texts = unfold bytesIn in sym (add-zero j);
-        })
+    go true h d = fine-to (λ (v k l : ℕ). Got one (λ v. test v ≡ true) w x i j v k l) d (record { place = word-there (fits-there test w i h) s; good = fits-holds test w i h })
     go false h d = no-word d
-
-module _ {w x : List ℕ} {i j v : ℕ} {cs : List Cell} where
-  pub word-join : Place w x i j (one v) → Place w x (i + 1) j cs → Place w x i j (wordCell v ∷ cs)
-  unfolding wordsIn bytesIn
-  word-join h k = place-join (one v) cs h (place-to refl (sym (add-zero j)) k)
-
-module _ {w x : List ℕ} {i j : ℕ} {t : List ℕ} {cs : List Cell} where
-  pub text-join : Place w x i j (textCells t) → Place w x (i + 1) (j + length t) cs → Place w x i j (charsCell t ∷ cs)
-  unfolding wordsIn bytesIn textCells
-  text-join h k = place-join (charsCell t ∷ []) cs h (place-to refl (rw append-nil) k)
-
-module _ {Y C : Type 0} (w x : List ℕ) (i j : ℕ) (y : Y) (k l : ℕ) (a : i ≤ length w) (b : j ≤ length x) where
-  pub opens-word : (test : ℕ → Bool) (q : ℕ → J Y) → _>>=_ (nextWord test) q w x i j ≡ fine y k l
-      → ((v : ℕ) → Place w x i j (one v) → test v ≡ true → i + 1 ≤ length w → q v w x (i + 1) j ≡ fine y k l → C) → C
-  unfolding wordsIn bytesIn
-  opens-word test q e f =
-      opens w x i j y k l a b (nextWord test) one (λ v. test v ≡ true) (word-sound test) q e λ v p t m n d.
-      f v p t m (rw add-zero at d)
 
 -- what is said of the words that a row of tests lets pass, each word by its own name
 abbrev pub Passing : List (ℕ → Bool) → (List ℕ → Type 0) → Type 0
 Passing [] K = K []
 Passing (t ∷ ts) K = (v : ℕ) → t v ≡ true → Passing ts (λ vs. K (v ∷ vs))
 
--- a row of words with a test each: what P says of cells that stand where the row begins, it says of the row with the cells behind it
-module _ {Y C : Type 0} (w x : List ℕ) (j : ℕ) (y : Y) (k l : ℕ) (b : j ≤ length x) where
-  pub opens-row : (i : ℕ) → i ≤ length w → (ts : List (ℕ → Bool)) (c : List ℕ → J Y) (P : List Cell → Type 0) → ((cs : List Cell) → Place w x i j cs → P cs) → testsThen ts c w x i j ≡ fine y k l
-      → Passing ts (λ vs. ((cs : List Cell) → Place w x (wordsEnd ts i) j cs → P (map wordCell vs ++ cs)) → wordsEnd ts i ≤ length w → c vs w x (wordsEnd ts i) j ≡ fine y k l → C)
-      → C
-  unfolding testsThen
-  opens-row i a [] c P h e f = f h a e
-  opens-row i a (t ∷ ts) c P h e f =
-      opens-word w x i j y k l a b t _ e λ v p q a e.
-      opens-row (i + 1) a ts (λ vs. c (v ∷ vs)) (λ cs. P (wordCell v ∷ cs)) (λ cs r. h (wordCell v ∷ cs) (word-join p r)) e (f v q)
+passing-map : (ts : List (ℕ → Bool)) (K L : List ℕ → Type 0) → ((vs : List ℕ) → K vs → L vs) → Passing ts K → Passing ts L
+passing-map [] K L g f = g [] f
+passing-map (t ∷ ts) K L g f = λ v q. passing-map ts _ _ (λ vs. g (v ∷ vs)) (f v q)
+
+-- a head of words with a test each stands there as a row
+pub opens-row : {Y C : Type 0} {w x : List ℕ} {i j k l : ℕ} {y : Y} → Inside w x i j → (ts : List (ℕ → Bool)) (c : List ℕ → J Y) → testsThen ts c w x i j ≡ fine y k l
+    → Passing ts (λ vs. Place w x i j (wordsEnd ts i) j (map wordCell vs) → Inside w x (wordsEnd ts i) j → c vs w x (wordsEnd ts i) j ≡ fine y k l → C)
+    → C
+unfolding testsThen
+opens-row s [] c e f = f (none-there s) s e
+opens-row {w = w} {x = x} {i = i} {j = j} s (t ∷ ts) c e f =
+    opened-word w x i j t _ e λ h e.
+    let p = word-there (fits-there t w i h) s in
+    opens-row (place-inside p) ts (λ vs. c (getD w i 0 ∷ vs)) e (passing-map ts _ _ (λ vs g h. g (place-join p h)) (f (getD w i 0) (fits-holds t w i h)))
 
 pub taken-length : (n j : ℕ) (x : List ℕ) → j + n ≤ length x → length (take n (drop j x)) ≡ n
 taken-length n j x h = simp (length-take, length-drop) (omega arith)
@@ -418,13 +405,15 @@ pub text-bytes : (t : List ℕ) → byteCount (textCells t) ≡ length t
 unfolding textCells bytesIn
 text-bytes t = ap length (append-nil t)
 
-pub text-place : {w x : List ℕ} {i j n : ℕ} → Place w x i j (one n) → j + n ≤ length x → Place w x i j (textCells (take n (drop j x)))
+pub text-place : {w x : List ℕ} {i j k l n : ℕ} → Place w x i j k j (one n) → j + n ≤ length x → l ≡ j + n → Place w x i j k l (textCells (take n (drop j x)))
 unfolding textCells wordsIn bytesIn size written
-text-place {w} {x} {i} {j} {n} p h =
+text-place {x = x} {j = j} {n = n} p h e =
     let m = taken-length n j x h in
     record {
       words = rw m (p .words);
       texts = rw append-nil (record { fits = omega (arith, m); same = rw m refl });
+      wordsTo = p .wordsTo;
+      textsTo = rw append-nil (omega (arith, m, e));
     }
 
 pub record TextAt (test : ℕ → Bool) (w x : List ℕ) (i j : ℕ) (t : List ℕ) (k l : ℕ) : Type 0 where
@@ -455,79 +444,42 @@ text-at test w x i j {t} {k} {l} e =
     go h g u s false d c q f = no-text f
 
 pub text-sound : (test : ℕ → Bool) → ((n : ℕ) → test n ≡ true → n < 256 ^ 4) → Sound (nextText test) textCells (λ t. FineText t × (test (length t) ≡ true))
-text-sound test small w x i j v k l a b e =
+text-sound test small w x i j k l v s e =
     let t = text-at test w x i j e in
     record {
-      place = rw (t .bytes) (text-place (word-there (t .there) b) (t .inside));
+      place = rw (t .bytes, t .word) (text-place (word-there (t .there) s) (t .inside) (t .byte));
       good = (none-fault v (rw (t .size) (small (getD w i 0) (t .good))) (t .clean), rw (t .size) (t .good));
-      words = t .word ∙ unfold textCells wordsIn in refl;
-      texts = omega (arith, text-bytes v, t .size, t .byte);
     }
-
-module _ {Y C : Type 0} (w x : List ℕ) (i j : ℕ) (y : Y) (k l : ℕ) (a : i ≤ length w) (b : j ≤ length x) where
-  pub opens-text : (test : ℕ → Bool) → ((n : ℕ) → test n ≡ true → n < 256 ^ 4) → (q : List ℕ → J Y) → _>>=_ (nextText test) q w x i j ≡ fine y k l
-      → ((t : List ℕ) → Place w x i j (textCells t) → FineText t → test (length t) ≡ true → i + 1 ≤ length w → j + length t ≤ length x
-      → q t w x (i + 1) (j + length t) ≡ fine y k l → C)
-      → C
-  unfolding textCells wordsIn bytesIn
-  opens-text test small q e f =
-      opens w x i j y k l a b (nextText test) textCells (λ t. FineText t × (test (length t) ≡ true)) (text-sound test small) q e λ t p g m n d.
-      f t p (g .0) (g .1) m (rw append-nil at n) (rw append-nil at d)
 
 -- ---- rows and runs
-
-pub none-there : {w x : List ℕ} {i j : ℕ} → i ≤ length w → j ≤ length x → Place w x i j []
-unfolding size written wordsIn bytesIn
-none-there a b =
-    record {
-      words = record { fits = omega arith; same = refl };
-      texts = record { fits = omega arith; same = refl };
-    }
 
 abbrev pub AllOf : {X : Type 0} → (X → Type 0) → ℕ → List X → Type 0
 AllOf Q n xs = All Q xs × (length xs ≡ n)
 
-module _ {X : Type 0} (p : J X) (cellsOf : X → List Cell) (Q : X → Type 0) (sound : Sound p cellsOf Q) where
+module _ {X : Type 0} {cellsOf : X → List Cell} {Q : X → Type 0} (p : J X) (sound : Sound p cellsOf Q) where
   pub times-sound : (n : ℕ) → Sound (times n p) (each cellsOf) (AllOf Q n)
   unfolding times each
-  times-sound zero w x i j ys k l a b e =
-      fine-to (λ (ys : List X) (k l : ℕ). Got (each cellsOf) (AllOf Q zero) w x i j ys k l) e
-      (record { place = none-there a b; good = (tt, refl); words = unfold wordsIn in sym (add-zero i); texts = unfold bytesIn in sym (add-zero j) })
-  times-sound (suc n) w x i j ys k l a b e =
-      opens w x i j ys k l a b p cellsOf Q sound _ e λ y py qy a b e.
-      opens w x (i + wordCount (cellsOf y)) (j + byteCount (cellsOf y)) ys k l a b (times n p) (each cellsOf) (AllOf Q n) (times-sound n) _ e λ zs pz qz a b e.
-      fine-to (λ (ys : List X) (k l : ℕ). Got (each cellsOf) (AllOf Q (suc n)) w x i j ys k l) e
-      (record {
-        place = place-join (cellsOf y) (each cellsOf zs) py pz;
-        good = ((qy, qz .0), ap suc (qz .1));
-        words = omega (arith, word-counts (cellsOf y) (each cellsOf zs));
-        texts = omega (arith, byte-counts (cellsOf y) (each cellsOf zs));
-      })
+  times-sound zero w x i j k l ys s e =
+      fine-to (λ (ys : List X) (k l : ℕ). Got (each cellsOf) (AllOf Q zero) w x i j ys k l) e (record { place = none-there s; good = (tt, refl) })
+  times-sound (suc n) w x i j k l ys s e =
+      opens s p sound _ e λ y m o py qy s e.
+      opens s (times n p) (times-sound n) _ e λ zs m o pz qz s e.
+      fine-to (λ (ys : List X) (k l : ℕ). Got (each cellsOf) (AllOf Q (suc n)) w x i j ys k l) e (record { place = place-join py pz; good = ((qy, qz .0), ap suc (qz .1)) })
 
 pub row-sound : (ks : List ℕ) → Sound (row ks) (map wordCell) (Fits ks)
 unfolding row
-row-sound [] w x i j vs k l a b e =
-    fine-to (λ (vs : List ℕ) (k l : ℕ). Got (map wordCell) (Fits []) w x i j vs k l) e
-    (record { place = none-there a b; good = tt; words = unfold wordsIn in sym (add-zero i); texts = unfold bytesIn in sym (add-zero j) })
-row-sound (c ∷ cs) w x i j vs k l a b e =
-    opens-word w x i j vs k l a b (wide c) _ e λ v pv qv a e.
-    opens w x (i + 1) j vs k l a b (row cs) (map wordCell) (Fits cs) (row-sound cs) _ e λ us pu qu a b e.
-    fine-to (λ (vs : List ℕ) (k l : ℕ). Got (map wordCell) (Fits (c ∷ cs)) w x i j vs k l) e
-    (record {
-      place = word-join pv pu;
-      good = (ltb-true v (256 ^ c) qv, qu);
-      words = unfold wordsIn in omega arith;
-      texts = unfold bytesIn in refl;
-    })
+row-sound [] w x i j k l vs s e = fine-to (λ (vs : List ℕ) (k l : ℕ). Got (map wordCell) (Fits []) w x i j vs k l) e (record { place = none-there s; good = tt })
+row-sound (c ∷ cs) w x i j k l vs s e =
+    opens s (nextWord (wide c)) (word-sound (wide c)) _ e λ v m n pv qv s e.
+    opens s (row cs) (row-sound cs) _ e λ us m n pu qu s e.
+    fine-to (λ (vs : List ℕ) (k l : ℕ). Got (map wordCell) (Fits (c ∷ cs)) w x i j vs k l) e (record { place = place-join pv pu; good = (ltb-true v (256 ^ c) qv, qu) })
 
 pub values-sound : (n : ℕ) → Sound (times n (nextWord (wide 4))) (map wordCell) (AllOf (λ v. v < 256 ^ 4) n)
-values-sound n w x i j vs k l a b e =
-    let g = times-sound (nextWord (wide 4)) one (λ v. wide 4 v ≡ true) (word-sound (wide 4)) n w x i j vs k l a b e in
+values-sound n w x i j k l vs s e =
+    let g = times-sound (nextWord (wide 4)) (word-sound (wide 4)) n w x i j k l vs s e in
     record {
       place = rw (← each-one vs) (g .place);
       good = (all-map (λ v. wide 4 v ≡ true) (λ v. v < 256 ^ 4) (λ v t. ltb-true v (256 ^ 4) t) vs (g .good .0), g .good .1);
-      words = rw (← each-one vs) (g .words);
-      texts = rw (← each-one vs) (g .texts);
     }
 
 pub wide-four : (n : ℕ) → wide 4 n ≡ true → n < 256 ^ 4
@@ -553,13 +505,13 @@ module _ {X : Type 0} (cellsOf : X → List Cell) (Q : X → Type 0) where
     pub words : wordsIn (cellsOf a) ≡ w
     pub texts : bytesIn (cellsOf a) ≡ x
 
-  all-there : {w x : List ℕ} (a : X) → Q a → Place w x 0 0 (cellsOf a) → length w ≤ wordCount (cellsOf a) → length x ≤ byteCount (cellsOf a) → Accepted w x a
+  all-there : {w x : List ℕ} {k l : ℕ} (a : X) → Q a → Place w x 0 0 k l (cellsOf a) → length w ≤ k → length x ≤ l → Accepted w x a
   unfolding size written
   all-there {w} {x} a f p m n =
       record {
         fine = f;
-        words = sym (p .words .same) ∙ take-all (wordCount (cellsOf a)) w m;
-        texts = sym (p .texts .same) ∙ take-all (byteCount (cellsOf a)) x n;
+        words = sym (p .words .same) ∙ take-all (wordCount (cellsOf a)) w (omega (arith, p .wordsTo));
+        texts = sym (p .texts .same) ∙ take-all (byteCount (cellsOf a)) x (omega (arith, p .textsTo));
       }
 
 -- a format's walk: over the two lists of a value within the limits it gives the value, and it accepts no others
@@ -574,18 +526,14 @@ module _ {X : Type 0} (p : J X) (cellsOf : X → List Cell) (Q : X → Type 0) (
   whole-flat a q =
       let w = wordsIn (cellsOf a) in
       let x = bytesIn (cellsOf a) in
-      rw (
-        law w x 0 0 a q (place-all (cellsOf a)),
-        ends-law w x (0 + wordCount (cellsOf a)) (0 + byteCount (cellsOf a)) (omega arith) (omega arith),
-      )
-      (fine-at (omega arith) (omega arith))
+      rw (law w x 0 0 _ _ a q (place-all (cellsOf a)), ends-law w x (wordCount (cellsOf a)) (byteCount (cellsOf a)) (omega arith) (omega arith))
 
   whole-accepts : (w x : List ℕ) (a : X) (i j : ℕ) → whole p w x 0 0 ≡ fine a i j → Accepted cellsOf Q w x a
   unfolding whole
   whole-accepts w x a i j e =
-      opens w x 0 0 a i j (omega arith) (omega arith) p cellsOf Q sound _ e λ v pv qv m n e.
-      let d = ends-then (λ u. ret v) w x (0 + wordCount (cellsOf v)) (0 + byteCount (cellsOf v)) a i j e in
-      fine-to (λ (a : X) (i j : ℕ). Accepted cellsOf Q w x a) (d .2) (all-there cellsOf Q v qv pv (omega (arith, d .0)) (omega (arith, d .1)))
+      opens (record { words = omega arith; texts = omega arith }) p sound _ e λ v m n pv qv s e.
+      let d = ends-then (λ u. ret v) w x m n a i j e in
+      fine-to (λ (a : X) (i j : ℕ). Accepted cellsOf Q w x a) (d .2) (all-there cellsOf Q v qv pv (d .0) (d .1))
 
   pub whole-judges : Judges (whole p) cellsOf Q
   whole-judges = record { flat = whole-flat; accepts = whole-accepts }
