@@ -161,8 +161,6 @@ judge-long most r q e =
 
 -- ---- what the walk accepts stands there
 
--- ---- the parts
-
 target-sound : (letters : ℕ) → Sound (target letters) targetCells (FineTarget letters)
 unfolding target targetCells testsThen
 target-sound letters w x i j k l t s e =

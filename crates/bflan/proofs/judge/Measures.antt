@@ -10,6 +10,7 @@ use lib.Dec.{ltb, leb, leb·suc-suc}
 use lib.ListN.{length, getD, replicate}
 use Rattle.core.specs.Choice.{pick}
 use Rattle.core.specs.Fill.{paddingOf}
+use Rattle.core.proofs.utf8.Laws.{both-true}
 use Rattle.bflan.specs.declared.judge.Mark.{Mark}
 use Rattle.bflan.specs.declared.judge.Verdict.{Verdict}
 use Rattle.bflan.specs.declared.judge.Verdict.the-variants.{Fine, BadWord, BadText}
@@ -160,19 +161,11 @@ failed a b e h = sym e ∙ not-true a h
 
 pub fits-there : (test : ℕ → Bool) (w : List ℕ) (i : ℕ) → fits test w i ≡ true → i < length w
 unfolding fits
-fits-there test w i e = go (ltb i (length w)) refl e
-  where
-    go : (b : Bool) → ltb i (length w) ≡ b → (b && test (getD w i 0)) ≡ true → i < length w
-    go true d k = ltb-true i (length w) d
-    go false d k = let z : _≡_ {A = ℕ} 0 1 = cc in absurd (omega arith)
+fits-there test w i e = ltb-true i (length w) (both-true (ltb i (length w)) (test (getD w i 0)) e .0)
 
 pub fits-holds : (test : ℕ → Bool) (w : List ℕ) (i : ℕ) → fits test w i ≡ true → test (getD w i 0) ≡ true
 unfolding fits
-fits-holds test w i e = go (ltb i (length w)) e
-  where
-    go : (b : Bool) → (b && test (getD w i 0)) ≡ true → test (getD w i 0) ≡ true
-    go true k = k
-    go false k = let z : _≡_ {A = ℕ} 0 1 = cc in absurd (omega arith)
+fits-holds test w i e = both-true (ltb i (length w)) (test (getD w i 0)) e .1
 
 pub fits-in : (test : ℕ → Bool) (w : List ℕ) (i : ℕ) → i < length w → test (getD w i 0) ≡ fits test w i
 unfolding fits
