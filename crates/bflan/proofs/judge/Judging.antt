@@ -13,10 +13,10 @@ use lib.ListN.{length}
 use Rattle.core.specs.Choice.{pick}
 use Rattle.core.specs.Number.{val}
 use Rattle.core.proofs.utf8.Laws.{both-true}
-use Rattle.bflan.specs.Judge.{fine, badWord, andThen, _>>=_, ret, given, nextWord, nextText, times, wide, row, whole}
+use Rattle.bflan.specs.Judge.{fine, badWord, andThen, _>>=_, ret, given, times, wide, whole}
 use Rattle.bflan.specs.pai1.Judge.{target, datum, info, content, pane, section}
 use Rattle.bflan.specs.pai1.Letters.{listings, fleu, lettersFit}
-use Rattle.bflan.specs.Limits.{All, Fits, FineText}
+use Rattle.bflan.specs.Limits.{All, FineText}
 use Rattle.bflan.specs.pai1.Limits.{FineTarget, FineDatum, FineInfo, FineNamed, FineContent, FineBut, Fine}
 use Rattle.bflan.specs.pai1.Record.{AnimTarget, ExtendedUserDataAnim, AnimInfo, Standard, ExtendedUserData, AnimContent, PaneAnimInfo, keyWidths, targetCells, datumCells, infoCells, contentCells, cells, words, texts}
 use Rattle.bflan.specs.Cells.{Cell, word as wordCell, wordsIn, textCells, each}
@@ -33,7 +33,7 @@ unfolding target targetCells testsThen
 target-law letters w x i j k l t q h =
     let g = tests-law (targetTests letters) targetThen (t .layer ∷ t .target ∷ t .curve ∷ length (t .keys) ∷ []) (each (map wordCell) (t .keys))
     (lt-ltb (t .layer) 256 (q .layer), (q .target, (lt-ltb (t .curve) 3 (q .curve), (lt-ltb (length (t .keys)) 65536 (q .count), tt)))) h in
-    g .0 ∙ rw (times-law (row (keyWidths (t .curve))) (map wordCell) (Fits (keyWidths (t .curve))) (row-law (keyWidths (t .curve))) (t .keys) (q .keys) (g .1))
+    g .0 ∙ rw (times-law (row-law (keyWidths (t .curve))) (t .keys) (q .keys) (g .1))
 
 datum-law : Walks datum datumCells FineDatum
 unfolding datum datumCells textCells testsThen
@@ -57,10 +57,10 @@ info-law : Walks info infoCells FineInfo
 unfolding info infoCells testsThen
 info-law w x i j k l (Standard letters ts) q h =
     let g = tests-law infoTests infoThen (letters ∷ length ts ∷ []) (each targetCells ts) (q .letters, (lt-ltb (length ts) 256 (q .count), tt)) h in
-    g .0 ∙ rw (ne-eqb letters fleu (q .standard), times-law (target letters) targetCells (FineTarget letters) (target-law letters) ts (q .targets) (g .1))
+    g .0 ∙ rw (ne-eqb letters fleu (q .standard), times-law (target-law letters) ts (q .targets) (g .1))
 info-law w x i j k l (ExtendedUserData ds) q h =
     let g = tests-law infoTests infoThen (fleu ∷ length ds ∷ []) (each datumCells ds) (fleu-fits, (lt-ltb (length ds) 256 (q .0), tt)) h in
-    g .0 ∙ rw (eq-eqb fleu fleu refl, times-law datum datumCells FineDatum datum-law ds (q .1) (g .1))
+    g .0 ∙ rw (eq-eqb fleu fleu refl, times-law datum-law ds (q .1) (g .1))
 
 content-law : Walks content contentCells FineContent
 unfolding content contentCells testsThen
@@ -68,7 +68,7 @@ content-law w x i j k l c q h =
     let g = tests-law namedTests (namedThen (c .name)) (c .type ∷ length (c .infos) ∷ []) (each infoCells (c .infos))
     (le-leb (c .type) 4 (omega (arith, q .type)), (lt-ltb (length (c .infos)) 256 (q .count), tt)) (text-next h) in
     rw (text-law (λ n. leb n 28) (le-leb (length (c .name)) 28 (q .short)) (q .name) h)
-    (g .0 ∙ rw (times-law info infoCells FineInfo info-law (c .infos) (q .infos) (g .1)))
+    (g .0 ∙ rw (times-law info-law (c .infos) (q .infos) (g .1)))
 
 content-long : {w x : List ℕ} {i j k l : ℕ} (c : AnimContent) → leb (length (c .name)) 28 ≡ false → Place w x i j k l (contentCells c) → content w x i j ≡ badWord i
 unfolding content contentCells
@@ -136,10 +136,10 @@ module _ (most : ℕ) {w x : List ℕ} {i j k l : ℕ} (r : PaneAnimInfo) (q : F
   unfolding afterHead
   pane-head =
       head-law .0
-      ∙ rw (times-law (nextText (wide 4)) textCells FineText one-text-law (r .textures) (q .textures) (place-left names (each contentCells (r .contents)) (head-law .1)))
+      ∙ rw (times-law one-text-law (r .textures) (q .textures) (place-left names (each contentCells (r .contents)) (head-law .1)))
 
 pane-law : Walks pane cells Fine
-pane-law w x i j k l r q h = pane-head 28 r q h ∙ rw (times-law content contentCells FineContent content-law (r .contents) (q .contents) (contents-there 28 r q h))
+pane-law w x i j k l r q h = pane-head 28 r q h ∙ rw (times-law content-law (r .contents) (q .contents) (contents-there 28 r q h))
 
 -- a texture is one word
 texture-words : (ts : List (List ℕ)) → wordCount (each textCells ts) ≡ length ts
@@ -165,7 +165,7 @@ target-sound : (letters : ℕ) → Sound (target letters) targetCells (FineTarge
 unfolding target targetCells testsThen
 target-sound letters w x i j k l t s e =
     opens-row s (targetTests letters) targetThen e λ layer q1 number q2 curve q3 n q4 head s e.
-    opens s (times n (row (keyWidths curve))) (times-sound (row (keyWidths curve)) (row-sound (keyWidths curve)) n) _ e λ ks m o pk qk s e.
+    opens s (times-sound (row-sound (keyWidths curve)) n) _ e λ ks m o pk qk s e.
     fine-to (λ (t : AnimTarget) (k l : ℕ). Got targetCells (FineTarget letters) w x i j t k l) e
     (record {
       place = rw (qk .1) (place-join head pk);
@@ -182,8 +182,8 @@ datum-sound : Sound datum datumCells FineDatum
 unfolding datum datumCells textCells testsThen
 datum-sound w x i j k l d s e =
     opens-row s datumTests datumThen e λ size q1 one q2 two q3 base q4 three q5 head s e.
-    opens s (times (3 * base) (nextWord (wide 4))) (values-sound (3 * base)) _ e λ vs m o pv qv s e.
-    opens s (nextText (wide 4)) (text-sound (wide 4) wide-four) _ e λ key m o pk qk s e.
+    opens s (values-sound (3 * base)) _ e λ vs m o pv qv s e.
+    opens s (text-sound (wide 4) wide-four) _ e λ key m o pk qk s e.
     fine-to (λ (d : ExtendedUserDataAnim) (k l : ℕ). Got datumCells FineDatum w x i j d k l) e
     (record {
       place = place-join head (place-join pv pk);
@@ -208,11 +208,11 @@ info-sound w x i j k l y s e = opens-row s infoTests infoThen e λ letters f n q
         → given t (_>>=_ (times n datum) (λ ds. ret (ExtendedUserData ds))) (_>>=_ (times n (target letters)) (λ ts. ret (Standard letters ts))) w x (i + 1 + 1) j ≡ fine y k l
         → Got infoCells FineInfo w x i j y k l
     go letters f n q head s true t e =
-        opens s (times n datum) (times-sound datum datum-sound n) _ e λ ds m o pd qd s e.
+        opens s (times-sound datum-sound n) _ e λ ds m o pd qd s e.
         fine-to (λ (y : AnimInfo) (k l : ℕ). Got infoCells FineInfo w x i j y k l) e
         (record { place = rw (qd .1, ← eqb-true letters fleu t) (place-join head pd); good = (rw (qd .1) (ltb-true n 256 q), qd .0) })
     go letters f n q head s false t e =
-        opens s (times n (target letters)) (times-sound (target letters) (target-sound letters) n) _ e λ ts m o pt qt s e.
+        opens s (times-sound (target-sound letters) n) _ e λ ts m o pt qt s e.
         fine-to (λ (y : AnimInfo) (k l : ℕ). Got infoCells FineInfo w x i j y k l) e
         (record {
           place = rw (qt .1) (place-join head pt);
@@ -222,9 +222,9 @@ info-sound w x i j k l y s e = opens-row s infoTests infoThen e λ letters f n q
 content-sound : Sound content contentCells FineContent
 unfolding content contentCells textCells testsThen
 content-sound w x i j k l c s e =
-    opens s (nextText (λ n. leb n 28)) (text-sound (λ n. leb n 28) (λ n t. let h = leb-true n 28 t in omega arith)) _ e λ name m o pn qn s e.
+    opens s (text-sound (λ n. leb n 28) (λ n t. let h = leb-true n 28 t in omega arith)) _ e λ name m o pn qn s e.
     opens-row s namedTests (namedThen name) e λ type q1 n q2 head s e.
-    opens s (times n info) (times-sound info info-sound n) _ e λ is m o pi qi s e.
+    opens s (times-sound info-sound n) _ e λ is m o pi qi s e.
     fine-to (λ (c : AnimContent) (k l : ℕ). Got contentCells FineContent w x i j c k l) e
     (record {
       place = rw (qi .1) (place-join pn (place-join head pi));
@@ -241,8 +241,8 @@ pane-sound : Sound pane cells Fine
 unfolding pane cells afterHead testsThen
 pane-sound w x i j k l r s e =
     opens-row s paneTests paneThen e λ frames q1 looping q2 nt q3 nc q4 head s e.
-    opens s (times nt (nextText (wide 4))) (times-sound (nextText (wide 4)) (text-sound (wide 4) wide-four) nt) _ e λ ts m o pt qt s e.
-    opens s (times nc content) (times-sound content content-sound nc) _ e λ cs m o pc qc s e.
+    opens s (times-sound (text-sound (wide 4) wide-four) nt) _ e λ ts m o pt qt s e.
+    opens s (times-sound content-sound nc) _ e λ cs m o pc qc s e.
     fine-to (λ (r : PaneAnimInfo) (k l : ℕ). Got cells Fine w x i j r k l) e
     (record {
       place = rw (qt .1, qc .1) (place-join head (place-join pt pc));
@@ -260,7 +260,7 @@ pane-sound w x i j k l r s e =
 
 pub section-judges : Judges section cells Fine
 unfolding section
-section-judges = whole-judges pane cells Fine pane-law pane-sound
+section-judges = whole-judges pane-law pane-sound
 
 pub judge-flat : (r : PaneAnimInfo) → Fine r → section (words r) (texts r) 0 0 ≡ fine r (length (words r)) (length (texts r))
 judge-flat = section-judges .flat

@@ -159,6 +159,7 @@ none-there {i = i} {j = j} s =
       textsTo = sym (add-zero j);
     }
 
+-- where none are left, the walk is at its end
 pub none-left : {A : Type 0} {a : A} {w x : List ℕ} {i j k l : ℕ} → Place w x i j k l [] → fine a i j ≡ fine a k l
 unfolding wordsIn bytesIn
 none-left {a = a} h = ap₂ (fine a) (omega (arith, h .wordsTo)) (omega (arith, h .textsTo))
@@ -241,7 +242,7 @@ text-law {w} {x} {i} {j} {t = t} test q f h =
       le-ltb (length t) (length t) (omega arith),
     )
 
-module _ {X : Type 0} (p : J X) (cellsOf : X → List Cell) (Q : X → Type 0) (law : Walks p cellsOf Q) where
+module _ {X : Type 0} {p : J X} {cellsOf : X → List Cell} {Q : X → Type 0} (law : Walks p cellsOf Q) where
   pub times-law : {w x : List ℕ} {i j k l : ℕ} (ys : List X) → All Q ys → Place w x i j k l (each cellsOf ys) → times (length ys) p w x i j ≡ fine ys k l
   unfolding times each
   times-law [] q h = none-left h
@@ -272,7 +273,7 @@ all-map Q R f (x ∷ xs) q = (f x (q .0), all-map Q R f xs (q .1))
 
 pub values-law : {w x : List ℕ} {i j k l : ℕ} (vs : List ℕ) → All (λ v. v < 256 ^ 4) vs → Place w x i j k l (map wordCell vs) → times (length vs) (nextWord (wide 4)) w x i j ≡ fine vs k l
 values-law vs q h =
-    times-law (nextWord (wide 4)) one (λ v. wide 4 v ≡ true) (one-law (wide 4)) vs
+    times-law (one-law (wide 4)) vs
     (all-map (λ v. v < 256 ^ 4) (λ v. wide 4 v ≡ true) (λ v l. lt-ltb v (256 ^ 4) l) vs q) (rw (each-one vs) h)
 
 pub one-text-law : Walks (nextText (wide 4)) textCells FineText
@@ -302,7 +303,7 @@ text-long {w} {i = i} test q h =
     let f = text-first h in
     rw (lt-ltb i (length w) (f .0), f .1, q)
 
--- ---- what the walk accepts stands there
+-- ---- what the walk accepts stands there: the converse
 
 pub record Got {X : Type 0} (cellsOf : X → List Cell) (Q : X → Type 0) (w x : List ℕ) (i j : ℕ) (a : X) (k l : ℕ) : Type 0 where
   pub place : Place w x i j k l (cellsOf a)
@@ -350,10 +351,10 @@ module _ {Y C : Type 0} (w x : List ℕ) (i j : ℕ) {y : Y} {k l : ℕ} where
       go false a d = no-word d
 
 -- the first part stands there, and it ends within the lists
-pub opens : {X Y C : Type 0} {w x : List ℕ} {i j k l : ℕ} {y : Y} {cellsOf : X → List Cell} {Q : X → Type 0} → Inside w x i j → (p : J X) → Sound p cellsOf Q → (q : X → J Y) → _>>=_ p q w x i j ≡ fine y k l
+pub opens : {X Y C : Type 0} {w x : List ℕ} {i j k l : ℕ} {y : Y} {p : J X} {cellsOf : X → List Cell} {Q : X → Type 0} → Inside w x i j → Sound p cellsOf Q → (q : X → J Y) → _>>=_ p q w x i j ≡ fine y k l
     → ((v : X) (m n : ℕ) → Place w x i j m n (cellsOf v) → Q v → Inside w x m n → q v w x m n ≡ fine y k l → C)
     → C
-opens {w = w} {x = x} {i = i} {j = j} {cellsOf = cellsOf} {Q = Q} s p sound q e f =
+opens {w = w} {x = x} {i = i} {j = j} {p = p} {cellsOf = cellsOf} {Q = Q} s sound q e f =
     opened w x i j p q e λ v m n c d.
     let g : Got cellsOf Q w x i j v m n = sound w x i j m n v s c in
     f v m n (g .place) (g .good) (place-inside (g .place)) d
@@ -416,6 +417,7 @@ text-place {x = x} {j = j} {n = n} p h e =
       textsTo = rw append-nil (omega (arith, m, e));
     }
 
+-- a text that is accepted: the word at i is its length, it stands in x from j on, and it has neither fault
 pub record TextAt (test : ℕ → Bool) (w x : List ℕ) (i j : ℕ) (t : List ℕ) (k l : ℕ) : Type 0 where
   pub there : i < length w
   pub good : test (getD w i 0) ≡ true
@@ -456,27 +458,27 @@ text-sound test small w x i j k l v s e =
 abbrev pub AllOf : {X : Type 0} → (X → Type 0) → ℕ → List X → Type 0
 AllOf Q n xs = All Q xs × (length xs ≡ n)
 
-module _ {X : Type 0} {cellsOf : X → List Cell} {Q : X → Type 0} (p : J X) (sound : Sound p cellsOf Q) where
+module _ {X : Type 0} {p : J X} {cellsOf : X → List Cell} {Q : X → Type 0} (sound : Sound p cellsOf Q) where
   pub times-sound : (n : ℕ) → Sound (times n p) (each cellsOf) (AllOf Q n)
   unfolding times each
   times-sound zero w x i j k l ys s e =
       fine-to (λ (ys : List X) (k l : ℕ). Got (each cellsOf) (AllOf Q zero) w x i j ys k l) e (record { place = none-there s; good = (tt, refl) })
   times-sound (suc n) w x i j k l ys s e =
-      opens s p sound _ e λ y m o py qy s e.
-      opens s (times n p) (times-sound n) _ e λ zs m o pz qz s e.
+      opens s sound _ e λ y m o py qy s e.
+      opens s (times-sound n) _ e λ zs m o pz qz s e.
       fine-to (λ (ys : List X) (k l : ℕ). Got (each cellsOf) (AllOf Q (suc n)) w x i j ys k l) e (record { place = place-join py pz; good = ((qy, qz .0), ap suc (qz .1)) })
 
 pub row-sound : (ks : List ℕ) → Sound (row ks) (map wordCell) (Fits ks)
 unfolding row
 row-sound [] w x i j k l vs s e = fine-to (λ (vs : List ℕ) (k l : ℕ). Got (map wordCell) (Fits []) w x i j vs k l) e (record { place = none-there s; good = tt })
 row-sound (c ∷ cs) w x i j k l vs s e =
-    opens s (nextWord (wide c)) (word-sound (wide c)) _ e λ v m n pv qv s e.
-    opens s (row cs) (row-sound cs) _ e λ us m n pu qu s e.
+    opens s (word-sound (wide c)) _ e λ v m n pv qv s e.
+    opens s (row-sound cs) _ e λ us m n pu qu s e.
     fine-to (λ (vs : List ℕ) (k l : ℕ). Got (map wordCell) (Fits (c ∷ cs)) w x i j vs k l) e (record { place = place-join pv pu; good = (ltb-true v (256 ^ c) qv, qu) })
 
 pub values-sound : (n : ℕ) → Sound (times n (nextWord (wide 4))) (map wordCell) (AllOf (λ v. v < 256 ^ 4) n)
 values-sound n w x i j k l vs s e =
-    let g = times-sound (nextWord (wide 4)) (word-sound (wide 4)) n w x i j k l vs s e in
+    let g = times-sound (word-sound (wide 4)) n w x i j k l vs s e in
     record {
       place = rw (← each-one vs) (g .place);
       good = (all-map (λ v. wide 4 v ≡ true) (λ v. v < 256 ^ 4) (λ v t. ltb-true v (256 ^ 4) t) vs (g .good .0), g .good .1);
@@ -520,7 +522,7 @@ pub record Judges {X : Type 0} (p : J X) (cellsOf : X → List Cell) (Q : X → 
   pub accepts : (w x : List ℕ) (a : X) (i j : ℕ) → p w x 0 0 ≡ fine a i j → Accepted cellsOf Q w x a
 
 -- so is one that goes over the cells of a value wherever they stand, accepts no others, and lets nothing follow
-module _ {X : Type 0} (p : J X) (cellsOf : X → List Cell) (Q : X → Type 0) (law : Walks p cellsOf Q) (sound : Sound p cellsOf Q) where
+module _ {X : Type 0} {p : J X} {cellsOf : X → List Cell} {Q : X → Type 0} (law : Walks p cellsOf Q) (sound : Sound p cellsOf Q) where
   whole-flat : (a : X) → Q a → whole p (wordsIn (cellsOf a)) (bytesIn (cellsOf a)) 0 0 ≡ fine a (wordCount (cellsOf a)) (byteCount (cellsOf a))
   unfolding whole
   whole-flat a q =
@@ -531,7 +533,7 @@ module _ {X : Type 0} (p : J X) (cellsOf : X → List Cell) (Q : X → Type 0) (
   whole-accepts : (w x : List ℕ) (a : X) (i j : ℕ) → whole p w x 0 0 ≡ fine a i j → Accepted cellsOf Q w x a
   unfolding whole
   whole-accepts w x a i j e =
-      opens (record { words = omega arith; texts = omega arith }) p sound _ e λ v m n pv qv s e.
+      opens (record { words = omega arith; texts = omega arith }) sound _ e λ v m n pv qv s e.
       let d = ends-then (λ u. ret v) w x m n a i j e in
       fine-to (λ (a : X) (i j : ℕ). Accepted cellsOf Q w x a) (d .2) (all-there cellsOf Q v qv pv (d .0) (d .1))
 
