@@ -1,86 +1,32 @@
 -- What the judging walk's answer says of the parts: the words that a part's fields are, and the answer of each part within it.
 -- Assumes nothing.
 use Prim.Native.Nat.{ℕ, zero, suc, _+_, _*_, _≤_, _<_}
-use mathlib.Core.Path.{_≡_, refl, sym, ap, _∙_}
-use mathlib.Core.Bool.{Bool, true, false}
+use mathlib.Core.Path.{_≡_, refl, ap, _∙_}
+use mathlib.Core.Bool.{Bool}
 use mathlib.Core.List.{List, [], _∷_}
 use native.Mathlib.Nat.{add-assoc}
 use native.Mathlib.Numerals.{add-one}
 use native.Mathlib.Omega.{arith}
-use borrow.Author.Tests.{ltb-true, leb-true, eq-eqb, ne-eqb}
+use borrow.Author.Tests.{ltb-true, eq-eqb, ne-eqb}
 use lib.Dec.{eqb, ltb, leb}
-use lib.ListN.{length, getD, take, drop, length-take, length-drop}
+use lib.ListN.{length, getD, take, drop}
 use lib.Seq.{drop-cons}
-use Rattle.core.specs.Choice.{pick}
-use Rattle.core.specs.Text.{firstFault}
-use Rattle.bflan.specs.Judge.{Judged, fine, badWord, badText, J, andThen, _>>=_, ret, given, nextWord, nextChars, nextText, times, wide, row, ends, whole}
+use Rattle.bflan.specs.Judge.{fine, J, _>>=_, ret, given, nextWord, nextText, times, wide, row, whole}
 use Rattle.bflan.specs.pai1.Judge.{target, datum, info, content, pane, section}
 use Rattle.bflan.specs.pai1.Letters.{fleu, lettersFit, targetFits}
 use Rattle.bflan.specs.pai1.Record.{AnimTarget, ExtendedUserDataAnim, AnimInfo, Standard, ExtendedUserData, AnimContent, PaneAnimInfo, keyWidths}
 use Rattle.bflan.specs.inner.JudgeParts.{afterHead}
-use Rattle.bflan.specs.inner.Measure.{fits}
-use Rattle.bflan.proofs.judge.Laws.{fine-to, no-word, no-text}
+use Rattle.bflan.proofs.judge.Laws.{fine-to, opened, opened-word, ends-then}
 use Rattle.bflan.proofs.judge.Measures.{fits-there, fits-holds, testsThen, Fitting, wordsOn, wordsEnd}
 
--- ---- a walk of two parts
+-- ---- a walk of words with a test each
 
-module _ {Y C : Type 0} (w x : List ℕ) (i j : ℕ) {y : Y} {k l : ℕ} where
-  pub opened : {X : Type 0} (p : J X) (q : X → J Y) → _>>=_ p q w x i j ≡ fine y k l
-      → ((v : X) (m n : ℕ) → p w x i j ≡ fine v m n → q v w x m n ≡ fine y k l → C)
-      → C
-  opened {X} p q e f = go (p w x i j) refl e
-    where
-      go : (r : Judged X) → p w x i j ≡ r → andThen r q w x ≡ fine y k l → C
-      go (fine v m n) c d = f v m n c d
-      go (badWord m) c d = no-word d
-      go (badText m) c d = no-text d
-
-  -- the first part a word
-  pub opened-word : (test : ℕ → Bool) (q : ℕ → J Y) → _>>=_ (nextWord test) q w x i j ≡ fine y k l
-      → (fits test w i ≡ true → q (getD w i 0) w x (i + 1) j ≡ fine y k l → C)
-      → C
-  unfolding nextWord fits
-  opened-word test q e f = go (fits test w i) refl e
-    where
-      go : (b : Bool) → fits test w i ≡ b → andThen (pick b (fine (getD w i 0) (i + 1) j) (badWord i)) q w x ≡ fine y k l → C
-      go true a d = f a d
-      go false a d = no-word d
-
--- words with a test each
 pub opened-words : {Y C : Type 0} (w x : List ℕ) (i j : ℕ) {y : Y} {k l : ℕ} (ts : List (ℕ → Bool)) (c : List ℕ → J Y) → testsThen ts c w x i j ≡ fine y k l
     → (Fitting ts w i → c (wordsOn ts w i) w x (wordsEnd ts i) j ≡ fine y k l → C)
     → C
 unfolding testsThen
 opened-words w x i j [] c e f = f tt e
 opened-words w x i j (t ∷ ts) c e f = opened-word w x i j t _ e λ h e. opened-words w x (i + 1) j ts _ e λ g e. f (h, g) e
-
--- ---- texts
-
-pub record TextAt (test : ℕ → Bool) (w x : List ℕ) (i j : ℕ) (t : List ℕ) (k l : ℕ) : Type 0 where
-  pub there : i < length w
-  pub good : test (getD w i 0) ≡ true
-  pub inside : j + getD w i 0 ≤ length x
-  pub bytes : t ≡ take (getD w i 0) (drop j x)
-  pub size : length t ≡ getD w i 0
-  pub word : k ≡ i + 1
-  pub byte : l ≡ j + getD w i 0
-
-pub text-at : (test : ℕ → Bool) (w x : List ℕ) (i j : ℕ) {t : List ℕ} {k l : ℕ} → nextText test w x i j ≡ fine t k l → TextAt test w x i j t k l
-unfolding nextText nextChars
-text-at test w x i j {t} {k} {l} e =
-    opened-word w x i j test nextChars e λ h d.
-    go (fits-there test w i h) (fits-holds test w i h) (take (getD w i 0) (drop j x)) refl (leb (j + getD w i 0) (length x)) (ltb (firstFault (take (getD w i 0) (drop j x))) (getD w i 0)) refl d
-  where
-    go : i < length w → test (getD w i 0) ≡ true → (u : List ℕ) → take (getD w i 0) (drop j x) ≡ u → (c d : Bool) → leb (j + getD w i 0) (length x) ≡ c
-        → pick c (pick d (badText (j + firstFault u)) (fine u (i + 1) (j + getD w i 0))) (badText (length x)) ≡ fine t k l
-        → TextAt test w x i j t k l
-    go h g u s true true c f = no-text f
-    go h g u s true false c f =
-        let m : j + getD w i 0 ≤ length x = leb-true (j + getD w i 0) (length x) c in
-        let z : length (take (getD w i 0) (drop j x)) ≡ getD w i 0 = simp (length-take, length-drop) (omega arith) in
-        fine-to (λ (t : List ℕ) (k l : ℕ). TextAt test w x i j t k l) f
-        (record { there = h; good = g; inside = m; bytes = sym s; size = ap length (sym s) ∙ z; word = refl; byte = refl })
-    go h g u s false d c f = no-text f
 
 -- ---- runs
 
@@ -273,23 +219,12 @@ pub record SectionAt (w x : List ℕ) (r : PaneAnimInfo) (k l : ℕ) : Type 0 wh
   pub textures : times (getD w 2 0) (nextText (wide 4)) w x 4 0 ≡ fine (r .textures) word byte
   pub contents : times (getD w 3 0) content w x word byte ≡ fine (r .contents) k l
 
-ends-at : (w x : List ℕ) (i j : ℕ) {u k l : ℕ} → ends w x i j ≡ fine u k l → (k ≡ i) × (l ≡ j)
-unfolding ends
-ends-at w x i j {u} {k} {l} e = go (ltb i (length w)) (ltb j (length x)) e
-  where
-    go : (s t : Bool) → pick s (badWord i) (pick t (badText j) (fine 0 i j)) ≡ fine u k l → (k ≡ i) × (l ≡ j)
-    go true t e = no-word e
-    go false true e = no-text e
-    go false false e = fine-to (λ (u k l : ℕ). (k ≡ i) × (l ≡ j)) e (refl, refl)
-
 -- a value that is all there is was judged fine
 pub whole-at : {A : Type 0} (p : J A) (w x : List ℕ) (i j : ℕ) {a : A} {k l : ℕ} → whole p w x i j ≡ fine a k l → p w x i j ≡ fine a k l
 unfolding whole
 whole-at {A} p w x i j e =
     opened w x i j p _ e λ v m n b e.
-    opened w x m n ends _ e λ u y z c e.
-    let f = ends-at w x m n c in
-    fine-to (λ (a : A) (k l : ℕ). p w x i j ≡ fine a k l) e (rw (f .0, f .1) b)
+    fine-to (λ (a : A) (k l : ℕ). p w x i j ≡ fine a k l) (ends-then (λ u. ret v) w x m n _ _ _ e .2) b
 
 pane-at : (w x : List ℕ) {r : PaneAnimInfo} {k l : ℕ} → pane w x 0 0 ≡ fine r k l → SectionAt w x r k l
 unfolding pane afterHead testsThen

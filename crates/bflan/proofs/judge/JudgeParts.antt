@@ -2,11 +2,11 @@
 -- Assumes nothing.
 use Prim.Native.Nat.{ℕ, zero, suc, max, _+_, _-_, _*_, _<_, _≤_}
 use mathlib.Core.Path.{_≡_, refl, ap, sym, _∙_}
-use mathlib.Core.Bool.{Bool, true, false, _&&_}
+use mathlib.Core.Bool.{Bool, true, false}
 use mathlib.Core.List.{List, [], _∷_}
 use native.Mathlib.Omega.{arith}
 use borrow.Author.Tests.{leb-true, le-leb, lt-leb, lt-ltb, le-ltb, eq-eqb, ne-eqb}
-use lib.Dec.{ltb, leb, eqb}
+use lib.Dec.{leb, eqb}
 use lib.ListN.{length, getD, take, drop, replicate, length-take, length-drop, length-replicate}
 use Rattle.core.specs.Choice.{pick}
 use Rattle.core.specs.Fill.{paddingOf}
@@ -27,8 +27,9 @@ use Rattle.bflan.specs.pai1.Places.{total, stride}
 use Rattle.bflan.specs.pai1.Record.{AnimTarget, Standard, AnimInfo, AnimContent, PaneAnimInfo, keyWidths}
 use Rattle.bflan.specs.inner.Walk.{sat}
 use Rattle.bflan.proofs.Layouts.{size-key, stride-three, size-table, user-size, section-size}
+use Rattle.bflan.proofs.judge.Laws.{text-at}
 use Rattle.bflan.proofs.judge.Inversion.{times-length, targetTests, targetThen, datumTests, datumThen, infoTests, infoThen, namedTests, namedThen, paneTests, paneThen}
-use Rattle.bflan.proofs.judge.Measures.{testsThen, Tested, Fitting, tests-fine, bad-at, marked, measured-padded, sat-filled, grown-sat, was-word, was-text, was-then, measured-by, measured-grown, measured-made, then-grown, word-fine, word-bad, times-none, times-turn, steps-as, steps-word, steps-row, steps-times, ran, steps-measured, size-parts, size-numbers}
+use Rattle.bflan.proofs.judge.Measures.{testsThen, Tested, Fitting, tests-fine, bad-at, marked, measured-padded, sat-filled, grown-sat, was-then, measured-by, measured-grown, measured-made, then-grown, word-fine, word-bad, times-none, times-turn, steps-as, steps-word, steps-row, steps-times, ran, steps-measured, size-parts, size-numbers}
 
 -- ---- texts
 
@@ -68,28 +69,6 @@ module _ (test : ℕ → Bool) (w x : List ℕ) (i j : ℕ) where
   ended-then n v f e d =
       ap (grown 1) (text-then n v f e d) ∙ measured-grown 1 (λ (t : List ℕ). length t) (nextText test w x i j)
       ∙ measured-by (λ t. 1 + length t) (λ t. size (ended t)) (nextText test w x i j) (λ t u v e. unfold ended size in omega arith)
-
-chars-length : (n : ℕ) (w x : List ℕ) (i j : ℕ) (t : List ℕ) (u v : ℕ) → nextChars n w x i j ≡ fine t u v → length t ≡ n
-unfolding nextChars
-chars-length n w x i j t u v e = go (leb (j + n) (length x)) refl (ltb (firstFault (take n (drop j x))) n) e
-  where
-    go : (a : Bool) → leb (j + n) (length x) ≡ a → (b : Bool) → pick a (pick b (badText (j + firstFault (take n (drop j x)))) (fine (take n (drop j x)) i (j + n))) (badText (length x)) ≡ fine t u v → length t ≡ n
-    go true d true e = let z : _≡_ {A = ℕ} 0 1 = cc in absurd (omega arith)
-    go true d false e =
-        let h = leb-true (j + n) (length x) d in
-        let q : take n (drop j x) ≡ t = cc in
-        ap length (sym q) ∙ rw (length-take n (drop j x), length-drop j x) (omega arith)
-    go false d b e = let z : _≡_ {A = ℕ} 0 1 = cc in absurd (omega arith)
-
--- the test holds of a text's length
-pub text-fits : (test : ℕ → Bool) (w x : List ℕ) (i j : ℕ) (t : List ℕ) (u v : ℕ) → nextText test w x i j ≡ fine t u v → test (length t) ≡ true
-unfolding nextText nextWord
-text-fits test w x i j t u v e = go (ltb i (length w)) (test (getD w i 0)) refl e
-  where
-    go : (a b : Bool) → test (getD w i 0) ≡ b → andThen (pick (a && b) (fine (getD w i 0) (i + 1) j) (badWord i)) (λ n. nextChars n) w x ≡ fine t u v → test (length t) ≡ true
-    go true true d e = ap test (chars-length (getD w i 0) w x (i + 1) j t u v e) ∙ d
-    go true false d e = let z : _≡_ {A = ℕ} 0 1 = cc in absurd (omega arith)
-    go false b d e = let z : _≡_ {A = ℕ} 0 1 = cc in absurd (omega arith)
 
 -- ---- runs of words
 
@@ -190,14 +169,6 @@ abbrev pub behindSize : ValuesAndKey → ℕ
 behindSize b = size (parts (number 4) (b .values)) + size (ended (b .key))
 
 module _ (n : ℕ) (w x : List ℕ) (i j : ℕ) where
-  pub behind-word : (k : ℕ) → verdictOf (λ vs. size (parts (number 4) vs)) (times n (nextWord (wide 4)) w x i j) ≡ BadWord k → BadWord k ≡ verdictOf behindSize (valuesAndKey n w x i j)
-  unfolding valuesAndKey verdictOf
-  behind-word k e = rw (was-word (λ vs. size (parts (number 4) vs)) (times n (nextWord (wide 4)) w x i j) k e)
-
-  pub behind-text : (k : ℕ) → verdictOf (λ vs. size (parts (number 4) vs)) (times n (nextWord (wide 4)) w x i j) ≡ BadText k → BadText k ≡ verdictOf behindSize (valuesAndKey n w x i j)
-  unfolding valuesAndKey verdictOf
-  behind-text k e = rw (was-text (λ vs. size (parts (number 4) vs)) (times n (nextWord (wide 4)) w x i j) k e)
-
   pub behind-fine : (m : Mark) (v : Verdict) → verdictOf (λ vs. size (parts (number 4) vs)) (times n (nextWord (wide 4)) w x i j) ≡ Fine m
       → v ≡ verdictOf (λ t. size (ended t)) (nextText (wide 4) w x (m .word) (m .byte)) → grown (m .size) v ≡ verdictOf behindSize (valuesAndKey n w x i j)
   unfolding valuesAndKey
@@ -295,20 +266,13 @@ module _ (name w x : List ℕ) (i j : ℕ) where
       (named-made head n type eh h (times n info w x (i + 1 + 1) j) (λ ps u v e. times-length info w x n (i + 1 + 1) j e))
 
 module _ (w x : List ℕ) (i j : ℕ) where
-  pub content-word : (k : ℕ) → verdictOf (λ (t : List ℕ). length t) (nextText (λ n. leb n 28) w x i j) ≡ BadWord k → BadWord k ≡ verdictOf (λ c. size (contentLay c)) (content w x i j)
-  unfolding content verdictOf
-  content-word k e = rw (was-word (λ (t : List ℕ). length t) (nextText (λ n. leb n 28) w x i j) k e)
-
-  pub content-text : (k : ℕ) → verdictOf (λ (t : List ℕ). length t) (nextText (λ n. leb n 28) w x i j) ≡ BadText k → BadText k ≡ verdictOf (λ c. size (contentLay c)) (content w x i j)
-  unfolding content verdictOf
-  content-text k e = rw (was-text (λ (t : List ℕ). length t) (nextText (λ n. leb n 28) w x i j) k e)
-
   pub content-fine : (m : Mark) (v : Verdict) → verdictOf (λ (t : List ℕ). length t) (nextText (λ n. leb n 28) w x i j) ≡ Fine m
       → ((name : List ℕ) → length name ≤ 28 → v ≡ verdictOf (λ c. size (contentLay c)) (afterName name w x (m .word) (m .byte))) → v ≡ verdictOf (λ c. size (contentLay c)) (content w x i j)
   unfolding content afterName
   content-fine m v e f =
       was-then (λ (t : List ℕ). length t) (nextText (λ n. leb n 28) w x i j) m e λ name is sized.
-      rw is (f name (leb-true (length name) 28 (text-fits (λ n. leb n 28) w x i j name (m .word) (m .byte) is)))
+      let t = text-at (λ n. leb n 28) w x i j is in
+      rw is (f name (leb-true (length name) 28 (rw (t .size) (t .good))))
 
 -- ---- the end
 
@@ -327,14 +291,6 @@ module _ (w x : List ℕ) (i j : ℕ) where
 
 -- a value that is all there is has the value's size
 module _ {A : Type 0} (s : A → ℕ) (p : J A) (w x : List ℕ) (i j : ℕ) where
-  pub whole-word : (k : ℕ) → verdictOf s (p w x i j) ≡ BadWord k → BadWord k ≡ verdictOf s (whole p w x i j)
-  unfolding whole verdictOf
-  whole-word k e = rw (was-word s (p w x i j) k e)
-
-  pub whole-text : (k : ℕ) → verdictOf s (p w x i j) ≡ BadText k → BadText k ≡ verdictOf s (whole p w x i j)
-  unfolding whole verdictOf
-  whole-text k e = rw (was-text s (p w x i j) k e)
-
   pub whole-fine : (m : Mark) (v : Verdict) → verdictOf s (p w x i j) ≡ Fine m → v ≡ verdictOf (λ z. 0) (ends w x (m .word) (m .byte))
       → grown (m .size) v ≡ verdictOf s (whole p w x i j)
   unfolding whole
@@ -354,14 +310,6 @@ unfolding sectionSize contentTable namesEnd filledUp
 filled-size r = omega (arith, section-size r)
 
 module _ (frames looping nt nc : ℕ) (w x : List ℕ) (i j : ℕ) where
-  pub headed-word : (k : ℕ) → verdictOf (λ ts. size (parts ended ts)) (times nt (nextText (wide 4)) w x i j) ≡ BadWord k → BadWord k ≡ verdictOf (λ (a : PaneAnimInfo). size (sectionLay a)) (afterHead frames looping nt nc w x i j)
-  unfolding afterHead verdictOf
-  headed-word k e = rw (was-word (λ ts. size (parts ended ts)) (times nt (nextText (wide 4)) w x i j) k e)
-
-  pub headed-text : (k : ℕ) → verdictOf (λ ts. size (parts ended ts)) (times nt (nextText (wide 4)) w x i j) ≡ BadText k → BadText k ≡ verdictOf (λ (a : PaneAnimInfo). size (sectionLay a)) (afterHead frames looping nt nc w x i j)
-  unfolding afterHead verdictOf
-  headed-text k e = rw (was-text (λ ts. size (parts ended ts)) (times nt (nextText (wide 4)) w x i j) k e)
-
   pub headed-fine : (m : Mark) (t k : ℕ) (v : Verdict) → verdictOf (λ ts. size (parts ended ts)) (times nt (nextText (wide 4)) w x i j) ≡ Fine m → t ≡ sat (filledUp (20 + (4 * nt + m .size)))
       → k ≡ sat (t + 4 * nc) → v ≡ verdictOf (λ cs. size (parts contentLay cs)) (times nc content w x (m .word) (m .byte))
       → grown k v ≡ verdictOf (λ (a : PaneAnimInfo). size (sectionLay a)) (afterHead frames looping nt nc w x i j)

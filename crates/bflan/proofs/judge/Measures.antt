@@ -10,6 +10,7 @@ use lib.Dec.{ltb, leb, leb·suc-suc}
 use lib.ListN.{length, getD, replicate}
 use Rattle.core.specs.Choice.{pick}
 use Rattle.core.specs.Fill.{paddingOf}
+use Rattle.core.proofs.utf8.Laws.{both-true}
 use Rattle.bflan.specs.declared.judge.Mark.{Mark}
 use Rattle.bflan.specs.declared.judge.Verdict.{Verdict}
 use Rattle.bflan.specs.declared.judge.Verdict.the-variants.{Fine, BadWord, BadText}
@@ -81,36 +82,18 @@ grown-grown n k (BadText j) = refl
 
 -- ---- a part's answer, in the three forms that its caller's arms have
 
-fine-word : (m : Mark) (i : ℕ) → Fine m ≡ BadWord i → ⊥
-fine-word m i e = let z : _≡_ {A = ℕ} 0 1 = cc in omega arith
-
-fine-text : (m : Mark) (i : ℕ) → Fine m ≡ BadText i → ⊥
-fine-text m i e = let z : _≡_ {A = ℕ} 0 1 = cc in omega arith
-
-word-text : (i j : ℕ) → BadWord i ≡ BadText j → ⊥
-word-text i j e = let z : _≡_ {A = ℕ} 0 1 = cc in omega arith
-
-same-mark : (m n : Mark) → Fine m ≡ Fine n → m ≡ n
-same-mark m n e = cc
-
-same-word : (i j : ℕ) → BadWord i ≡ BadWord j → i ≡ j
-same-word i j e = cc
-
-same-text : (i j : ℕ) → BadText i ≡ BadText j → i ≡ j
-same-text i j e = cc
-
 module _ {A : Type 0} (s : A → ℕ) where
   pub was-word : (r : Judged A) (k : ℕ) → verdictOf s r ≡ BadWord k → r ≡ badWord k
   unfolding verdictOf
-  was-word (fine a i j) k e = absurd (fine-word _ k e)
-  was-word (badWord i) k e = ap badWord (same-word i k e)
-  was-word (badText j) k e = absurd (word-text k j (sym e))
+  was-word (fine a i j) k e = cc
+  was-word (badWord i) k e = cc
+  was-word (badText j) k e = cc
 
   pub was-text : (r : Judged A) (k : ℕ) → verdictOf s r ≡ BadText k → r ≡ badText k
   unfolding verdictOf
-  was-text (fine a i j) k e = absurd (fine-text _ k e)
-  was-text (badWord i) k e = absurd (word-text i k e)
-  was-text (badText j) k e = ap badText (same-text j k e)
+  was-text (fine a i j) k e = cc
+  was-text (badWord i) k e = cc
+  was-text (badText j) k e = cc
 
   pub record Was (r : Judged A) (m : Mark) : Type 0 where
     pub value : A
@@ -120,17 +103,38 @@ module _ {A : Type 0} (s : A → ℕ) where
   pub was-fine : (r : Judged A) (m : Mark) → verdictOf s r ≡ Fine m → Was r m
   unfolding verdictOf
   was-fine (fine a i j) m e =
-      let d : record { word = i; byte = j; size = sat (s a) } ≡ m = same-mark _ m e in
+      let d : record { word = i; byte = j; size = sat (s a) } ≡ m = cc in
       record {
         value = a;
         is = rw (ap (λ (z : Mark). z .word) (sym d), ap (λ (z : Mark). z .byte) (sym d));
         sized = ap (λ (z : Mark). z .size) (sym d);
       }
-  was-fine (badWord i) m e = absurd (fine-word m i (sym e))
-  was-fine (badText j) m e = absurd (fine-text m j (sym e))
+  was-fine (badWord i) m e = let z : _≡_ {A = ℕ} 0 1 = cc in absurd (omega arith)
+  was-fine (badText j) m e = let z : _≡_ {A = ℕ} 0 1 = cc in absurd (omega arith)
 
   pub was-then : {C : Type 0} (r : Judged A) (m : Mark) → verdictOf s r ≡ Fine m → ((a : A) → r ≡ fine a (m .word) (m .byte) → m .size ≡ sat (s a) → C) → C
   was-then r m e f = let z = was-fine r m e in f (z .value) (z .is) (z .sized)
+
+-- ---- a verdict that refuses
+
+abbrev pub Refused : Verdict → Type 0
+Refused (Fine m) = ⊥
+Refused (BadWord i) = Unit
+Refused (BadText j) = Unit
+
+-- it stays what it is with more bytes
+refused-grown : (n : ℕ) (v : Verdict) → Refused v → grown n v ≡ v
+unfolding grown
+refused-grown n (Fine m) h = absurd h
+refused-grown n (BadWord i) h = refl
+refused-grown n (BadText j) h = refl
+
+-- and with what is judged behind the part that it refuses
+pub refused-first : {A B : Type 0} (s : A → ℕ) (all : B → ℕ) (r : Judged A) (q : A → J B) (w x : List ℕ) {v : Verdict} → Refused v → verdictOf s r ≡ v → v ≡ verdictOf all (andThen r q w x)
+unfolding verdictOf
+refused-first s all r q w x {v = Fine m} h e = absurd h
+refused-first s all r q w x {v = BadWord k} h e = rw (was-word s r k e)
+refused-first s all r q w x {v = BadText k} h e = rw (was-text s r k e)
 
 -- ---- what is made of a part's value
 
@@ -157,19 +161,11 @@ failed a b e h = sym e ∙ not-true a h
 
 pub fits-there : (test : ℕ → Bool) (w : List ℕ) (i : ℕ) → fits test w i ≡ true → i < length w
 unfolding fits
-fits-there test w i e = go (ltb i (length w)) refl e
-  where
-    go : (b : Bool) → ltb i (length w) ≡ b → (b && test (getD w i 0)) ≡ true → i < length w
-    go true d k = ltb-true i (length w) d
-    go false d k = let z : _≡_ {A = ℕ} 0 1 = cc in absurd (omega arith)
+fits-there test w i e = ltb-true i (length w) (both-true (ltb i (length w)) (test (getD w i 0)) e .0)
 
 pub fits-holds : (test : ℕ → Bool) (w : List ℕ) (i : ℕ) → fits test w i ≡ true → test (getD w i 0) ≡ true
 unfolding fits
-fits-holds test w i e = go (ltb i (length w)) e
-  where
-    go : (b : Bool) → (b && test (getD w i 0)) ≡ true → test (getD w i 0) ≡ true
-    go true k = k
-    go false k = let z : _≡_ {A = ℕ} 0 1 = cc in absurd (omega arith)
+fits-holds test w i e = both-true (ltb i (length w)) (test (getD w i 0)) e .1
 
 pub fits-in : (test : ℕ → Bool) (w : List ℕ) (i : ℕ) → i < length w → test (getD w i 0) ≡ fits test w i
 unfolding fits
@@ -275,11 +271,8 @@ module _ {A : Type 0} {p : J A} {lay : A → Layout} {w x : List ℕ} {n i₀ j�
       turn : measured p lay w x n i₀ j₀ ≡ grown k (verdictOf (λ ps. size (parts lay ps)) (andThen (p w x i j) (λ a w x i j. andThen (times (left - 1) p w x i j) (λ ps. ret (a ∷ ps)) w x) w x))
       turn = sym (h .same) ∙ ap (λ (r : Judged (List A)). grown k (verdictOf (λ ps. size (parts lay ps)) r)) (times-turn p w x left i j l)
 
-      pub measuring-word : {u : ℕ} → v ≡ BadWord u → BadWord u ≡ measured p lay w x n i₀ j₀
-      measuring-word {u} d = let b = was-word (λ a. size (lay a)) (p w x i j) u (sym e ∙ d) in (rw (turn, b) (unfold verdictOf grown in refl))
-
-      pub measuring-text : {u : ℕ} → v ≡ BadText u → BadText u ≡ measured p lay w x n i₀ j₀
-      measuring-text {u} d = let b = was-text (λ a. size (lay a)) (p w x i j) u (sym e ∙ d) in (rw (turn, b) (unfold verdictOf grown in refl))
+      pub measuring-bad : {u : Verdict} → Refused u → v ≡ u → u ≡ measured p lay w x n i₀ j₀
+      measuring-bad {u} b d = sym (refused-grown k u b) ∙ ap (grown k) (refused-first (λ a. size (lay a)) (λ ps. size (parts lay ps)) (p w x i j) _ w x b (sym e ∙ d)) ∙ sym turn
 
       pub measuring-turn : {m : Mark} → v ≡ Fine m → {k′ : ℕ} → k′ ≡ sat (k + m .size) → Measuring p lay w x n i₀ j₀ (left - 1) (m .word) (m .byte) k′
       measuring-turn {m} d {k′} ek =

@@ -5,7 +5,7 @@ use Prim.Native.Nat.{ℕ, _≤_}
 use mathlib.Core.Path.{_≡_, refl}
 use mathlib.Core.List.{List, [], _∷_, map}
 use native.Mathlib.Omega.{arith}
-use lib.ListN.{length}
+use lib.ListN.{length, length-append}
 use Rattle.bflan.specs.Layout.{Layout, size, parts, ended}
 use Rattle.bflan.specs.pai1.Layout.{targetLay, datumLay, infoLay, contentBody, contentLay, sectionLay}
 use Rattle.bflan.specs.pai1.Judge.{section}
@@ -13,7 +13,7 @@ use Rattle.bflan.specs.pai1.Limits.{Fine}
 use Rattle.bflan.specs.pai1.Record.{AnimTarget, ExtendedUserDataAnim, AnimInfo, Standard, ExtendedUserData, AnimContent, PaneAnimInfo, targetCells, datumCells, infoCells, contentCells, cells, texts}
 use Rattle.bflan.specs.Cells.{Cell, word, bytesIn, each, textCells}
 use Rattle.bflan.proofs.judge.Laws.{byteCount, byte-counts, text-bytes, Judges}
-use Rattle.bflan.proofs.judge.Judging.{datum-bytes, content-bytes, section-bytes, section-judges}
+use Rattle.bflan.proofs.judge.Judging.{section-judges}
 
 pub judges : Judges section cells Fine
 judges = section-judges
@@ -46,8 +46,8 @@ unfolding targetCells bytesIn
 target-size t = omega (arith, keys-none (t .keys))
 
 datum-size : (d : ExtendedUserDataAnim) → byteCount (datumCells d) ≤ size (datumLay d)
-unfolding datumLay ended size
-datum-size d = omega (arith, datum-bytes d, values-none (d .values))
+unfolding datumCells textCells bytesIn datumLay ended size
+datum-size d = omega (arith, byte-counts (map word (d .values)) (textCells (d .key)), text-bytes (d .key), values-none (d .values))
 
 info-size : (i : AnimInfo) → byteCount (infoCells i) ≤ size (infoLay i)
 unfolding infoCells infoLay size bytesIn
@@ -55,10 +55,15 @@ info-size (Standard letters ts) = omega (arith, each-bytes targetCells targetLay
 info-size (ExtendedUserData ds) = omega (arith, each-bytes datumCells datumLay datum-size ds)
 
 content-size : (c : AnimContent) → byteCount (contentCells c) ≤ size (contentLay c)
-unfolding contentLay contentBody size
-content-size c = omega (arith, content-bytes c, each-bytes infoCells infoLay info-size (c .infos))
+unfolding contentCells bytesIn contentLay contentBody size
+content-size c = omega (arith, length-append (c .name) (bytesIn (each infoCells (c .infos))), each-bytes infoCells infoLay info-size (c .infos))
 
 pub texts-size : (r : PaneAnimInfo) → length (texts r) ≤ size (sectionLay r)
-unfolding sectionLay size
+unfolding cells bytesIn sectionLay size
 texts-size r =
-    omega (arith, section-bytes r, each-bytes textCells ended texture-size (r .textures), each-bytes contentCells contentLay content-size (r .contents))
+    omega (
+      arith,
+      byte-counts (each textCells (r .textures)) (each contentCells (r .contents)),
+      each-bytes textCells ended texture-size (r .textures),
+      each-bytes contentCells contentLay content-size (r .contents),
+    )

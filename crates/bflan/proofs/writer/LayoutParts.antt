@@ -27,7 +27,8 @@ use Rattle.bflan.specs.pai1.Places.{total as sum, stride}
 use Rattle.bflan.specs.pai1.Record.{ExtendedUserDataAnim, AnimInfo, Standard, ExtendedUserData, AnimContent, keyWidths}
 use Rattle.bflan.specs.inner.Pen.{Ready, laid, penBehind, listed}
 use Rattle.bflan.specs.inner.LayoutParts.{targetHead, datumHead, datumFront, nameLay, bodyLay, frameLay, namesLay, outOf, outBy}
-use Rattle.bflan.proofs.judge.Inversion.{text-at, times-none, times-more, times-length, WordsAt, row-at, DatumAt, datum-at, info-at, info-extended, info-standard, ContentAt, content-at, SectionAt, section-at, TargetAt, target-at}
+use Rattle.bflan.proofs.judge.Laws.{text-at}
+use Rattle.bflan.proofs.judge.Inversion.{times-none, times-more, times-length, WordsAt, row-at, DatumAt, datum-at, info-at, info-extended, info-standard, ContentAt, content-at, SectionAt, section-at, TargetAt, target-at}
 use Rattle.bflan.proofs.Layouts.{size-written, size-key, section-size}
 use Rattle.bflan.proofs.judge.Measures.{size-parts, size-numbers}
 use Rattle.bflan.proofs.writer.Stored.{text-fits, text-done}

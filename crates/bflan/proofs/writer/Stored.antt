@@ -15,7 +15,7 @@ use Rattle.bflan.specs.Judge.{nextText, wide}
 use Rattle.bflan.specs.Layout.{Layout, number, bytes, _⨾_, size, written, row as rowLay, ended}
 use Rattle.bflan.specs.Limits.{limit}
 use Rattle.bflan.specs.inner.Pen.{Ready}
-use Rattle.bflan.proofs.judge.Inversion.{TextAt, text-at}
+use Rattle.bflan.proofs.judge.Laws.{TextAt, text-at}
 use Rattle.bflan.proofs.reader.Rows.{offsetBy, offset-is}
 use Rattle.bflan.proofs.writer.Pens.{Leaves, Wrote, wrote-number, wrote-bytes, wrote-then, whole-laid, whole-behind}
 

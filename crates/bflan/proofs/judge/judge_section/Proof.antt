@@ -5,19 +5,21 @@ use Rattle.bflan.proofs.judge.judge_section.Statement.{statement}
 use Rattle.bflan.proofs.judge.judge_section.Tie as tie
 use mathlib.Core.Path.{sym, _∙_}
 use denote.Ref.{now}
+use Rattle.bflan.specs.Judge.{whole}
 use Rattle.bflan.specs.Layout.{size}
 use Rattle.bflan.specs.pai1.Judge.{pane, section}
 use Rattle.bflan.specs.pai1.Layout.{sectionLay}
 use Rattle.bflan.specs.pai1.Record.{PaneAnimInfo}
-use Rattle.bflan.proofs.judge.JudgeParts.{whole-word, whole-text, whole-fine}
+use Rattle.bflan.proofs.judge.Measures.{refused-first}
+use Rattle.bflan.proofs.judge.JudgeParts.{whole-fine}
 
 returns : tie.Need-returns
-unfolding section
-returns c = whole-word (λ (a : PaneAnimInfo). size (sectionLay a)) pane (now (c .before .before .before .before .before .before .args .words)) (now (c .before .before .before .before .before .before .args .texts)) 0 0 _ (sym (c .before .before .before .judge-info .ensures) ∙ c .before .k .given .1)
+unfolding section whole
+returns c = refused-first _ _ _ _ _ _ tt (sym (c .before .before .before .judge-info .ensures) ∙ c .before .k .given .1)
 
 returns-2 : tie.Need-returns-2
-unfolding section
-returns-2 c = whole-text (λ (a : PaneAnimInfo). size (sectionLay a)) pane (now (c .before .before .before .before .before .before .args .words)) (now (c .before .before .before .before .before .before .args .texts)) 0 0 _ (sym (c .before .before .before .judge-info .ensures) ∙ c .before .k2 .given .1)
+unfolding section whole
+returns-2 c = refused-first _ _ _ _ _ _ tt (sym (c .before .before .before .judge-info .ensures) ∙ c .before .k2 .given .1)
 
 returns-3 : tie.Need-returns-3
 unfolding section

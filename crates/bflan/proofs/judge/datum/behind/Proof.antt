@@ -5,13 +5,17 @@ use Rattle.bflan.proofs.judge.datum.behind.Statement.{statement}
 use Rattle.bflan.proofs.judge.datum.behind.Tie as tie
 use mathlib.Core.Path.{sym, _∙_}
 use denote.Ref.{now}
-use Rattle.bflan.proofs.judge.JudgeParts.{behind-word, behind-text, behind-fine}
+use Rattle.bflan.specs.inner.JudgeParts.{valuesAndKey}
+use Rattle.bflan.proofs.judge.Measures.{refused-first}
+use Rattle.bflan.proofs.judge.JudgeParts.{behind-fine}
 
 returns : tie.Need-returns
-returns c = behind-word (c .before .before .before .before .before .before .args .n) (now (c .before .before .before .before .before .before .args .words)) (now (c .before .before .before .before .before .before .args .texts)) (c .before .before .before .before .before .before .args .i) (c .before .before .before .before .before .before .args .j) _ (sym (c .before .before .before .run .ensures (now (c .before .before .before .before .before .before .args .texts))) ∙ c .before .k .given .1)
+unfolding valuesAndKey
+returns c = refused-first _ _ _ _ _ _ tt (sym (c .before .before .before .run .ensures (now (c .before .before .before .before .before .before .args .texts))) ∙ c .before .k .given .1)
 
 returns-2 : tie.Need-returns-2
-returns-2 c = behind-text (c .before .before .before .before .before .before .args .n) (now (c .before .before .before .before .before .before .args .words)) (now (c .before .before .before .before .before .before .args .texts)) (c .before .before .before .before .before .before .args .i) (c .before .before .before .before .before .before .args .j) _ (sym (c .before .before .before .run .ensures (now (c .before .before .before .before .before .before .args .texts))) ∙ c .before .k2 .given .1)
+unfolding valuesAndKey
+returns-2 c = refused-first _ _ _ _ _ _ tt (sym (c .before .before .before .run .ensures (now (c .before .before .before .before .before .before .args .texts))) ∙ c .before .k2 .given .1)
 
 returns-3 : tie.Need-returns-3
 returns-3 c = c .grown .ensures ∙ behind-fine (c .before .before .before .before .before .before .before .before .args .n) (now (c .before .before .before .before .before .before .before .before .args .words)) (now (c .before .before .before .before .before .before .before .before .args .texts)) (c .before .before .before .before .before .before .before .before .args .i) (c .before .before .before .before .before .before .before .before .args .j) _ _ (sym (c .before .before .before .before .before .run .ensures (now (c .before .before .before .before .before .before .before .before .args .texts))) ∙ c .before .before .before .m .given .1) (c .before .ended .ensures)

@@ -3,7 +3,7 @@
 use borrow.Author.Needs.{needs}
 use Rattle.bflan.specs.pai1.Judge.{datum}
 use Rattle.bflan.specs.pai1.Layout.{datumLay}
-use Rattle.bflan.proofs.judge.Measures.{Measuring, measuring-start, measuring-word, measuring-text, measuring-turn, measuring-end}
+use Rattle.bflan.proofs.judge.Measures.{Measuring, measuring-start, measuring-bad, measuring-turn, measuring-end}
 use Rattle.bflan.proofs.judge.datum.data.Statement.{statement}
 use Rattle.bflan.proofs.judge.datum.data.Tie as tie
 
@@ -14,10 +14,10 @@ abbrev μ-loop : tie.MeasureT-loop
 μ-loop words texts i j n left₀ at₀ to₀ size₀ left at to size = left
 
 returns : tie.Need-returns Inv-loop μ-loop
-returns c = measuring-word (c .before .before .before .before .before .loop .inv) (c .before .before .before .before .loop-test .taken) (c .before .before .before .datum .ensures) (c .before .k .given .1)
+returns c = measuring-bad (c .before .before .before .before .before .loop .inv) (c .before .before .before .before .loop-test .taken) (c .before .before .before .datum .ensures) tt (c .before .k .given .1)
 
 returns-2 : tie.Need-returns-2 Inv-loop μ-loop
-returns-2 c = measuring-text (c .before .before .before .before .before .loop .inv) (c .before .before .before .before .loop-test .taken) (c .before .before .before .datum .ensures) (c .before .k2 .given .1)
+returns-2 c = measuring-bad (c .before .before .before .before .before .loop .inv) (c .before .before .before .before .loop-test .taken) (c .before .before .before .datum .ensures) tt (c .before .k2 .given .1)
 
 loop-again : tie.Need-loop-again Inv-loop μ-loop
 loop-again c = measuring-turn (c .before .before .before .before .before .before .loop .inv) (c .before .before .before .before .before .loop-test .taken) (c .before .before .before .before .datum .ensures) (c .before .before .m .given .1) (c .add .ensures)

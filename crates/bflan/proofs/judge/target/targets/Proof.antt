@@ -5,7 +5,7 @@ use Prim.Native.Nat.{ℕ}
 use mathlib.Core.List.{List}
 use Rattle.bflan.specs.pai1.Judge.{target}
 use Rattle.bflan.specs.pai1.Layout.{targetLay}
-use Rattle.bflan.proofs.judge.Measures.{Measuring, measuring-start, measuring-word, measuring-text, measuring-turn, measuring-end}
+use Rattle.bflan.proofs.judge.Measures.{Measuring, measuring-start, measuring-bad, measuring-turn, measuring-end}
 use Rattle.bflan.proofs.judge.target.targets.Statement.{statement}
 use Rattle.bflan.proofs.judge.target.targets.Tie as tie
 
@@ -16,10 +16,10 @@ abbrev μ-loop : tie.MeasureT-loop
 μ-loop words letters i j n left₀ at₀ to₀ size₀ left at to size = left
 
 returns : tie.Need-returns Inv-loop μ-loop
-returns c = λ x. measuring-word (c .before .before .before .before .before .loop .inv x) (c .before .before .before .before .loop-test .taken) (c .before .before .before .target .ensures x) (c .before .k .given .1)
+returns c = λ x. measuring-bad (c .before .before .before .before .before .loop .inv x) (c .before .before .before .before .loop-test .taken) (c .before .before .before .target .ensures x) tt (c .before .k .given .1)
 
 returns-2 : tie.Need-returns-2 Inv-loop μ-loop
-returns-2 c = λ x. measuring-text (c .before .before .before .before .before .loop .inv x) (c .before .before .before .before .loop-test .taken) (c .before .before .before .target .ensures x) (c .before .k2 .given .1)
+returns-2 c = λ x. measuring-bad (c .before .before .before .before .before .loop .inv x) (c .before .before .before .before .loop-test .taken) (c .before .before .before .target .ensures x) tt (c .before .k2 .given .1)
 
 loop-again : tie.Need-loop-again Inv-loop μ-loop
 loop-again c = λ x. measuring-turn (c .before .before .before .before .before .before .loop .inv x) (c .before .before .before .before .before .loop-test .taken) (c .before .before .before .before .target .ensures x) (c .before .before .m .given .1) (c .add .ensures)
