@@ -138,7 +138,7 @@ fn put_lone(text: &[u8], i: usize, out: &mut [u8], o: usize, classes: &[u8; 256]
 }
 
 // The decoding by runs of characters, each up to an ill-formed subpart. Where these come one after another they are not looked for. The U+FFFD put
-// in are added to `replaced`.
+// in are added to `replaced`. The decoding is longer than the text by 2 for each of them, less 1 for each byte that a subpart has beyond one: `extra`.
 fn decode_runs(
     text: &[u8],
     out: &mut [u8],
@@ -153,24 +153,22 @@ fn decode_runs(
 {
     let mut i = 0;
     let mut o = at;
-    let mut grown: usize = 0;
+    let mut extra: usize = 0;
     let mut count: usize = 0;
     loop {
         let lones = put_lone(text, i, out, o, classes);
         let from = lones.end;
-        let more = from - i;
-        grown += 2 * more;
-        count += more;
+        count += from - i;
         let run = next_run(text, from, classes, rows);
         let end = run.end;
         let skip = run.skip;
         let next = copy_on(&text[from..end], out, lones.next);
         if skip == 0 {
             *replaced = total(*replaced, count);
-            return total(text.len(), grown);
+            return total(text.len(), 2 * count - extra);
         }
         o = put_replacement(out, next);
-        grown += 3 - skip;
+        extra += skip - 1;
         count += 1;
         i = end + skip;
     }
@@ -273,7 +271,7 @@ fn decode_steps(
 {
     let mut i = 0;
     let mut o = at;
-    let mut grown: usize = 0;
+    let mut extra: usize = 0;
     let mut count: usize = 0;
     while i < text.len() {
         match step_at(text, i, classes) {
@@ -284,14 +282,14 @@ fn decode_steps(
             }
             Step::Bad(k) => {
                 o = put_replacement(out, o);
-                grown += 3 - k;
+                extra += k - 1;
                 count += 1;
                 i += k;
             }
         }
     }
     *replaced = count;
-    total(text.len(), grown)
+    total(text.len(), 2 * count - extra)
 }
 
 // The same, one character at a time: the plain form that the other one is measured against.

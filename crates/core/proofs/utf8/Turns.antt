@@ -23,7 +23,7 @@ use Rattle.core.proofs.Tests.{every-at}
 use Rattle.core.proofs.Zeros.{byte-some, free-of, ended-there}
 use Rattle.core.proofs.utf8.Steps.{matched-none, ascii-class, step-none}
 use Rattle.core.proofs.utf8.Pieces.{more-within, step-good, step-bad, decode-nil, decode-good, valid-nil, valid-good, valid-bad, ill-nil, ill-bad, count-nil, count-good}
-use Rattle.core.proofs.utf8.Laws.{both-true, good-from, whole-well, decode-well, valid-le, decode-front, ill-short, ill-within, ill-or-end, decode-ill, count-front, count-ill, count-le, well-none}
+use Rattle.core.proofs.utf8.Laws.{both-true, good-from, whole-well, decode-well, valid-le, decode-front, ill-short, ill-within, ill-or-end, decode-ill, count-front, count-ill, well-none}
 
 -- ---- parts of a list
 
@@ -242,24 +242,23 @@ module _ (s : List ℕ) (i end skip : ℕ) (h : i ≤ length s) (e : end ≡ i +
       counted : 0 < skip → replacements (drop end s) ≡ suc (replacements (drop (end + skip) s))
       counted q = count-ill (drop end s) (omega (arith, q, k)) ∙ ap (λ (l : List ℕ). suc (replacements l)) passed
 
--- ---- numbers, for the loops that decode: of what was passed, `grown` is how much longer its decoding is, and `n` how many U+FFFD that puts in
+-- ---- numbers, for the loops that decode: of what was passed, `n` pieces are ill-formed and have `extra` bytes beyond one each, so its decoding is
+-- longer by 2 * n - extra
 
 abbrev pub Counted : List ℕ → ℕ → ℕ → ℕ → Type 0
-Counted s i grown n = (i ≤ length s) × (length (decode (drop i s)) + i + grown ≡ length (decode s)) × (grown ≤ 2 * i) × (n + replacements (drop i s) ≡ replacements s)
+Counted s i extra n =
+    (i ≤ length s) × (length (decode (drop i s)) + i + 2 * n ≡ length (decode s) + extra) × (n + extra ≤ i) × (n + replacements (drop i s) ≡ replacements s)
+    × (extra ≤ 2 * n)
 
-pub counted-run : (s : List ℕ) (i grown n end skip : ℕ) → Counted s i grown n → RunAt s i end skip → 0 < skip → Counted s (end + skip) (grown + (3 - skip)) (n + 1)
-counted-run s i grown n end skip c r h =
+pub counted-run : (s : List ℕ) (i extra n end skip : ℕ) → Counted s i extra n → RunAt s i end skip → 0 < skip → Counted s (end + skip) (extra + (skip - 1)) (n + 1)
+counted-run s i extra n end skip c r h =
     let a = ap length (r .split h) in
     let b = length-append (slice i end s) (replacement ++ decode (drop (end + skip) s)) in
     let l = length-slice i end s (omega (arith, r .reach)) in
     let st = r .start in
     let sh = r .short in
     let o = r .one h in
-    (r .reach, omega (arith, c .1, a, b, l, st, sh), omega (arith, c .2, st, sh), omega (arith, c .3, o))
-
--- no count of U+FFFD is above the text's length
-pub counted-most : (s : List ℕ) (i grown n : ℕ) → Counted s i grown n → n ≤ length s
-counted-most s i grown n c = let m = count-le s in omega (arith, c .3, m)
+    (r .reach, omega (arith, c .1, a, b, l, st, sh), omega (arith, c .2, st), omega (arith, c .3, o), omega (arith, c .4, sh))
 
 -- a sum as a usize
 pub added-is : (before n : ℕ) → before ≤ 18446744073709551615 → min (before + n) 18446744073709551615 ≡ added before n
@@ -281,17 +280,18 @@ one-lone s i j l r =
     let o = r .one (omega arith) in
     (omega (arith, l .0), r .reach, omega (arith, l .0, l .2, a, b, c), omega (arith, l .0, l .3, o))
 
-pub counted-lones : (s : List ℕ) (i grown n j : ℕ) → Counted s i grown n → Lones s i j → Counted s j (grown + 2 * (j - i)) (n + (j - i))
-counted-lones s i grown n j c l = (l .1, omega (arith, l .0, l .2, c .1), omega (arith, l .0, c .2), omega (arith, l .0, l .3, c .3))
+pub counted-lones : (s : List ℕ) (i extra n j : ℕ) → Counted s i extra n → Lones s i j → Counted s j extra (n + (j - i))
+counted-lones s i extra n j c l = (l .1, omega (arith, l .0, l .2, c .1), omega (arith, l .0, c .2), omega (arith, l .0, l .3, c .3), omega (arith, c .4))
 
 -- at the end
-pub counted-last : (s : List ℕ) (i grown n end skip : ℕ) → Counted s i grown n → RunAt s i end skip → skip ≡ 0 → (length s + grown ≡ length (decode s)) × (n ≡ replacements s)
-counted-last s i grown n end skip c r q =
+pub counted-last : (s : List ℕ) (i extra n end skip : ℕ) → Counted s i extra n → RunAt s i end skip → skip ≡ 0
+    → (length s + (2 * n - extra) ≡ length (decode s)) × (n ≡ replacements s)
+counted-last s i extra n end skip c r q =
     let a = ap length (r .whole q) in
     let e = r .last q in
     let l = length-slice i end s (omega (arith, e)) in
     let o = r .none q in
-    (omega (arith, c .0, c .1, a, l, e), omega (arith, c .3, o))
+    (omega (arith, c .0, c .1, c .4, a, l, e), omega (arith, c .3, o))
 
 pub counted-size : (s : List ℕ) (n r : ℕ) → n ≡ length (decode s) → r ≡ min n 18446744073709551615 → r ≡ decodedSize s
 unfolding decodedSize
@@ -334,13 +334,13 @@ plain-text s at n e =
 
 -- ---- the same for one step at a time
 
-pub counted-good : (s : List ℕ) (i grown n k : ℕ) → Counted s i grown n → GoodAt s i k → Counted s (i + k) grown n
-counted-good s i grown n k c g =
+pub counted-good : (s : List ℕ) (i extra n k : ℕ) → Counted s i extra n → GoodAt s i k → Counted s (i + k) extra n
+counted-good s i extra n k c g =
     let a = ap length (g .split) in
     let b = length-append (slice i (i + k) s) (decode (drop (i + k) s)) in
     let l = length-slice i (i + k) s (g .reach) in
     let o = g .count in
-    (g .reach, omega (arith, c .1, a, b, l), omega (arith, c .2), omega (arith, c .3, o))
+    (g .reach, omega (arith, c .1, a, b, l), omega (arith, c .2), omega (arith, c .3, o), c .4)
 
 -- an ill-formed subpart is a run of no characters with it behind
 pub run-bad : (s : List ℕ) (i k : ℕ) → BadAt s i k → RunAt s i i k
@@ -352,11 +352,11 @@ lone-bad s i e =
     let h = both-true (ltb i (length s)) (eqb (classOf (getD s i 0)) 0) e in
     bad-at s i 1 (ltb-true _ _ (h .0)) (Bad 1) (step-none _ _ (eqb-true _ _ (h .1))) refl
 
-pub counted-end : (s : List ℕ) (i grown n : ℕ) → Counted s i grown n → length s ≤ i → (length s + grown ≡ length (decode s)) × (n ≡ replacements s)
-counted-end s i grown n c h =
+pub counted-end : (s : List ℕ) (i extra n : ℕ) → Counted s i extra n → length s ≤ i → (length s + (2 * n - extra) ≡ length (decode s)) × (n ≡ replacements s)
+counted-end s i extra n c h =
     let a : length (decode (drop i s)) ≡ 0 = rw (drop-of-length-le s h, decode-nil) refl in
     let o : replacements (drop i s) ≡ 0 = rw (drop-of-length-le s h) count-nil in
-    (omega (arith, c .0, c .1, a), omega (arith, c .3, o))
+    (omega (arith, c .0, c .1, c .4, a), omega (arith, c .3, o))
 
 pub decode-end : (s : List ℕ) (i : ℕ) → length s ≤ i → decode (drop i s) ≡ []
 decode-end s i h = rw (drop-of-length-le s h) decode-nil

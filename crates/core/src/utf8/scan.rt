@@ -228,13 +228,15 @@ fn walk(s: &[u8], from: usize, stop: usize, classes: &[u8; 256], rows: &[u64; 16
     Run { end: i, skip: 0 }
 }
 
-// The rest of a text, by blocks; what is left of them byte by byte.
+// The rest of a text, by blocks; what is left of them byte by byte. It goes on with a part that is all of the text, for the reason that `is_ascii` does.
 fn far_run(s: &[u8], from: usize, classes: &[u8; 256], rows: &[u64; 16]) -> Run
     requires { ⌜ (from ≤ length (now s)) × Classes (now classes) × Rows (now rows) ⌝ }
     ensures { λ r. ⌜ (r .end ≡ from + validUpTo (drop from (now (s .entry)))) × (r .skip ≡ illSize (drop (r .end) (now (s .entry)))) ⌝ }
 {
-    let e = blocks(s, from, classes, rows);
-    walk(s, e, s.len(), classes, rows)
+    let n = s.len();
+    let t = &s[0..n];
+    let e = blocks(t, from, classes, rows);
+    walk(t, e, n, classes, rows)
 }
 
 // A place eight bytes on, or the end.

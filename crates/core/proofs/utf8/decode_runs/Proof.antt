@@ -8,20 +8,20 @@ use denote.Ref.{now}
 use lib.ListN.{length, drop}
 use lib.Seq.{sets}
 use Rattle.core.specs.Utf8.{decode}
-use Rattle.core.proofs.utf8.Turns.{part-is, RunAt, run-at, Counted, counted-lones, counted-most, counted-run, counted-last, counted-size, added-is, sets-run}
+use Rattle.core.proofs.utf8.Turns.{part-is, RunAt, run-at, Counted, counted-lones, counted-run, counted-last, counted-size, added-is, sets-run}
 use borrow.Author.Needs.{needs}
 use Rattle.core.proofs.utf8.decode_runs.Statement.{statement}
 use Rattle.core.proofs.utf8.decode_runs.Tie as tie
 
 abbrev Inv-loop : tie.InvT-loop
-Inv-loop text out₀ at classes rows replaced₀ i₀ o₀ grown₀ count₀ out replaced i o grown count = Counted text i grown count × (length out ≡ length out₀) × (sets out o (decode (drop i text)) ≡ sets out₀ at (decode text)) × (replaced ≡ replaced₀)
+Inv-loop text out₀ at classes rows replaced₀ i₀ o₀ extra₀ count₀ out replaced i o extra count = Counted text i extra count × (length out ≡ length out₀) × (sets out o (decode (drop i text)) ≡ sets out₀ at (decode text)) × (replaced ≡ replaced₀)
 
 abbrev μ-loop : tie.MeasureT-loop
-μ-loop text out₀ at classes rows replaced₀ i₀ o₀ grown₀ count₀ out replaced i o grown count = length text - i
+μ-loop text out₀ at classes rows replaced₀ i₀ o₀ extra₀ count₀ out replaced i o extra count = length text - i
 
 -- behind the lone bytes
 lones : (c : tie.After-slice-known2 Inv-loop μ-loop)
-    → Counted (now (c .before .before .before .before .before .before .before .args .text)) (c .before .before .put-lone .result .end) (c .before .before .before .before .loop .grown + 2 * (c .before .before .put-lone .result .end - c .before .before .before .before .loop .i)) (c .before .before .before .before .loop .count + (c .before .before .put-lone .result .end - c .before .before .before .before .loop .i))
+    → Counted (now (c .before .before .before .before .before .before .before .args .text)) (c .before .before .put-lone .result .end) (c .before .before .before .before .loop .extra) (c .before .before .before .before .loop .count + (c .before .before .put-lone .result .end - c .before .before .before .before .loop .i))
 lones c = counted-lones _ _ _ _ _ (c .before .before .before .before .loop .inv .0) (c .before .before .put-lone .ensures .0)
 
 run : (c : tie.After-next-run Inv-loop μ-loop) → RunAt (now (c .before .before .before .before .before .before .before .before .args .text)) (c .before .before .before .put-lone .result .end) (c .next-run .result .end) (c .next-run .result .skip)
@@ -30,20 +30,20 @@ run c = run-at _ _ _ _ (lones (c .before) .0) (c .next-run .ensures .0) (c .next
 some : (n : ℕ) → (n ≡ 0 → ⊥) → 0 < n
 some n h = omega arith
 
-sub-more : tie.Need-sub-more Inv-loop μ-loop
-sub-more c = c .before .before .put-lone .ensures .0 .0
-
-mul-grown : tie.Need-mul-grown Inv-loop μ-loop
-mul-grown c = let k = lones c in omega (arith, k .0, k .2, c .before .before .before .before .before .before .before .good)
-
-add-grown : tie.Need-add-grown Inv-loop μ-loop
-add-grown c = let k = lones c in omega (arith, k .0, k .2, c .before .before .before .before .before .before .before .good)
+sub-count : tie.Need-sub-count Inv-loop μ-loop
+sub-count c = omega (arith, c .before .before .put-lone .ensures .0 .0)
 
 add-count : tie.Need-add-count Inv-loop μ-loop
-add-count c = let m = counted-most _ _ _ _ (lones c) in omega (arith, m, c .before .before .before .before .before .before .before .good)
+add-count c = let k = lones c in omega (arith, k .0, k .2, c .before .before .before .before .before .before .before .good)
 
 part-copy-on-end : tie.Need-part-copy-on-end Inv-loop μ-loop
 part-copy-on-end c = let r = run c in omega (arith, r .reach)
+
+mul-total : tie.Need-mul-total Inv-loop μ-loop
+mul-total c = let k = lones (c .before .before .before .before .before .before .before .before .before) in omega (arith, k .0, k .2, c .before .before .before .before .before .before .before .before .before .before .before .before .before .before .before .before .good)
+
+sub-total : tie.Need-sub-total Inv-loop μ-loop
+sub-total c = omega (arith, c .before .before .before .before .before .before .before .before .before .before .before .before .before .loop .inv .0 .4)
 
 returns : tie.Need-returns Inv-loop μ-loop
 returns c =
@@ -54,14 +54,11 @@ returns c =
       c .before .before .before .before .before .before .copy-on .ensures .0 ∙ ap (sets (c .before .before .before .before .before .before .before .before .before .before .before .before .put-lone .last .1 .1 .0) (c .before .before .before .before .before .before .before .before .before .before .before .before .put-lone .result .next)) (part-is _ _ _ (r .start) ∙ sym (r .whole (c .before .before .before .if1 .taken))) ∙ c .before .before .before .before .before .before .before .before .before .before .before .before .put-lone .ensures .1 ∙ c .before .before .before .before .before .before .before .before .before .before .before .before .before .before .loop .inv .2,
     )
 
-sub-grown : tie.Need-sub-grown Inv-loop μ-loop
-sub-grown c = let r = run (c .before .before .before .before .before .before .before .before .before .before) in omega (arith, r .short)
-
-add-grown-2 : tie.Need-add-grown-2 Inv-loop μ-loop
-add-grown-2 c = let k = counted-run _ _ _ _ _ _ (lones (c .before .before .before .before .before .before .before .before .before .before .before)) (run (c .before .before .before .before .before .before .before .before .before .before)) (some _ (c .before .before .before .before .if1 .left)) in omega (arith, k .0, k .2, c .before .before .before .before .before .before .before .before .before .before .before .before .before .before .before .before .before .before .good)
+add-extra : tie.Need-add-extra Inv-loop μ-loop
+add-extra c = let k = counted-run _ _ _ _ _ _ (lones (c .before .before .before .before .before .before .before .before .before .before .before)) (run (c .before .before .before .before .before .before .before .before .before .before)) (some _ (c .before .before .before .before .if1 .left)) in omega (arith, k .0, k .2, c .before .before .before .before .before .before .before .before .before .before .before .before .before .before .before .before .before .before .good)
 
 add-count-2 : tie.Need-add-count-2 Inv-loop μ-loop
-add-count-2 c = let m = counted-most _ _ _ _ (counted-run _ _ _ _ _ _ (lones (c .before .before .before .before .before .before .before .before .before .before .before)) (run (c .before .before .before .before .before .before .before .before .before .before)) (some _ (c .before .before .before .before .if1 .left))) in omega (arith, m, c .before .before .before .before .before .before .before .before .before .before .before .before .before .before .before .before .before .before .good)
+add-count-2 c = let k = counted-run _ _ _ _ _ _ (lones (c .before .before .before .before .before .before .before .before .before .before .before)) (run (c .before .before .before .before .before .before .before .before .before .before)) (some _ (c .before .before .before .before .if1 .left)) in omega (arith, k .0, k .2, c .before .before .before .before .before .before .before .before .before .before .before .before .before .before .before .before .before .before .good)
 
 add-i : tie.Need-add-i Inv-loop μ-loop
 add-i c = let r = run (c .before .before .before .before .before .before .before .before .before .before) in omega (arith, r .reach)
@@ -82,6 +79,6 @@ loop-again c =
 pub decode-runs-spec : {M : Type 1} → statement M
 decode-runs-spec =
     tie.close
-    (tie.spec Inv-loop μ-loop (λ c. search needs) (λ c κs. search needs) sub-more mul-grown add-grown add-count (λ c κs. search needs)
-    (search needs) (search needs) part-copy-on-end (search needs) (search needs) (search needs) (search needs) returns (search needs)
-    sub-grown add-grown-2 add-count-2 add-i loop-less loop-again)
+    (tie.spec Inv-loop μ-loop (λ c. search needs) (λ c κs. search needs) sub-count add-count (λ c κs. search needs)
+    (search needs) (search needs) part-copy-on-end (search needs) (search needs) mul-total sub-total (search needs) (search needs) returns (search needs)
+    (search needs) add-extra add-count-2 add-i loop-less loop-again)

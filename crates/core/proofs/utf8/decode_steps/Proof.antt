@@ -8,16 +8,16 @@ use denote.Ref.{now}
 use lib.ListN.{length, drop}
 use lib.Seq.{sets}
 use Rattle.core.specs.Utf8.{decode}
-use Rattle.core.proofs.utf8.Turns.{part-is, GoodAt, BadAt, good-at, bad-at, run-bad, Counted, counted-good, counted-most, counted-run, counted-end, counted-size, decode-end, sets-good, sets-bad}
+use Rattle.core.proofs.utf8.Turns.{part-is, GoodAt, BadAt, good-at, bad-at, run-bad, Counted, counted-good, counted-run, counted-end, counted-size, decode-end, sets-good, sets-bad}
 use borrow.Author.Needs.{needs}
 use Rattle.core.proofs.utf8.decode_steps.Statement.{statement}
 use Rattle.core.proofs.utf8.decode_steps.Tie as tie
 
 abbrev Inv-loop : tie.InvT-loop
-Inv-loop text out₀ at classes replaced₀ i₀ o₀ grown₀ count₀ out i o grown count = Counted text i grown count × (length out ≡ length out₀) × (sets out o (decode (drop i text)) ≡ sets out₀ at (decode text))
+Inv-loop text out₀ at classes replaced₀ i₀ o₀ extra₀ count₀ out i o extra count = Counted text i extra count × (length out ≡ length out₀) × (sets out o (decode (drop i text)) ≡ sets out₀ at (decode text))
 
 abbrev μ-loop : tie.MeasureT-loop
-μ-loop text out₀ at classes replaced₀ i₀ o₀ grown₀ count₀ out i o grown count = length text - i
+μ-loop text out₀ at classes replaced₀ i₀ o₀ extra₀ count₀ out i o extra count = length text - i
 
 good-arm : (c : tie.After-known-told Inv-loop μ-loop) → GoodAt (now (c .before .before .before .before .before .before .before .before .args .text)) (c .before .before .before .before .before .loop .i) (c .before .k .given .0 .0)
 good-arm c = good-at _ _ _ (search needs) _ (c .before .before .before .step-at .ensures) (c .before .k .given .1)
@@ -43,14 +43,14 @@ loop-again c =
       sets-good _ _ _ _ _ _ _ _ g (part-is _ _ _ h) (c .before .before .copy-few .ensures .0) (c .before .before .copy-few .ensures .1) ∙ c .before .before .before .before .before .before .before .before .before .before .loop .inv .2,
     )
 
-sub-grown : tie.Need-sub-grown Inv-loop μ-loop
-sub-grown c = let b = run-bad _ _ _ (bad-arm (c .before .before .before .before)) in omega (arith, b .short)
+sub-extra : tie.Need-sub-extra Inv-loop μ-loop
+sub-extra c = let b = bad-arm (c .before .before .before .before) in omega (arith, b .some)
 
-add-grown : tie.Need-add-grown Inv-loop μ-loop
-add-grown c = let b = bad-arm (c .before .before .before .before) in let k = counted-run _ _ _ _ _ _ (c .before .before .before .before .before .before .before .before .before .loop .inv .0) (run-bad _ _ _ b) (b .some) in omega (arith, k .0, k .2, c .before .before .before .before .before .before .before .before .before .before .before .before .good)
+add-extra : tie.Need-add-extra Inv-loop μ-loop
+add-extra c = let b = bad-arm (c .before .before .before .before) in let k = counted-run _ _ _ _ _ _ (c .before .before .before .before .before .before .before .before .before .loop .inv .0) (run-bad _ _ _ b) (b .some) in omega (arith, k .0, k .2, c .before .before .before .before .before .before .before .before .before .before .before .before .good)
 
 add-count : tie.Need-add-count Inv-loop μ-loop
-add-count c = let b = bad-arm (c .before .before .before .before) in let m = counted-most _ _ _ _ (counted-run _ _ _ _ _ _ (c .before .before .before .before .before .before .before .before .before .loop .inv .0) (run-bad _ _ _ b) (b .some)) in omega (arith, m, c .before .before .before .before .before .before .before .before .before .before .before .before .good)
+add-count c = let b = bad-arm (c .before .before .before .before) in let k = counted-run _ _ _ _ _ _ (c .before .before .before .before .before .before .before .before .before .loop .inv .0) (run-bad _ _ _ b) (b .some) in omega (arith, k .0, k .2, c .before .before .before .before .before .before .before .before .before .before .before .before .good)
 
 add-i : tie.Need-add-i Inv-loop μ-loop
 add-i c = let b = bad-arm (c .before .before .before .before) in omega (arith, b .reach)
@@ -66,6 +66,12 @@ loop-again-2 c =
       sets-bad _ _ _ _ _ _ _ b (c .before .before .put-replacement .ensures .0) (c .before .before .put-replacement .ensures .1) ∙ c .before .before .before .before .before .before .before .before .before .loop .inv .2,
     )
 
+mul-total : tie.Need-mul-total Inv-loop μ-loop
+mul-total c = let k = c .before .loop .inv .0 in omega (arith, k .0, k .2, c .before .before .before .before .good)
+
+sub-total : tie.Need-sub-total Inv-loop μ-loop
+sub-total c = let k = c .before .loop .inv .0 in omega (arith, k .4)
+
 returns : tie.Need-returns Inv-loop μ-loop
 returns c =
     let n = counted-end _ _ _ _ (c .before .before .loop .inv .0) (c .before .loop-test .left) in (
@@ -78,5 +84,5 @@ pub decode-steps-spec : {M : Type 1} → statement M
 decode-steps-spec =
     tie.close
     (tie.spec Inv-loop μ-loop (λ c. search needs) (λ c κs. search needs) (search needs) add-next (search needs) (search needs)
-    part-copy-few-end (search needs) loop-less loop-again (search needs) (search needs) sub-grown add-grown add-count add-i loop-less-2
-    loop-again-2 (search needs) (search needs) returns)
+    part-copy-few-end (search needs) loop-less loop-again (search needs) (search needs) sub-extra add-extra add-count add-i loop-less-2
+    loop-again-2 mul-total sub-total (search needs) (search needs) returns)
