@@ -123,21 +123,21 @@ firsts-all (suc n) i v e = ap (λ (l : List ℕ). getD v i 0 ∷ l) (firsts-all 
 
 -- one to four bytes, a store each
 module _ (l : List ℕ) (o : ℕ) (v : List ℕ) where
-  pub fill-one : length v ≡ 1 → set l o (getD v 0 0) ≡ sets l o v
+  pub each-one : length v ≡ 1 → set l o (getD v 0 0) ≡ sets l o v
   unfolding firsts
-  fill-one e = ap (sets l o) (firsts-all 1 0 v e)
+  each-one e = ap (sets l o) (firsts-all 1 0 v e)
 
-  pub fill-two : length v ≡ 2 → set (set l o (getD v 0 0)) (o + 1) (getD v 1 0) ≡ sets l o v
+  pub each-two : length v ≡ 2 → set (set l o (getD v 0 0)) (o + 1) (getD v 1 0) ≡ sets l o v
   unfolding firsts
-  fill-two e = rw add-one (ap (sets l o) (firsts-all 2 0 v e))
+  each-two e = rw add-one (ap (sets l o) (firsts-all 2 0 v e))
 
-  pub fill-three : length v ≡ 3 → set (set (set l o (getD v 0 0)) (o + 1) (getD v 1 0)) (o + 2) (getD v 2 0) ≡ sets l o v
+  pub each-three : length v ≡ 3 → set (set (set l o (getD v 0 0)) (o + 1) (getD v 1 0)) (o + 2) (getD v 2 0) ≡ sets l o v
   unfolding firsts
-  fill-three e = let two : o + 2 ≡ suc (suc o) = omega arith in rw (add-one, two) (ap (sets l o) (firsts-all 3 0 v e))
+  each-three e = let two : o + 2 ≡ suc (suc o) = omega arith in rw (add-one, two) (ap (sets l o) (firsts-all 3 0 v e))
 
-  pub fill-all : length v ≡ 4 → set (set (set (set l o (getD v 0 0)) (o + 1) (getD v 1 0)) (o + 2) (getD v 2 0)) (o + 3) (getD v 3 0) ≡ sets l o v
+  pub each-four : length v ≡ 4 → set (set (set (set l o (getD v 0 0)) (o + 1) (getD v 1 0)) (o + 2) (getD v 2 0)) (o + 3) (getD v 3 0) ≡ sets l o v
   unfolding firsts
-  fill-all e =
+  each-four e =
       let two : o + 2 ≡ suc (suc o) = omega arith in
       let three : o + 3 ≡ suc (suc (suc o)) = omega arith in
       rw (add-one, two, three) (ap (sets l o) (firsts-all 4 0 v e))

@@ -59,8 +59,8 @@ fn ascii_two(s: &[u8]) -> bool
     false
 }
 
-// Whether a whole text of 64 bytes or more is ASCII, by blocks of which the last may overlap the one before it. A test takes as long as the loads of
-// 32 bytes: with 64 to a block there is half as much of it.
+// Whether a whole text of 64 bytes or more is ASCII, by blocks of which the last may overlap the one before it. The compiler folds a block into one
+// byte before it tests it, so longer blocks have less of that.
 fn ascii_long(s: &[u8]) -> bool
     requires { ⌜ 64 ≤ length (now s) ⌝ }
     ensures { λ r. ⌜ r ≡ every ascii (now (s .entry)) ⌝ }
