@@ -148,11 +148,11 @@ pub fn zeros(out: &mut [u8], at: usize, n: usize)
     }
 }
 
-// How many zeros bring a position to a multiple of 4.
+// How many zeros bring a position to a multiple of 4. Its two low bits say how far it is past one; the outer mask makes 0 of 4.
 pub fn padding(at: usize) -> usize
     ensures { λ r. ⌜ r ≡ paddingOf at ⌝ }
 {
-    (4 - at % 4) % 4
+    (4 - (at & 3)) & 3
 }
 
 // Those zeros, stored; how many they are.
