@@ -148,7 +148,7 @@ pub fn zeros(out: &mut [u8], at: usize, n: usize)
     }
 }
 
-// How many zeros bring a position to a multiple of 4. Its two low bits say how far it is past one; the outer mask makes 0 of 4.
+// How many zeros bring a position to a multiple of 4. Its two low bits say how far it is past the last multiple; the outer mask makes 0 of 4.
 pub fn padding(at: usize) -> usize
     ensures { λ r. ⌜ r ≡ paddingOf at ⌝ }
 {
