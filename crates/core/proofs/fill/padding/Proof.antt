@@ -1,7 +1,7 @@
 -- `fill::padding` meets its contract: a mask of two bits is the remainder by 4. Assumes nothing.
+use Prim.Native.Nat.{_-_}
 use native.Mathlib.Omega.{arith}
 use lib.Bits.{bitAnd, and-mask}
-use Prim.Native.Nat.{_-_}
 use Rattle.core.specs.Fill.{paddingOf}
 use borrow.Author.Needs.{needs}
 use Rattle.core.proofs.fill.padding.Statement.{statement}
