@@ -1,5 +1,4 @@
 pub mod Apart
-pub mod Cursors
 pub mod Exercises
 pub mod Filling
 pub mod Floats

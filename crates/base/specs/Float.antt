@@ -1,6 +1,6 @@
 -- binary32 (IEEE 754, as `lib.Ieee` has it) by its bit patterns, in values and in bytes (document 01, 'The section': a key's floats; 'Form by location': bits unchanged).
 use Rattle.std.specs.Prelude.{from_bits, nat_le, to_bits}
-use Rattle.std.specs.Prelude.{ℕ, ◌+◌, ◌||◌, List, leb, length}
+use Rattle.std.specs.Prelude.{ℕ, ◌+◌, ◌||◌, List, length}
 use Rattle.std.specs.Float.{binary32}
 use Rattle.std.specs.Float.Ieee.{nan_bits}
 use Rattle.base.specs.Choice.{pick}

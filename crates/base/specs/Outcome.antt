@@ -1,7 +1,7 @@
 -- The number and the values of an answer (document 01: the refusals' table, and 'Form by location' on an answer that is an enum).
 -- An accepted answer has the number 0.
 use Rattle.std.specs.Prelude.{◌==◌}
-use Rattle.std.specs.Prelude.{ℕ, List, [], ◌∷◌, ◌++◌, eqb, length, take, replicate}
+use Rattle.std.specs.Prelude.{ℕ, List, [], ◌∷◌, ◌++◌, length, take, replicate}
 use Rattle.base.specs.Choice.{pick}
 use Rattle.base.specs.Float.{pattern_of, patterns_of}
 use Rattle.base.specs.declared.outcome.Numbers.{Numbers}

@@ -1,6 +1,6 @@
 -- A part of a list by its start and its length, and where it lies (document 01, 'Texts on screen').
 use Rattle.std.specs.Prelude.{nat_le}
-use Rattle.std.specs.Prelude.{ℕ, ◌+◌, Bool, List, [], leb, length, take, drop}
+use Rattle.std.specs.Prelude.{ℕ, ◌+◌, Bool, List, [], length, take, drop}
 use Rattle.std.specs.Borrow.{Bor}
 use Rattle.base.specs.Choice.{pick}
 

@@ -1,6 +1,6 @@
 -- A table of places that are still to be patched (document 01, 'Kept from the Rust'; anim_info.rs of the Rust keeps a list of them).
 use Rattle.std.specs.Prelude.{nat_lt}
-use Rattle.std.specs.Prelude.{ℕ, ◌+◌, ◌*◌, min, ltb}
+use Rattle.std.specs.Prelude.{ℕ, ◌+◌, ◌*◌, min}
 use Rattle.base.specs.Choice.{pick}
 
 -- where entry i of a table stands that has n places of four bytes from `at` on. A position is a usize, and stays at the largest one, which is

@@ -1,6 +1,6 @@
 -- A seek (document 01, 'Bytes and text').
 use Rattle.std.specs.Prelude.{nat_le}
-use Rattle.std.specs.Prelude.{ℕ, ◌-◌, List, leb, length}
+use Rattle.std.specs.Prelude.{ℕ, ◌-◌, List, length}
 use Rattle.base.specs.Choice.{pick}
 use Rattle.base.specs.declared.seek.Sought.{Sought}
 use Rattle.base.specs.declared.seek.Sought.TheVariants.{At, Past}

@@ -1,6 +1,6 @@
 -- Texts among bytes (document 01, 'Bytes and text'): up to the first zero, in a field of fixed length or up to the zero that ends it.
 use Rattle.std.specs.Prelude.{◌==◌, nat_le, nat_lt, slice_index}
-use Rattle.std.specs.Prelude.{ℕ, suc, min, ◌+◌, Bool, true, not, ◌&&◌, List, [], ◌∷◌, ltb, leb, eqb, length, get_or, take, drop}
+use Rattle.std.specs.Prelude.{ℕ, suc, min, ◌+◌, Bool, true, not, ◌&&◌, List, [], ◌∷◌, length, take, drop}
 use Rattle.std.proofs.Math.Seq.{slice}
 use Rattle.base.specs.Choice.{pick}
 use Rattle.base.specs.Utf8.{valid_up_to}

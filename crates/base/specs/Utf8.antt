@@ -2,7 +2,7 @@
 -- maximal ill-formed subparts (D93b), each of which is shown as one U+FFFD ('U+FFFD Substitution of Maximal Subparts') and counts as one
 -- (document 02, Point 1).
 use Rattle.std.specs.Prelude.{◌==◌, nat_le, slice_index}
-use Rattle.std.specs.Prelude.{ℕ, zero, suc, ◌+◌, ◌<◌, min, ◌≡◌, Bool, true, false, ◌&&◌, List, [], ◌∷◌, ◌++◌, leb, eqb, length, get_or, take}
+use Rattle.std.specs.Prelude.{ℕ, zero, suc, ◌+◌, ◌<◌, min, ◌≡◌, Bool, true, false, ◌&&◌, List, [], ◌∷◌, ◌++◌, length, take}
 use Rattle.base.specs.Choice.{pick}
 use Rattle.base.specs.declared.utf8.step.Step.{Step}
 use Rattle.base.specs.declared.utf8.step.Step.TheVariants.{Good, Bad}

@@ -1,4 +1,6 @@
 // Bytes and text: what every layer above is made of. No function that another crate can call asks anything of its caller.
+#![tactic(auto)]
+
 pub mod cursor;
 pub mod fill;
 pub mod float;

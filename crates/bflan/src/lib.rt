@@ -1,4 +1,6 @@
 // The pai1 section: read into a flat record, and written from one.
+#![tactic(auto)]
+
 pub mod fault;
 pub mod find;
 mod judge;

@@ -3,6 +3,8 @@
 // numbers say. A slice is passed as
 // its address and its length, and an answer that is an enum comes back as numbers in a list. None asks anything of the caller but
 // that the slices are there and that no byte that a call may change is in another of its slices. README.md has them as C sees them.
+#![tactic(auto)]
+
 mod answer;
 mod change;
 mod field;

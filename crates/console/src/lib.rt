@@ -1,4 +1,6 @@
 // What the programs share: their arguments and usage, the room for their input, what they read and write, and what they say of a refusal.
+#![tactic(auto)]
+
 pub mod argument;
 pub mod hex;
 pub mod input;

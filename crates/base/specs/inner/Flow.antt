@@ -1,7 +1,7 @@
 -- An automaton that checks whole runs of bytes against Table 3-7, byte by byte. Only the fast scan uses it: what it says of a text is proved
 -- to be what `specs/Utf8.antt` says.
 use Rattle.std.specs.Prelude.{◌==◌, slice_index, slice_index_or}
-use Rattle.std.specs.Prelude.{ℕ, ◌*◌, ◌/◌, ◌%◌, ◌^◌, ◌≤◌, ◌<◌, ◌≡◌, Bool, false, List, [], ◌∷◌, eqb, length, get_or}
+use Rattle.std.specs.Prelude.{ℕ, ◌*◌, ◌/◌, ◌%◌, ◌^◌, ◌≤◌, ◌<◌, ◌≡◌, Bool, false, List, [], ◌∷◌, length}
 use Rattle.std.proofs.Math.Seq.{slice}
 use Rattle.base.specs.Choice.{pick}
 use Rattle.base.specs.Utf8.{Range, range, tail, within, class_of, byte_class}

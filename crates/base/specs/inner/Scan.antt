@@ -1,7 +1,7 @@
 -- What the fast scan of a text asks: how long the ill-formed subpart is that stops it, and whether a text is ASCII at first sight; and what it
 -- makes of a count.
 use Rattle.std.specs.Prelude.{◌==◌, nat_le}
-use Rattle.std.specs.Prelude.{ℕ, ◌+◌, ◌-◌, ◌*◌, ◌≤◌, min, ◌≡◌, Bool, ◌&&◌, List, [], ◌∷◌, eqb, leb, length, drop}
+use Rattle.std.specs.Prelude.{ℕ, ◌+◌, ◌-◌, ◌*◌, ◌≤◌, min, ◌≡◌, Bool, ◌&&◌, List, [], ◌∷◌, length, drop}
 use Rattle.base.specs.Choice.{pick}
 use Rattle.base.specs.Text.{every, ascii, plain}
 use Rattle.base.specs.Utf8.{Piece, character, ill, pieces, decode, replacements}
