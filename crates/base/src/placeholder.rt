@@ -11,7 +11,7 @@ use crate::number::{MOST, write_u32};
 pub struct Placeholder32(usize);
 
 // A table of such places, one behind another: where it starts, and how many there are.
-#[derive(Drop)]
+#[derive(Clone, Copy)]
 pub struct Placeholders32(usize, usize);
 
 // Four zeros hold the place.

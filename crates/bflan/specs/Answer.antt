@@ -90,4 +90,4 @@ text_part s x source start len = pick (eqb source 0) (part_of s start len) (pick
 unfoldable pub text_ptr : Bor (List ℕ) → Bor (List ℕ) → ℕ → ℕ → ℕ → ℕ × ℕ
 text_ptr s x source start len =
     pick (eqb source 0) (part_ptr s start len)
-    (pick (eqb source 1 && inside x.now start len) (part_ptr x start len) s.ptr)
+    (pick (eqb source 1 && inside x.now start len) (part_ptr x start len) s.ref_ptr)

@@ -8,7 +8,7 @@ pub mod section;
 mod target;
 
 // Where the writing stands: the next word, the next text byte, and the next byte of the section.
-#[derive(Drop)]
+#[derive(Clone, Copy)]
 pub struct Pen {
     pub word: usize,
     pub byte: usize,

@@ -103,7 +103,7 @@ module _ (most : ℕ) where
       → times (length cs) content w x i j ≡ bad_word (i + until_long cs)
   unfolding times each names_fit until_long
   names_long [] q e h = absurd (true≢false e)
-  names_long {w} {x} {i} {j} (c ∷ cs) q e h = go (leb (length c.name) 28) refl e (λ k. names_long cs q.1 k (place_right (content_cells c) (each content_cells cs) h))
+  names_long {w} {x} {i} {j} (c ∷ cs) q e h = go (leb (length c.name) 28) refl e (λ k. names_long {i = i + word_count (content_cells c)} {j = j + byte_count (content_cells c)} cs q.1 k (place_right (content_cells c) (each content_cells cs) h))
     where
       first : Place w x i j (i + word_count (content_cells c)) (j + byte_count (content_cells c)) (content_cells c)
       first = place_left (content_cells c) (each content_cells cs) h

@@ -13,7 +13,7 @@ use lib.ListN.{length, get_or, take, drop, length-append, length-take, length-dr
 use lib.Seq.{drop-cons, drop-drop, take-add, take_all, take-length}
 use Rattle.base.specs.Choice.{pick}
 use Rattle.base.specs.Text.{before_zero, zero_free, first_fault}
-use Rattle.base.specs.Utf8.{well_formed, valid_up_to}
+use Rattle.base.specs.Utf8.{valid_up_to}
 use Rattle.base.proofs.Zeros.{before-le, none_free, block_zero}
 use Rattle.base.proofs.utf8.Laws.{valid_le, well_valid}
 use Rattle.bflan.specs.Judge.{Judged, fine, bad_word, bad_text, J, and_then, ◌>>=◌, ret, next_word, next_chars, next_text, times, wide, row, ends, whole}
@@ -222,8 +222,8 @@ unfolding tests_then
 tests_law [] c [] cs q h = (refl, h)
 tests_law [] c (v ∷ vs) cs q h = absurd q
 tests_law (t ∷ ts) c [] cs q h = absurd q
-tests_law (t ∷ ts) c (v ∷ vs) cs q h =
-    let g = tests_law ts (λ us. c (v ∷ us)) vs cs q.1 (word_next h) in
+tests_law {i = i} (t ∷ ts) c (v ∷ vs) cs q h =
+    let g = tests_law {i = i + 1} ts (λ us. c (v ∷ us)) vs cs q.1 (word_next h) in
     (rw (word_law t q.0 h) g.0, g.1)
 
 pub text_law : {w x : List ℕ} {i j k l : ℕ} {t : List ℕ} {cs : List Cell} (test : ℕ → Bool) → test (length t) ≡ true → FineText t
@@ -249,7 +249,7 @@ module _ {X : Type 0} {p : J X} {cells_of : X → List Cell} {Q : X → Type 0} 
   times_law {w} {x} {i} {j} (a ∷ ys) q h =
       rw (
         law w x i j _ _ a q.0 (place_left (cells_of a) (each cells_of ys) h),
-        times_law ys q.1 (place_right (cells_of a) (each cells_of ys) h),
+        times_law {i = i + word_count (cells_of a)} {j = j + byte_count (cells_of a)} ys q.1 (place_right (cells_of a) (each cells_of ys) h),
       )
 
 pub row_law : (ks : List ℕ) → Walks (row ks) (map wordCell) (Fits ks)
@@ -397,7 +397,7 @@ opens_row s [] c e f = f (none_there s) s e
 opens_row {w = w} {x = x} {i = i} {j = j} s (t ∷ ts) c e f =
     opened_word w x i j t _ e λ h e.
     let p = word_there (fits_there t w i h) s in
-    opens_row (place_inside p) ts (λ vs. c (get_or w i 0 ∷ vs)) e (passing_map ts _ _ (λ vs g h. g (place_join p h)) (f (get_or w i 0) (fits_holds t w i h)))
+    opens_row {i = i + 1} {j = j} (place_inside p) ts (λ vs. c (get_or w i 0 ∷ vs)) e (passing_map ts _ _ (λ vs g h. g (place_join p h)) (f (get_or w i 0) (fits_holds t w i h)))
 
 pub taken_length : (n j : ℕ) (x : List ℕ) → j + n ≤ length x → length (take n (drop j x)) ≡ n
 taken_length n j x h = simp (length-take, length-drop) (omega arith)

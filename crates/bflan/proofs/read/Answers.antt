@@ -293,10 +293,10 @@ module _ (s x : Bor (List ℕ)) (source start len : ℕ) where
       let e₀ : eqb source 0 ≡ false = ne_eqb source 0 (λ z. omega arith) in
       rw (e₀, eq-eqb _ _ e, le-leb _ _ h, add-sub_cancel_left) (refl, refl)
 
-  nowhere : (b : Bool) → eqb source 1 ≡ b → (source ≡ 0 → ⊥) → (source ≡ 1 → length x.now < start + len) → Lies [] (s.ptr.0, 0 + s.ptr.1)
+  nowhere : (b : Bool) → eqb source 1 ≡ b → (source ≡ 0 → ⊥) → (source ≡ 1 → length x.now < start + len) → Lies [] (s.ref_ptr.0, 0 + s.ref_ptr.1)
   unfolding text_part text_ptr part_of
   nowhere true e n h = rw (ne_eqb _ _ n, e, lt-leb _ _ (h (eqb-true _ _ e)), zero-add) (refl, refl)
   nowhere false e n h = rw (ne_eqb _ _ n, e, zero-add) (refl, refl)
 
-  pub part_nowhere : (source ≡ 0 → ⊥) → (source ≡ 1 → length x.now < start + len) → Lies [] (s.ptr.0, 0 + s.ptr.1)
+  pub part_nowhere : (source ≡ 0 → ⊥) → (source ≡ 1 → length x.now < start + len) → Lies [] (s.ref_ptr.0, 0 + s.ref_ptr.1)
   part_nowhere n h = nowhere (eqb source 1) refl n h

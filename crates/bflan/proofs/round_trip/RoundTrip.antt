@@ -15,8 +15,8 @@ use Rattle.base.specs.Number.{le, get, val}
 use Rattle.base.specs.Run.{numbers_at, numbers_of}
 use Rattle.base.specs.declared.run.Run.{Run}
 use Rattle.base.specs.declared.run.Run.TheVariants.{Next, Cut}
-use Rattle.base.specs.Text.{before_zero, zero_free}
-use Rattle.base.specs.Utf8.{well_formed, replacements}
+use Rattle.base.specs.Text.{before_zero}
+use Rattle.base.specs.Utf8.{replacements}
 use Rattle.base.proofs.Seeks.{seek_there}
 use Rattle.base.proofs.Zeros.{none_free, ended_there, before_free}
 use Rattle.base.proofs.utf8.Laws.{decode_well, well_none}

@@ -1,6 +1,6 @@
 -- What is written is bytes, and a field has 1, 2, 4, 6 or 12 of them.
 -- Assumes nothing.
-use Prim.Native.Nat.{ℕ, ◌-◌}
+use Prim.Native.Nat.{ℕ, ◌+◌, ◌-◌}
 use mathlib.Core.Bool.{Bool, true, false}
 use mathlib.Core.List.{List, [], ◌∷◌}
 use native.Mathlib.Omega.{arith}
@@ -68,7 +68,7 @@ module _ {X : Type 0} (lay : X → Layout) where
   table-laid : (from : ℕ) (xs : List X) → Laid (table lay from xs)
   unfolding table
   table-laid from [] = none
-  table-laid from (x ∷ xs) = num then table-laid _ xs
+  table-laid from (x ∷ xs) = num then table-laid (from + size (lay x)) xs
 
 target-laid : (t : AnimTarget) → Laid (target_lay t)
 unfolding target_lay key_lay

@@ -89,10 +89,10 @@ pub record Splits {A B C : Type 0} (lay : A → Layout) (r : Judged A) (one : B 
   pub rest : C
   pub word : ℕ
   pub byte : ℕ
-  pub next_word_lem : ℕ
+  pub next_word : ℕ
   pub next_byte : ℕ
   pub all : r ≡ fine whole word byte
-  pub starts : s ≡ fine first next_word_lem next_byte
+  pub starts : s ≡ fine first next_word next_byte
   pub goes_on : t ≡ fine rest word byte
   pub same : written (lay whole) ≡ written (one first) ++ written (two rest)
 
@@ -144,7 +144,7 @@ module _ {A B C : Type 0} {lay : A → Layout} {r : Judged A} {one : B → Layou
 pub head_splits : {A C : Type 0} {lay : A → Layout} {r : Judged A} {at most : ℕ} (h : Ready lay r at most) {head : Layout} {i j : ℕ} {two : C → Layout} {t : Judged C} (rest : C)
     → t ≡ fine rest h.word h.byte → written (lay h.value) ≡ written head ++ written (two rest) → Splits lay r (λ (l : Layout). l) (fine head i j) two t
 head_splits h {head} {i} {j} rest e d =
-    record { whole = h.value; first = head; rest = rest; word = h.word; byte = h.byte; next_word_lem = i; next_byte = j; all = h.judged; starts = refl; goes_on = e; same = d }
+    record { whole = h.value; first = head; rest = rest; word = h.word; byte = h.byte; next_word = i; next_byte = j; all = h.judged; starts = refl; goes_on = e; same = d }
 
 module _ {A C : Type 0} {lay : A → Layout} {r : Judged A} {head : Layout} {i j : ℕ} {two : C → Layout} {t : Judged C}
     (h : Splits lay r (λ (l : Layout). l) (fine head i j) two t) (at n : ℕ) (e : n ≡ size head) where
@@ -217,7 +217,7 @@ module _ {X : Type 0} (p : J X) (lay : X → Layout) (w x : List ℕ) where
         rest = zs;
         word = h.word;
         byte = h.byte;
-        next_word_lem = m;
+        next_word = m;
         next_byte = o;
         all = h.judged;
         starts = a;

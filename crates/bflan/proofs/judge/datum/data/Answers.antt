@@ -1,0 +1,17 @@
+use Rattle.bflan.proofs.judge.Measures.{measuring_start, measuring_bad, measuring_turn, measuring_end}
+use Rattle.bflan.proofs.judge.datum.data.Goals as goal
+
+pub returns-in-BadWord : goal.returns-in-BadWord
+returns-in-BadWord c = measuring_bad c.loop-left.invariant c.loop-left-test.true c.datum.ensures tt c.in-BadWord.is
+
+pub returns-in-BadText : goal.returns-in-BadText
+returns-in-BadText c = measuring_bad c.loop-left.invariant c.loop-left-test.true c.datum.ensures tt c.in-BadText.is
+
+pub loop-left-preserved : goal.loop-left-preserved
+loop-left-preserved c = measuring_turn c.loop-left.invariant c.loop-left-test.true c.datum.ensures c.in-Fine.is c.add-size.ensures
+
+pub returns : goal.returns
+returns c = measuring_end c.loop-left.invariant c.loop-left-test.false
+
+pub loop-left-init : goal.loop-left-init
+loop-left-init c = measuring_start
