@@ -10,7 +10,7 @@ use crate::number::{Read, read_u8, read_u16, read_u32};
 use crate::seek::{Sought, seek};
 use crate::text::{TextAt, ended_text, fixed_text};
 
-#[derive(Drop)]
+#[derive(Clone, Copy)]
 pub struct Cursor<'a> {
     pub data: &'a [u8],
     pub pos: usize,

@@ -9,13 +9,13 @@ ghost use Rattle.base.specs.Float.{float_of, pattern_of, hermite_of, patterns_of
 use crate::number::{Read, read_u32, write_u32};
 
 // A number, or a NaN by its pattern.
-#[derive(Drop)]
+#[derive(Clone, Copy)]
 pub enum Binary32 {
     Number(f32),
     Nan(u32),
 }
 
-#[derive(Drop)]
+#[derive(Clone, Copy)]
 pub struct HermiteKey {
     pub frame: f32,
     pub value: f32,
@@ -23,18 +23,18 @@ pub struct HermiteKey {
 }
 
 // A Hermite key, or the patterns of its frame, its value and its slope, where one of them is a NaN's.
-#[derive(Drop)]
+#[derive(Clone, Copy)]
 pub enum Hermite {
     Floats(HermiteKey),
     Patterns(u32, u32, u32),
 }
 
 // The patterns of a frame, a value and a slope.
-#[derive(Drop)]
+#[derive(Clone, Copy)]
 pub struct HermiteBits(pub u32, pub u32, pub u32);
 
 // What a read of a binary32 gives.
-#[derive(Drop)]
+#[derive(Clone, Copy)]
 pub enum ReadFloat {
     // The value, and the position after it.
     Value(Binary32, usize),
@@ -43,7 +43,7 @@ pub enum ReadFloat {
 }
 
 // What a read of a Hermite key gives.
-#[derive(Drop)]
+#[derive(Clone, Copy)]
 pub enum ReadHermite {
     // The key, and the position after it.
     Value(Hermite, usize),

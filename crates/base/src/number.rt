@@ -5,7 +5,7 @@ ghost use Rattle.base.specs.Number.{get, put, read_of};
 use crate::fill::{ahead, room};
 
 // What a read gives.
-#[derive(Drop)]
+#[derive(Clone, Copy)]
 pub enum Read {
     // The number, and the position after it.
     Value(u32, usize),

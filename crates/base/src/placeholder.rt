@@ -7,7 +7,7 @@ ghost use Rattle.base.specs.Placeholder.{entry_at};
 use crate::fill::zeros;
 use crate::number::{MOST, write_u32};
 
-#[derive(Drop)]
+#[derive(Clone, Copy)]
 pub struct Placeholder32(usize);
 
 // A table of such places, one behind another: where it starts, and how many there are.

@@ -9,7 +9,7 @@ use crate::fill::{ahead, room};
 use crate::number::{four, store_four, two, write_u32};
 
 // What a run gives.
-#[derive(Drop)]
+#[derive(Clone, Copy)]
 pub enum Run {
     // The position after it.
     Next(usize),

@@ -5,7 +5,7 @@ ghost use Rattle.base.specs.Seek.{seek_of};
 use crate::fill::ahead;
 
 // What a seek gives.
-#[derive(Drop)]
+#[derive(Clone, Copy)]
 pub enum Sought {
     // The position, which may be the slice's end.
     At(usize),

@@ -7,7 +7,7 @@ use crate::utf8::first_ill;
 use crate::utf8::scan::is_plain;
 
 // Where a text was looked for, what is there.
-#[derive(Drop)]
+#[derive(Clone, Copy)]
 pub enum TextAt {
     // The text's length, and the position after the text.
     Text(usize, usize),

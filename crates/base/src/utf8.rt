@@ -108,7 +108,7 @@ fn lone(text: &[u8], at: usize, classes: &[u8; 256]) -> bool
 }
 
 // Where lone bytes end, and the place behind what was stored for them.
-#[derive(Drop)]
+#[derive(Clone, Copy)]
 struct LoneEnd {
     end: usize,
     next: usize,

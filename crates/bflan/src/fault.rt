@@ -5,7 +5,7 @@ ghost use Rattle.bflan.specs.Answer.{of_fault};
 
 use base::outcome::Numbers;
 
-#[derive(Drop)]
+#[derive(Clone, Copy)]
 pub enum Fault {
     // A read or a seek past the end: the offset, and the bytes requested or the excess.
     PastEnd(usize, usize),

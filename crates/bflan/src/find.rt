@@ -12,7 +12,7 @@ use base::outcome::Numbers;
 use base::part::part;
 use base::utf8::{decode_into, decoded_len, well_formed};
 
-#[derive(Drop)]
+#[derive(Clone, Copy)]
 pub enum FindAnswer {
     // The source (0 the section, 1 the scratch), the text's start and length there, and how many U+FFFD were put in.
     Found(usize, usize, usize, usize),

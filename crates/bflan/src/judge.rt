@@ -27,14 +27,14 @@ pub mod word;
 
 // Where the walk stands behind a part that is within the limits: the next word, the next text byte, and the bytes that the part has in the
 // section. A size that a usize does not hold is the largest one.
-#[derive(Drop)]
+#[derive(Clone, Copy)]
 pub struct Mark {
     pub word: usize,
     pub byte: usize,
     pub size: usize,
 }
 
-#[derive(Drop)]
+#[derive(Clone, Copy)]
 pub enum Verdict {
     Fine(Mark),
     // The index of a word that is missing, out of range or over.

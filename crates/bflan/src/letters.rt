@@ -46,7 +46,7 @@ pub const FLEU: u32 = 0x5545_4C46; // ExtendedUserDataAnim
 pub const INVALID_TARGET: u8 = 255;
 
 // What letters say of their info.
-#[derive(Drop)]
+#[derive(Clone, Copy)]
 pub enum AnimInfoType {
     // Targets, each of whose numbers is below this one.
     Standard(u8),

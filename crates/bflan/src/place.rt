@@ -14,7 +14,7 @@ use crate::reader::offset::{byte_at, half_at, offset_at, word_at};
 use crate::reader::tally::{Walk, fresh};
 
 // A field by its place in the record. Places count from 0: content, info, target, key; or content, info, datum, list, value.
-#[derive(Drop)]
+#[derive(Clone, Copy)]
 pub enum Place {
     FrameCount,
     Looping,
@@ -25,7 +25,7 @@ pub enum Place {
 }
 
 // What a field is: it says how many bytes the field has, and which values it takes.
-#[derive(Drop)]
+#[derive(Clone, Copy)]
 pub enum Field {
     FrameCount,
     Looping,
@@ -39,7 +39,7 @@ pub enum Field {
 
 // Where a target stands, as reading has it: its first byte, its curve and its key count (a curve above 2 is an empty Constant), and the first
 // byte of its first key.
-#[derive(Drop)]
+#[derive(Clone, Copy)]
 pub struct Track {
     pub start: usize,
     pub curve: u32,
@@ -48,7 +48,7 @@ pub struct Track {
 }
 
 // Where the field of a place stands.
-#[derive(Drop)]
+#[derive(Clone, Copy)]
 pub enum Located {
     // The section's length, above the limit.
     TooLong(usize),
@@ -60,7 +60,7 @@ pub enum Located {
 }
 
 // A step of the path to a field: where the part starts that it leads to.
-#[derive(Drop)]
+#[derive(Clone, Copy)]
 pub enum Base {
     From(usize),
     Missing,

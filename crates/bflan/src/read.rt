@@ -11,7 +11,7 @@ use crate::reader::section::section_at;
 use crate::reader::tally::{Walk, fresh};
 use base::outcome::Numbers;
 
-#[derive(Drop)]
+#[derive(Clone, Copy)]
 pub enum ReadAnswer {
     // The words and the text bytes that were filled, and how many U+FFFD were put into the texts.
     Accepted(usize, usize, usize),

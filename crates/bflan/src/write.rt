@@ -9,7 +9,7 @@ use crate::read::LIMIT;
 use crate::writer::section::put_section;
 use base::outcome::Numbers;
 
-#[derive(Drop)]
+#[derive(Clone, Copy)]
 pub enum WriteAnswer {
     // The section's length.
     Written(usize),

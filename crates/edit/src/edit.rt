@@ -20,7 +20,7 @@ use bflan::fault::{Fault, of_fault};
 use bflan::place::Field;
 
 // A field, its place and its new value. Places count from 0: content, info, target, key; or content, info, datum, list, value.
-#[derive(Drop)]
+#[derive(Clone, Copy)]
 pub enum Change {
     FrameCount(u32),
     Looping(u32),
@@ -31,7 +31,7 @@ pub enum Change {
     Value(usize, usize, usize, usize, usize, u32),
 }
 
-#[derive(Drop)]
+#[derive(Clone, Copy)]
 pub enum EditAnswer {
     // The new count of journal entries.
     Edited(usize),

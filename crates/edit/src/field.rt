@@ -26,7 +26,7 @@ use bflan::letters::{AnimInfoType, kind_of};
 use bflan::place::{Field, Place};
 
 // A field's value, as the record has it.
-#[derive(Drop)]
+#[derive(Clone, Copy)]
 pub enum FieldValue {
     FrameCount(u32),
     // 0 or 1.
@@ -38,7 +38,7 @@ pub enum FieldValue {
     Value(u32),
 }
 
-#[derive(Drop)]
+#[derive(Clone, Copy)]
 pub enum FieldAnswer {
     // The section's length, above the limit.
     TooLong(usize),

@@ -7,14 +7,14 @@ ghost use Rattle.edit.specs.inner.Packing.{unpacked, packed, read_value, entry_l
 use base::number::{Read, read_u8, read_u16, read_u32, write_u8, write_u16, write_u32};
 
 // Up to twelve bytes as little-endian words.
-#[derive(Drop)]
+#[derive(Clone, Copy)]
 pub struct Packed {
     pub a: u32,
     pub b: u32,
     pub c: u32,
 }
 
-#[derive(Drop)]
+#[derive(Clone, Copy)]
 pub struct Entry {
     // The byte offset and the byte count.
     pub at: u32,

@@ -1,7 +1,7 @@
 // A new key, with the floats that it has (document 01, 'Form by location').
 use base::float::{Binary32, Hermite};
 
-#[derive(Drop)]
+#[derive(Clone, Copy)]
 pub enum NewKey {
     Constant(Binary32),
     // The value has sixteen bits in a section: a larger one is unfit.

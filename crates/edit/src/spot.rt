@@ -12,7 +12,7 @@ use bflan::fault::Fault;
 use bflan::place::{Field, Located, Place, locate};
 
 // Which field of the six.
-#[derive(Drop)]
+#[derive(Clone, Copy)]
 pub enum Kind {
     FrameCount,
     Looping,
@@ -23,7 +23,7 @@ pub enum Kind {
 }
 
 // A place: its field's kind, and as many of the numbers as that has. Of an extended value the last three are its datum, list and value.
-#[derive(Drop)]
+#[derive(Clone, Copy)]
 pub struct Way {
     pub kind: Kind,
     pub content: usize,
@@ -34,7 +34,7 @@ pub struct Way {
 }
 
 // What `locate` answers. Of a field its first byte, its kind, and a target's letters or a key's curve.
-#[derive(Drop)]
+#[derive(Clone, Copy)]
 pub enum SpotAt {
     TooLong(usize),
     Refused(Fault),

@@ -9,7 +9,7 @@ use crate::journal::{ENTRY_WORDS, Entry, entry_at, filled, put_packed};
 use base::outcome::Numbers;
 use bflan::read::LIMIT;
 
-#[derive(Drop)]
+#[derive(Clone, Copy)]
 pub enum UndoAnswer {
     // The new count of journal entries.
     Undone(usize),

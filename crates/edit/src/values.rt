@@ -11,7 +11,7 @@ use base::float::{Binary32, bits_of, hermite_to_bits};
 use bflan::letters::target_fits;
 use bflan::place::{Field, Place};
 
-#[derive(Drop)]
+#[derive(Clone, Copy)]
 pub enum Values {
     One(u32),
     Two(u32, u32),

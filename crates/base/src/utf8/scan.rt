@@ -10,7 +10,7 @@ use crate::fill::least;
 use crate::utf8::flow::{flow_over, next_state};
 
 // The end of the characters, and the number of bytes of the ill-formed subpart there; 0 at the text's end.
-#[derive(Drop)]
+#[derive(Clone, Copy)]
 pub struct Run {
     pub end: usize,
     pub skip: usize,

@@ -7,7 +7,7 @@ ghost use Rattle.base.specs.Utf8.{range, tail, within, Classes, matched, step_of
 use crate::utf8::class::class_in;
 
 // A piece, by its number of bytes.
-#[derive(Drop)]
+#[derive(Clone, Copy)]
 pub enum Step {
     Good(usize),
     Bad(usize),

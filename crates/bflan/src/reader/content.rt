@@ -20,7 +20,7 @@ use base::seek::{Sought, seek};
 use base::text::{TextAt, first_zero};
 
 // An info table that was looked for: where it stands, or what stopped the search.
-#[derive(Drop)]
+#[derive(Clone, Copy)]
 pub enum TableAt {
     There(usize),
     Stop(Fault),

@@ -18,7 +18,7 @@ use base::number::Read;
 use base::run::put_word;
 
 // The numbers before a datum's values.
-#[derive(Drop)]
+#[derive(Clone, Copy)]
 pub struct Fields {
     pub size: u32,
     pub one: u32,
@@ -28,7 +28,7 @@ pub struct Fields {
 }
 
 // What the read of a head gives: the numbers and the position after them, or what stopped it.
-#[derive(Drop)]
+#[derive(Clone, Copy)]
 pub enum Head {
     Got(Fields, usize),
     Short(Fault),

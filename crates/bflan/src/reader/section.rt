@@ -22,14 +22,14 @@ use base::seek::Sought;
 pub(crate) const PAI1: u32 = 0x3169_6170;
 
 // The letters and the size that a section begins with (section.rs of the Rust).
-#[derive(Drop)]
+#[derive(Clone, Copy)]
 pub struct SectionHeader {
     pub magic: u32,
     pub size: u32,
 }
 
 // What the read of a header gives: both numbers, or what stopped it.
-#[derive(Drop)]
+#[derive(Clone, Copy)]
 pub enum Header {
     Got(SectionHeader),
     Short(Fault),
@@ -49,7 +49,7 @@ fn header_at(s: &[u8]) -> Header
 }
 
 // The numbers behind the header (PaneAnimInfo of the Rust), of which the reserve is not kept.
-#[derive(Drop)]
+#[derive(Clone, Copy)]
 pub struct SectionHead {
     pub frames: u32,
     pub looping: u32,
@@ -59,7 +59,7 @@ pub struct SectionHead {
 }
 
 // What the read of these gives: the numbers, or what stopped it.
-#[derive(Drop)]
+#[derive(Clone, Copy)]
 pub enum Head {
     Got(SectionHead),
     Short(Fault),

@@ -7,7 +7,7 @@ use crate::fault::Fault;
 // Words and text bytes so far, which are also the places of the next ones, and U+FFFD put in so far; how many texts come before the one that is
 // wanted; and that one's place and length, once it was met. `left` counts down, from 0 to the largest usize: no section has so many texts that it
 // comes to 0 twice. A count that a usize does not hold stays at the largest one.
-#[derive(Drop)]
+#[derive(Clone, Copy)]
 pub struct Tally {
     pub words: usize,
     pub bytes: usize,
@@ -18,7 +18,7 @@ pub struct Tally {
 }
 
 // A walk goes on at a position, or is stopped.
-#[derive(Drop)]
+#[derive(Clone, Copy)]
 pub enum Walk {
     Went(Tally, usize),
     Stopped(Fault),

@@ -15,7 +15,7 @@ use base::seek::{Sought, seek};
 use base::text::{TextAt, plain_text};
 
 // A name that was looked for.
-#[derive(Drop)]
+#[derive(Clone, Copy)]
 pub enum Name {
     // Where it starts, its length, the position behind its zero, and whether it is known to be shown as it is.
     Found(usize, usize, usize, bool),

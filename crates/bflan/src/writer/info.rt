@@ -19,7 +19,7 @@ use base::number::write_u32;
 use base::placeholder::write_placeholders_u32;
 
 // Where the writing stands behind infos, and what the total size of a User content leaves out of them.
-#[derive(Drop)]
+#[derive(Clone, Copy)]
 pub struct Infos {
     pub pen: Pen,
     pub out: usize,
