@@ -1,0 +1,11 @@
+-- `nnbfl_undo` meets its contract.
+-- Assumes nothing.
+use mathlib.Core.Path.{refl, sym}
+use native.Mathlib.Omega.{arith}
+use Rattle.base.proofs.Outcomes.{flat_first}
+use Rattle.capi.proofs.nnbfl_undo.Goals as goal
+
+pub returns : goal.returns
+returns c =
+    rw (sym c.undo-r.ensures)
+    (refl, rw (c.put3.ensures, flat_first 3 _ (omega arith) c.of_undoing.ensures))
