@@ -3,6 +3,7 @@ ghost use Rattle.std.specs.Prelude.{◌≡◌};
 ghost use Rattle.console.specs.Hex.{hex_digit};
 
 use crate::output::say;
+use crate::streams::Streams;
 
 // The digit of a number's last four bits.
 pub fn hex_digit(n: u8) -> u8
@@ -16,7 +17,7 @@ pub fn hex_digit(n: u8) -> u8
 }
 
 // A byte that is not to be printed as it is: `\x` and its two digits.
-pub fn say_escaped(b: u8) {
+pub fn say_escaped(streams: &mut Streams, b: u8) {
     let text = [b'\\', b'x', hex_digit(b / 16), hex_digit(b)];
-    say(&text);
+    say(streams, &text);
 }

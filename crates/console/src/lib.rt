@@ -5,5 +5,7 @@ pub mod argument;
 pub mod hex;
 pub mod input;
 pub mod output;
+mod reason;
 pub mod refusal;
 pub mod room;
+pub mod streams;

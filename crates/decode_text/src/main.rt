@@ -6,6 +6,8 @@
 // What follows a read of standard input that fails is not answered, nor is the line that had begun; standard error has the reason, and
 // the number of that line. Where standard output cannot be written, standard error says so. `--help` is answered by the usage; any
 // other argument too, on standard error and with nothing on standard output.
+#![tactic(auto)]
+
 mod visible;
 
 ghost use Rattle.std.specs.Prelude.{◌≡◌, ◌+◌, ◌≤◌, ◌<◌, length};
@@ -14,8 +16,10 @@ use crate::visible::say_visible;
 use base::part::part;
 use console::argument::{Asked, arguments};
 use console::hex::hex_digit;
-use console::output::{can_say, finish, say, say_number, say_number_to, say_to};
-use libc::{STDERR_FILENO, STDIN_FILENO, STDOUT_FILENO};
+use console::input::{Input, read_once};
+use console::output::{can_say, fail, finish, say, say_number, say_number_to, say_to};
+use console::room::piece_room;
+use console::streams::{Stream, Streams};
 
 // The most characters of a line.
 const LINE: usize = 1024;
@@ -164,17 +168,17 @@ fn put_hex(bytes: &[u8], out: &mut [u8]) -> usize {
 }
 
 // Writes the decoding of a text.
-fn answer(text: &[u8]) {
+fn answer(streams: &mut Streams, text: &[u8]) {
     let mut decoded = [0u8; DECODED];
     let mut replaced: usize = 0;
     let n = base::utf8::decode_into(text, &mut decoded, 0, &mut replaced);
     let mut shown = [0u8; SHOWN];
     let k = put_hex(part(&decoded, 0, n), &mut shown);
-    say_number(b"", n);
-    say_number(b", replaced ", replaced);
-    say(b":");
-    say(part(&shown, 0, k));
-    say(b"\n");
+    say_number(streams, b"", n);
+    say_number(streams, b", replaced ", replaced);
+    say(streams, b":");
+    say(streams, part(&shown, 0, k));
+    say(streams, b"\n");
 }
 
 // The bytes from i on, or none.
@@ -183,24 +187,29 @@ fn rest(s: &[u8], i: usize) -> &[u8] {
 }
 
 // Says what is wrong with a line, and where.
-fn complain(number: usize, what: &[u8], at: &[u8]) {
-    say_number(b"line ", number);
-    say(b": ");
-    say(what);
-    say_visible(at);
-    say(b"\n");
+fn complain(streams: &mut Streams, number: usize, what: &[u8], at: &[u8]) {
+    say_number(streams, b"line ", number);
+    say(streams, b": ");
+    say(streams, what);
+    say_visible(streams, at);
+    say(streams, b"\n");
 }
 
 // Answers a line that has bytes.
-fn vector(line: &[u8], number: usize) {
+fn vector(streams: &mut Streams, line: &[u8], number: usize) {
     let mut bytes = [0u8; BYTES];
     let read = read_hex(line, &mut bytes);
     match read {
         Hex::Bytes(n) => {
-            answer(part(&bytes, 0, n));
+            answer(streams, part(&bytes, 0, n));
         }
         Hex::Bad(i) => {
-            complain(number, b"no byte in hexadecimal at ", rest(line, i));
+            complain(
+                streams,
+                number,
+                b"no byte in hexadecimal at ",
+                rest(line, i),
+            );
         }
     }
 }
@@ -214,22 +223,22 @@ fn is_remark(line: &[u8]) -> bool {
 }
 
 // Answers a line.
-fn answer_line(line: &[u8], number: usize) {
+fn answer_line(streams: &mut Streams, line: &[u8], number: usize) {
     if is_remark(line) {
-        say_visible(line);
-        say(b"\n");
+        say_visible(streams, line);
+        say(streams, b"\n");
     } else {
-        vector(line, number);
+        vector(streams, line, number);
     }
 }
 
 // Answers the line that has been read, of so many characters.
-fn answer_read(line: &[u8], len: usize, number: usize) {
+fn answer_read(streams: &mut Streams, line: &[u8], len: usize, number: usize) {
     if len > LINE {
-        complain(number, b"more than 1024 characters", b"");
+        complain(streams, number, b"more than 1024 characters", b"");
         return;
     }
-    answer_line(part(line, 0, len), number);
+    answer_line(streams, part(line, 0, len), number);
 }
 
 // The characters of a line that a newline ended: a carriage return before that is none.
@@ -286,20 +295,20 @@ fn grown(line: &mut [u8], place: Place, b: u8) -> Place {
 }
 
 // Takes one character of the input.
-fn take_one(line: &mut [u8], place: Place, b: u8) -> Place {
+fn take_one(streams: &mut Streams, line: &mut [u8], place: Place, b: u8) -> Place {
     if b == b'\n' {
-        answer_read(line, without_return(line, place.len), place.number);
+        answer_read(streams, line, without_return(line, place.len), place.number);
         return next_line(place);
     }
     grown(line, place, b)
 }
 
 // Takes some input.
-fn take_all(line: &mut [u8], place: Place, input: &[u8]) -> Place {
+fn take_all(streams: &mut Streams, line: &mut [u8], place: Place, input: &[u8]) -> Place {
     let mut now = place;
     let mut i = 0;
     while i < input.len() {
-        now = take_one(line, now, input[i]);
+        now = take_one(streams, line, now, input[i]);
         i += 1;
     }
     now
@@ -316,23 +325,21 @@ fn stopped(place: Place, failed: bool) -> Place {
 }
 
 // Reads once. Where that fails, it says why.
-fn read_some(line: &mut [u8], place: Place) -> Place {
-    let mut input = io::buffer();
-    let got = libc::read(STDIN_FILENO, &mut input);
-    if got < 0 {
-        os::fail(b"decode_text: standard input could not be read");
-        return stopped(place, true);
+fn read_some(streams: &mut Streams, line: &mut [u8], place: Place) -> Place {
+    let mut input = piece_room();
+    match read_once(streams, &mut input) {
+        Input::Failed => {
+            fail(streams, b"decode_text: standard input could not be read");
+            stopped(place, true)
+        }
+        Input::Bytes(0) => stopped(place, false),
+        Input::Bytes(n) => take_all(streams, line, place, &input[..n]),
     }
-    if got == 0 {
-        return stopped(place, false);
-    }
-    let n = io::count(got, &input);
-    take_all(line, place, &input[..n])
 }
 
 // Reads to the end of the input. A proved loop has to end, and nothing says that the input does: it counts down from a number
 // that no run uses up.
-fn read_all(line: &mut [u8]) -> Place {
+fn read_all(streams: &mut Streams, line: &mut [u8]) -> Place {
     let mut place = Place {
         len: 0,
         number: 1,
@@ -341,67 +348,86 @@ fn read_all(line: &mut [u8]) -> Place {
     };
     let mut turns = u64::MAX;
     while turns > 0 && place.open {
-        place = read_some(line, place);
+        place = read_some(streams, line, place);
         turns -= 1;
     }
     place
 }
 
 // Says from which line on nothing is answered.
-fn say_unread(number: usize) {
-    say_number_to(STDERR_FILENO, b"decode_text: line ", number);
-    say_to(STDERR_FILENO, b" and what follows it are not answered\n");
+fn say_unread(streams: &mut Streams, number: usize) {
+    say_number_to(streams, Stream::Error, b"decode_text: line ", number);
+    say_to(
+        streams,
+        Stream::Error,
+        b" and what follows it are not answered\n",
+    );
 }
 
 // What the end of the input leaves: the last line may have no end.
-fn answer_last(line: &[u8], place: Place) {
+fn answer_last(streams: &mut Streams, line: &[u8], place: Place) {
     if place.failed {
-        say_unread(place.number);
+        say_unread(streams, place.number);
         return;
     }
     if place.len > 0 {
-        answer_read(line, place.len, place.number);
+        answer_read(streams, line, place.len, place.number);
     }
 }
 
-fn run_program() {
-    if !can_say(b"decode_text: nothing was answered, since standard output could not be written") {
+fn run_program(streams: &mut Streams) {
+    if !can_say(
+        streams,
+        b"decode_text: nothing was answered, since standard output could not be written",
+    ) {
         return;
     }
     let mut line = [0u8; ROOM];
-    let place = read_all(&mut line);
-    answer_last(&line, place);
-    finish(b"decode_text");
+    let place = read_all(streams, &mut line);
+    answer_last(streams, &line, place);
+    finish(streams, b"decode_text");
 }
 
-fn say_usage(fd: i32) {
-    say_to(fd, b"usage: decode_text < lines\n");
+fn say_usage(streams: &mut Streams, to: Stream) {
+    say_to(streams, to, b"usage: decode_text < lines\n");
     say_to(
-        fd,
+        streams,
+        to,
         b"Reads texts from standard input, each a line of at most 1024 characters that has its bytes\n",
     );
     say_to(
-        fd,
+        streams,
+        to,
         b"in hexadecimal, and writes to standard output for each the number of bytes of its decoding\n",
     );
     say_to(
-        fd,
+        streams,
+        to,
         b"and these bytes, and how many U+FFFD were put in for what is ill-formed (`replaced`). Blank\n",
     );
-    say_to(fd, b"lines and lines that start with # are passed on.\n");
-    say_to(fd, b"example: echo C0 AF 41 | decode_text\n");
+    say_to(
+        streams,
+        to,
+        b"lines and lines that start with # are passed on.\n",
+    );
+    say_to(streams, to, b"example: echo C0 AF 41 | decode_text\n");
 }
 
-fn main() {
-    match arguments() {
-        Asked::Nothing => run_program(),
+fn main(rt: HostRuntime) {
+    let mut streams = Streams::new(rt);
+    match arguments(rt) {
+        Asked::Nothing => run_program(&mut streams),
         Asked::Help => {
-            say_usage(STDOUT_FILENO);
-            finish(b"decode_text");
+            say_usage(&mut streams, Stream::Output);
+            finish(&mut streams, b"decode_text");
         }
         Asked::Other => {
-            say_to(STDERR_FILENO, b"decode_text takes no argument\n");
-            say_usage(STDERR_FILENO);
+            say_to(
+                &mut streams,
+                Stream::Error,
+                b"decode_text takes no argument\n",
+            );
+            say_usage(&mut streams, Stream::Error);
         }
     }
 }

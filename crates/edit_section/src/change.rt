@@ -5,7 +5,7 @@ use base::float::{HermiteBits, from_bits, hermite_from_bits};
 use edit::edit::{Change, EditAnswer, edit};
 use edit::key::NewKey;
 
-#[derive(Drop)]
+#[derive(Clone, Copy)]
 pub(crate) enum Command {
     Frames,
     Looping,

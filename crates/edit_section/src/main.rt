@@ -28,6 +28,8 @@
 //
 // Where standard input cannot be read, no change is made and nothing is written, and standard error has the reason. Where standard
 // output cannot be written, standard error says so, and what is written is the beginning of the output.
+#![tactic(auto)]
+
 mod answer;
 mod change;
 mod number;
@@ -40,22 +42,23 @@ use crate::change::{Command, edited, named, numbers_of, same};
 use crate::number::read_numbers;
 use crate::show::{Named, place_named, place_numbers, show};
 use base::part::part;
-use console::argument::{Asked, arguments};
+use console::argument::{Asked, arg, arg_count, arguments};
 use console::input::{Input, read_input};
-use console::output::{can_say, finish, say, say_number_to, say_to};
+use console::output::{can_say, fail, finish, say, say_number_to, say_to};
 use console::refusal::say_too_long;
-use console::room::{MOST, input_room};
+use console::room::{MOST, input_room, piece_room};
+use console::streams::{Stream, Streams};
 use edit::undo::undo;
-use libc::{STDERR_FILENO, STDOUT_FILENO};
 
 // The words of the journal: a thousand entries.
 const JOURNAL: usize = 5000;
 // The most numbers behind the name of a change.
 const NUMBERS: usize = 7;
 
-fn say_usage(fd: i32) {
+fn say_usage(streams: &mut Streams, to: Stream) {
     say_to(
-        fd,
+        streams,
+        to,
         b"usage: edit_section CHANGE.. < section, where a CHANGE is one of\n  \
           frames V, looping V, layer C I T V, target C I T V, value C I D L N V,\n  \
           constant C I T K V, step C I T K F V, hermite C I T K F V S, undo\n\
@@ -72,20 +75,22 @@ fn say_usage(fd: i32) {
 }
 
 // Says what is wrong with the change at argument `i`, which is unknown or has too few arguments behind it, and how changes are said.
-fn say_none(i: usize, c: Command) {
-    say_number_to(STDERR_FILENO, b"argument ", i);
+fn say_none(streams: &mut Streams, i: usize, c: Command) {
+    say_number_to(streams, Stream::Error, b"argument ", i);
     match c {
-        Command::Unknown => say_to(STDERR_FILENO, b" is no name of a change\n"),
+        Command::Unknown => say_to(streams, Stream::Error, b" is no name of a change\n"),
         _ => say_to(
-            STDERR_FILENO,
+            streams,
+            Stream::Error,
             b" is a change with too few numbers behind it\n",
         ),
     }
-    say_usage(STDERR_FILENO);
+    say_usage(streams, Stream::Error);
 }
 
 // Makes a change that stands at argument `i`.
 fn make(
+    streams: &mut Streams,
     section: &mut [u8],
     journal: &mut [u32],
     count: usize,
@@ -94,29 +99,35 @@ fn make(
     i: usize,
 ) -> Step {
     match c {
-        Command::Undo => after_undo(undo(section, journal, count), i),
-        _ => after_edit(edited(section, journal, count, c, numbers), i),
+        Command::Undo => after_undo(streams, undo(section, journal, count), i),
+        _ => after_edit(streams, edited(section, journal, count, c, numbers), i),
     }
 }
 
 // Makes the changes that the arguments say, and answers whether all were made; if not, it has said why.
-fn make_all(section: &mut [u8], journal: &mut [u32], numbers: &mut [u32], room: &mut [u8]) -> bool {
-    let most = os::arg_count();
+fn make_all(
+    streams: &mut Streams,
+    section: &mut [u8],
+    journal: &mut [u32],
+    numbers: &mut [u32],
+    room: &mut [u8],
+) -> bool {
+    let most = arg_count(streams.rt);
     let mut i = 1;
     let mut count = 0;
     while i < most {
-        let n = os::arg(i, room);
+        let n = arg(streams.rt, i, room);
         let c = named(part(room, 0, n));
         let k = numbers_of(c);
         if most - i <= k {
-            say_none(i, c);
+            say_none(streams, i, c);
             return false;
         }
-        if !read_numbers(i + 1, k, numbers, room) {
-            say_usage(STDERR_FILENO);
+        if !read_numbers(streams, i + 1, k, numbers, room) {
+            say_usage(streams, Stream::Error);
             return false;
         }
-        match make(section, journal, count, c, numbers, i) {
+        match make(streams, section, journal, count, c, numbers, i) {
             Step::On(next) => count = next,
             Step::Stopped => return false,
         }
@@ -126,35 +137,36 @@ fn make_all(section: &mut [u8], journal: &mut [u32], numbers: &mut [u32], room: 
 }
 
 // Says what is wrong with the place at argument `i`, as `say_none` does for a change.
-fn say_no_place(i: usize, p: Named) {
-    say_number_to(STDERR_FILENO, b"argument ", i);
+fn say_no_place(streams: &mut Streams, i: usize, p: Named) {
+    say_number_to(streams, Stream::Error, b"argument ", i);
     match p {
-        Named::Unknown => say_to(STDERR_FILENO, b" is no name of a place\n"),
+        Named::Unknown => say_to(streams, Stream::Error, b" is no name of a place\n"),
         _ => say_to(
-            STDERR_FILENO,
+            streams,
+            Stream::Error,
             b" is a place with too few numbers behind it\n",
         ),
     }
-    say_usage(STDERR_FILENO);
+    say_usage(streams, Stream::Error);
 }
 
 // Says what stands at the places that the arguments behind `show` say.
-fn show_all(section: &[u8], numbers: &mut [u32], room: &mut [u8]) {
-    let most = os::arg_count();
+fn show_all(streams: &mut Streams, section: &[u8], numbers: &mut [u32], room: &mut [u8]) {
+    let most = arg_count(streams.rt);
     let mut i = 2;
     while i < most {
-        let n = os::arg(i, room);
+        let n = arg(streams.rt, i, room);
         let p = place_named(part(room, 0, n));
         let k = place_numbers(p);
         if most - i <= k {
-            say_no_place(i, p);
+            say_no_place(streams, i, p);
             return;
         }
-        if !read_numbers(i + 1, k, numbers, room) {
-            say_usage(STDERR_FILENO);
+        if !read_numbers(streams, i + 1, k, numbers, room) {
+            say_usage(streams, Stream::Error);
             return;
         }
-        if !show(section, p, numbers, i) {
+        if !show(streams, section, p, numbers, i) {
             return;
         }
         i += k + 1;
@@ -162,18 +174,24 @@ fn show_all(section: &[u8], numbers: &mut [u32], room: &mut [u8]) {
 }
 
 // Whether the first argument is `show`.
-fn shows(room: &mut [u8]) -> bool {
-    let n = os::arg(1, room);
+fn shows(rt: HostRuntime, room: &mut [u8]) -> bool {
+    let n = arg(rt, 1, room);
     same(part(room, 0, n), b"show")
 }
 
-fn run(section: &mut [u8], journal: &mut [u32], numbers: &mut [u32], room: &mut [u8]) {
-    if shows(room) {
-        show_all(section, numbers, room);
+fn run(
+    streams: &mut Streams,
+    section: &mut [u8],
+    journal: &mut [u32],
+    numbers: &mut [u32],
+    room: &mut [u8],
+) {
+    if shows(streams.rt, room) {
+        show_all(streams, section, numbers, room);
         return;
     }
-    if make_all(section, journal, numbers, room) {
-        say(section);
+    if make_all(streams, section, journal, numbers, room) {
+        say(streams, section);
     }
 }
 
@@ -190,41 +208,46 @@ fn numbers_room() -> [u32; NUMBERS]
 }
 
 // Makes the changes in a section that was read.
-fn edit_read(section: &mut [u8]) {
+fn edit_read(streams: &mut Streams, section: &mut [u8]) {
     let mut journal = journal_room();
     let mut numbers = numbers_room();
-    let mut word = io::buffer();
-    run(section, &mut journal, &mut numbers, &mut word);
+    let mut word = piece_room();
+    run(streams, section, &mut journal, &mut numbers, &mut word);
 }
 
-fn run_program() {
+fn run_program(streams: &mut Streams) {
     if !can_say(
+        streams,
         b"edit_section: no section was written, since standard output could not be written",
     ) {
         return;
     }
     let mut room = input_room();
-    let Input::Bytes(n) = read_input(&mut room) else {
-        os::fail(b"edit_section: no section was written, since standard input could not be read");
+    let Input::Bytes(n) = read_input(streams, &mut room) else {
+        fail(
+            streams,
+            b"edit_section: no section was written, since standard input could not be read",
+        );
         return;
     };
     if MOST < n {
-        say_too_long();
+        say_too_long(streams);
     } else {
-        edit_read(&mut room[0..n]);
+        edit_read(streams, &mut room[0..n]);
     }
-    finish(b"edit_section");
+    finish(streams, b"edit_section");
 }
 
-fn help() {
-    say_usage(STDOUT_FILENO);
-    finish(b"edit_section");
+fn help(streams: &mut Streams) {
+    say_usage(streams, Stream::Output);
+    finish(streams, b"edit_section");
 }
 
-fn main() {
-    match arguments() {
-        Asked::Nothing => help(),
-        Asked::Help => help(),
-        Asked::Other => run_program(),
+fn main(rt: HostRuntime) {
+    let mut streams = Streams::new(rt);
+    match arguments(rt) {
+        Asked::Nothing => help(&mut streams),
+        Asked::Help => help(&mut streams),
+        Asked::Other => run_program(&mut streams),
     }
 }

@@ -3,11 +3,12 @@ ghost use Rattle.std.specs.Prelude.{◌+◌, ◌≤◌};
 
 use base::part::part;
 use base::run::put_word;
+use console::argument::arg;
 use console::output::{say_number_to, say_to};
-use libc::STDERR_FILENO;
+use console::streams::{Stream, Streams};
 
 // A number's digits: decimal, or hexadecimal.
-#[derive(Drop)]
+#[derive(Clone, Copy)]
 enum Base {
     Ten,
     Sixteen,
@@ -79,22 +80,32 @@ fn number(text: &[u8]) -> Parsed {
     number_from(text, 0, Base::Ten)
 }
 
-fn say_no_number(i: usize) {
-    say_number_to(STDERR_FILENO, b"argument ", i);
-    say_to(STDERR_FILENO, b" is no number from 0 to 4294967295\n");
+fn say_no_number(streams: &mut Streams, i: usize) {
+    say_number_to(streams, Stream::Error, b"argument ", i);
+    say_to(
+        streams,
+        Stream::Error,
+        b" is no number from 0 to 4294967295\n",
+    );
 }
 
 // Stores the numbers of `k` arguments, and answers whether each is one; if not, it has said which is not.
-pub(crate) fn read_numbers(from: usize, k: usize, numbers: &mut [u32], room: &mut [u8]) -> bool
+pub(crate) fn read_numbers(
+    streams: &mut Streams,
+    from: usize,
+    k: usize,
+    numbers: &mut [u32],
+    room: &mut [u8],
+) -> bool
     requires { from + k ≤ 18446744073709551615 }
 {
     let mut j = 0;
     while j < k {
-        let n = os::arg(from + j, room);
+        let n = arg(streams.rt, from + j, room);
         match number(part(room, 0, n)) {
             Parsed::Value(v) => put_word(numbers, j, v),
             Parsed::Bad => {
-                say_no_number(from + j);
+                say_no_number(streams, from + j);
                 return false;
             }
         }

@@ -5,10 +5,11 @@ use base::float::{hermite_to_bits, to_bits};
 use bflan::place::Place;
 use console::hex::hex_digit;
 use console::output::{say, say_number};
+use console::streams::Streams;
 use edit::field::{FieldAnswer, FieldValue, field_at, of_field};
 use edit::key::NewKey;
 
-#[derive(Drop)]
+#[derive(Clone, Copy)]
 pub(crate) enum Named {
     Frames,
     Looping,
@@ -72,98 +73,104 @@ fn place_of(p: Named, numbers: &[u32]) -> Place {
 
 // A name, and behind it the numbers of a place: three, four or five.
 
-fn say_three(name: &[u8], numbers: &[u32]) {
-    say(name);
-    say_number(b" ", at(numbers, 0) as usize);
-    say_number(b" ", at(numbers, 1) as usize);
-    say_number(b" ", at(numbers, 2) as usize);
+fn say_three(streams: &mut Streams, name: &[u8], numbers: &[u32]) {
+    say(streams, name);
+    say_number(streams, b" ", at(numbers, 0) as usize);
+    say_number(streams, b" ", at(numbers, 1) as usize);
+    say_number(streams, b" ", at(numbers, 2) as usize);
 }
 
-fn say_four(name: &[u8], numbers: &[u32]) {
-    say_three(name, numbers);
-    say_number(b" ", at(numbers, 3) as usize);
+fn say_four(streams: &mut Streams, name: &[u8], numbers: &[u32]) {
+    say_three(streams, name, numbers);
+    say_number(streams, b" ", at(numbers, 3) as usize);
 }
 
-fn say_five(name: &[u8], numbers: &[u32]) {
-    say_four(name, numbers);
-    say_number(b" ", at(numbers, 4) as usize);
+fn say_five(streams: &mut Streams, name: &[u8], numbers: &[u32]) {
+    say_four(streams, name, numbers);
+    say_number(streams, b" ", at(numbers, 4) as usize);
 }
 
-fn say_byte(b: u32) {
+fn say_byte(streams: &mut Streams, b: u32) {
     let n = (b % 256) as u8;
     let text = [hex_digit(n / 16), hex_digit(n)];
-    say(&text);
+    say(streams, &text);
 }
 
 // A float by its bits: ` 0x` and eight digits.
-fn say_bits(n: u32) {
-    say(b" 0x");
-    say_byte(n / 16777216);
-    say_byte(n / 65536);
-    say_byte(n / 256);
-    say_byte(n);
+fn say_bits(streams: &mut Streams, n: u32) {
+    say(streams, b" 0x");
+    say_byte(streams, n / 16777216);
+    say_byte(streams, n / 65536);
+    say_byte(streams, n / 256);
+    say_byte(streams, n);
 }
 
-fn say_key(k: NewKey, numbers: &[u32]) {
+fn say_key(streams: &mut Streams, k: NewKey, numbers: &[u32]) {
     match k {
         NewKey::Constant(value) => {
-            say_four(b"constant", numbers);
-            say_bits(to_bits(value));
+            say_four(streams, b"constant", numbers);
+            say_bits(streams, to_bits(value));
         }
         NewKey::Step(frame, value) => {
-            say_four(b"step", numbers);
-            say_bits(to_bits(frame));
-            say_number(b" ", value as usize);
+            say_four(streams, b"step", numbers);
+            say_bits(streams, to_bits(frame));
+            say_number(streams, b" ", value as usize);
         }
         NewKey::Hermite(h) => {
             let b = hermite_to_bits(h);
-            say_four(b"hermite", numbers);
-            say_bits(b.0);
-            say_bits(b.1);
-            say_bits(b.2);
+            say_four(streams, b"hermite", numbers);
+            say_bits(streams, b.0);
+            say_bits(streams, b.1);
+            say_bits(streams, b.2);
         }
     }
 }
 
-fn say_value(v: FieldValue, numbers: &[u32]) {
+fn say_value(streams: &mut Streams, v: FieldValue, numbers: &[u32]) {
     match v {
-        FieldValue::FrameCount(n) => say_number(b"frames ", n as usize),
-        FieldValue::Looping(n) => say_number(b"looping ", n as usize),
+        FieldValue::FrameCount(n) => say_number(streams, b"frames ", n as usize),
+        FieldValue::Looping(n) => say_number(streams, b"looping ", n as usize),
         FieldValue::Layer(n) => {
-            say_three(b"layer", numbers);
-            say_number(b" ", n as usize);
+            say_three(streams, b"layer", numbers);
+            say_number(streams, b" ", n as usize);
         }
         FieldValue::Target(n) => {
-            say_three(b"target", numbers);
-            say_number(b" ", n as usize);
+            say_three(streams, b"target", numbers);
+            say_number(streams, b" ", n as usize);
         }
-        FieldValue::Key(k) => say_key(k, numbers),
+        FieldValue::Key(k) => say_key(streams, k, numbers),
         FieldValue::Value(n) => {
-            say_five(b"value", numbers);
-            say_bits(n);
+            say_five(streams, b"value", numbers);
+            say_bits(streams, n);
         }
     }
-    say(b"\n");
+    say(streams, b"\n");
 }
 
 // Says what stands at a place that is named at argument `i`, and answers whether there is one; if not, it has said why.
-pub(crate) fn show(section: &[u8], p: Named, numbers: &[u32], i: usize) -> bool {
+pub(crate) fn show(
+    streams: &mut Streams,
+    section: &[u8],
+    p: Named,
+    numbers: &[u32],
+    i: usize,
+) -> bool {
     let a = field_at(section, place_of(p, numbers));
     match a {
         FieldAnswer::Is(v) => {
-            say_value(v, numbers);
+            say_value(streams, v, numbers);
             true
         }
         FieldAnswer::TooLong(_size) => {
-            too_long(of_field(a), i);
+            too_long(streams, of_field(a), i);
             false
         }
         FieldAnswer::Refused(f) => {
-            stop_at_fault(f, i);
+            stop_at_fault(streams, f, i);
             false
         }
         FieldAnswer::NoSuchPlace => {
-            no_such_place(of_field(a), i);
+            no_such_place(streams, of_field(a), i);
             false
         }
     }

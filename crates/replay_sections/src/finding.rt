@@ -9,6 +9,7 @@ use crate::report::{DECODED, IN_SECTION, REPLACED, add, bump, note};
 use base::outcome::Numbers;
 use base::part::part;
 use bflan::find::{FindAnswer, find_text, of_finding, text_part};
+use console::streams::Streams;
 
 // The scratch, where it ends, and all places.
 const SCRATCH: usize = 320;
@@ -234,18 +235,18 @@ fn refused(section: &[u8], answer: Numbers) -> bool {
 }
 
 // Looks for the texts of a case. (Where the tables are too short, the sample has no texts.)
-pub(crate) fn find_texts(sample: &[u8], c: Case, counts: &mut [u64]) {
+pub(crate) fn find_texts(streams: &mut Streams, sample: &[u8], c: Case, counts: &mut [u64]) {
     let answer = c.answer;
     let section = bytes_of(sample, c.section);
     if answer.0 == 0 {
         let words = bytes_of(sample, c.record_words);
         let texts = bytes_of(sample, c.record_texts);
         let right = find_all(section, words, texts, answer.3, counts);
-        note(counts, right, b"texts found");
+        note(streams, counts, right, b"texts found");
         add(counts, REPLACED, answer.3 as u64);
         return;
     }
     if answer.0 != 5 {
-        note(counts, refused(section, answer), b"text refused");
+        note(streams, counts, refused(section, answer), b"text refused");
     }
 }

@@ -6,10 +6,10 @@ use base::outcome::Numbers;
 use base::part::part;
 
 // A part of the sample: its start and its length.
-#[derive(Drop)]
+#[derive(Clone, Copy)]
 pub(crate) struct Span(pub(crate) usize, pub(crate) usize);
 
-#[derive(Drop)]
+#[derive(Clone, Copy)]
 pub(crate) struct Case {
     pub(crate) section: Span,
     // the tables' lengths

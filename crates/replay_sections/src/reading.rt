@@ -8,6 +8,7 @@ use crate::input::{Case, bytes_of};
 use crate::report::note;
 use base::outcome::Numbers;
 use bflan::read::of_reading;
+use console::streams::Streams;
 
 // All places.
 const ALL_WORDS: usize = 272;
@@ -41,7 +42,7 @@ fn words_right(words: &[u32], record: &[u8]) -> bool {
 }
 
 // Reads the section of a case, whose tables are of n words and m bytes.
-fn read_case(sample: &[u8], c: Case, n: usize, m: usize, counts: &mut [u64])
+fn read_case(streams: &mut Streams, sample: &[u8], c: Case, n: usize, m: usize, counts: &mut [u64])
     requires { (n ≤ 256) × (m ≤ 320) }
 {
     let mut words = [0u32; ALL_WORDS];
@@ -49,13 +50,15 @@ fn read_case(sample: &[u8], c: Case, n: usize, m: usize, counts: &mut [u64])
     mark_words(&mut words);
     mark_bytes(&mut texts);
     let a = read_among(bytes_of(sample, c.section), &mut words, n, &mut texts, m);
-    note(counts, same_answer(a, c.answer), b"answer");
+    note(streams, counts, same_answer(a, c.answer), b"answer");
     note(
+        streams,
         counts,
         words_right(&words, bytes_of(sample, c.record_words)),
         b"words",
     );
     note(
+        streams,
         counts,
         bytes_right(&texts, bytes_of(sample, c.record_texts)),
         b"text bytes",
@@ -63,7 +66,12 @@ fn read_case(sample: &[u8], c: Case, n: usize, m: usize, counts: &mut [u64])
 }
 
 // The same, or false if there is no room for such tables.
-pub(crate) fn read_section(sample: &[u8], c: Case, counts: &mut [u64]) -> bool {
+pub(crate) fn read_section(
+    streams: &mut Streams,
+    sample: &[u8],
+    c: Case,
+    counts: &mut [u64],
+) -> bool {
     let n = c.words;
     let m = c.texts;
     if n > WORDS {
@@ -72,6 +80,6 @@ pub(crate) fn read_section(sample: &[u8], c: Case, counts: &mut [u64]) -> bool {
     if m > TEXTS {
         return false;
     }
-    read_case(sample, c, n, m, counts);
+    read_case(streams, sample, c, n, m, counts);
     true
 }

@@ -8,7 +8,7 @@ const FAR: usize = 65536;
 const FLEU: usize = 1430604870;
 
 // Where the walk stands, and how many textures, contents, infos of the content, and targets or data of the info are to come.
-#[derive(Drop)]
+#[derive(Clone, Copy)]
 pub(crate) struct Place {
     pub(crate) at: usize,
     textures: usize,

@@ -1,5 +1,6 @@
 // What is counted, and the report.
 use console::output::{say, say_number};
+use console::streams::Streams;
 use std::num::wrapping_add_u64;
 
 // The counts: first those of the answers with each number, then these.
@@ -39,9 +40,9 @@ fn count(counts: &[u64], place: usize) -> u64 {
 }
 
 // Writes a number between two texts.
-fn line(before: &[u8], n: u64, after: &[u8]) {
-    say_number(before, n as usize);
-    say(after);
+fn line(streams: &mut Streams, before: &[u8], n: u64, after: &[u8]) {
+    say_number(streams, before, n as usize);
+    say(streams, after);
 }
 
 // Counts a case whose answer has this number. False where no answer has it.
@@ -55,36 +56,46 @@ pub(crate) fn count_case(counts: &mut [u64], number: usize) -> bool {
 }
 
 // Counts and reports a difference in the present case, unless it is right.
-pub(crate) fn note(counts: &mut [u64], right: bool, what: &[u8]) {
+pub(crate) fn note(streams: &mut Streams, counts: &mut [u64], right: bool, what: &[u8]) {
     if right {
         return;
     }
     bump(counts, DIFFERENCES);
-    line(b"case ", count(counts, CASES), b": difference in ");
-    say(what);
-    say(b"\n");
+    line(streams, b"case ", count(counts, CASES), b": difference in ");
+    say(streams, what);
+    say(streams, b"\n");
 }
 
-fn answers(counts: &[u64]) {
+fn answers(streams: &mut Streams, counts: &[u64]) {
     let mut k: usize = 0;
     while k < ANSWERS {
-        line(b"answer ", k as u64, b": ");
-        line(b"", count(counts, k), b"\n");
+        line(streams, b"answer ", k as u64, b": ");
+        line(streams, b"", count(counts, k), b"\n");
         k += 1;
     }
 }
 
-pub(crate) fn report(counts: &[u64]) {
-    line(b"cases ", count(counts, CASES), b", of these ");
-    line(b"", count(counts, RECORDS), b" records\n");
-    answers(counts);
-    line(b"texts ", count(counts, IN_SECTION), b" in the section, ");
-    line(b"", count(counts, DECODED), b" decoded, replaced ");
-    line(b"", count(counts, REPLACED), b"\n");
-    line(b"differences ", count(counts, DIFFERENCES), b"\n");
+pub(crate) fn report(streams: &mut Streams, counts: &[u64]) {
+    line(streams, b"cases ", count(counts, CASES), b", of these ");
+    line(streams, b"", count(counts, RECORDS), b" records\n");
+    answers(streams, counts);
+    line(
+        streams,
+        b"texts ",
+        count(counts, IN_SECTION),
+        b" in the section, ",
+    );
+    line(streams, b"", count(counts, DECODED), b" decoded, replaced ");
+    line(streams, b"", count(counts, REPLACED), b"\n");
+    line(streams, b"differences ", count(counts, DIFFERENCES), b"\n");
 }
 
 // Says that the sample has no whole case at a position.
-pub(crate) fn malformed(at: usize) {
-    line(b"malformed sample: no case at byte ", at as u64, b"\n");
+pub(crate) fn malformed(streams: &mut Streams, at: usize) {
+    line(
+        streams,
+        b"malformed sample: no case at byte ",
+        at as u64,
+        b"\n",
+    );
 }

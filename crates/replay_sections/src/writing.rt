@@ -8,6 +8,7 @@ use crate::record::word_at;
 use crate::report::{RECORDS, bump, note};
 use base::outcome::Numbers;
 use bflan::write::{of_writing, write};
+use console::streams::Streams;
 
 // The longest output, and all places around it.
 const OUTPUT: usize = 512;
@@ -32,7 +33,14 @@ fn write_among(words: &[u32], n: usize, texts: &[u8], places: &mut [u8], room: u
 }
 
 // Writes the record of a case, which has n words, into `room` bytes.
-fn write_case(sample: &[u8], r: Record, n: usize, room: usize, counts: &mut [u64])
+fn write_case(
+    streams: &mut Streams,
+    sample: &[u8],
+    r: Record,
+    n: usize,
+    room: usize,
+    counts: &mut [u64],
+)
     requires { (n ≤ 256) × (room ≤ 512) }
 {
     let mut words = [0u32; WORDS];
@@ -40,8 +48,9 @@ fn write_case(sample: &[u8], r: Record, n: usize, room: usize, counts: &mut [u64
     take_words(bytes_of(sample, r.words), &mut words);
     mark_bytes(&mut places);
     let a = write_among(&words, n, bytes_of(sample, r.texts), &mut places, room);
-    note(counts, same_answer(a, r.answer), b"answer");
+    note(streams, counts, same_answer(a, r.answer), b"answer");
     note(
+        streams,
         counts,
         bytes_right(&places, bytes_of(sample, r.section)),
         b"section",
@@ -49,7 +58,12 @@ fn write_case(sample: &[u8], r: Record, n: usize, room: usize, counts: &mut [u64
 }
 
 // The same, or false if there is no room for such a record.
-pub(crate) fn write_record(sample: &[u8], r: Record, counts: &mut [u64]) -> bool {
+pub(crate) fn write_record(
+    streams: &mut Streams,
+    sample: &[u8],
+    r: Record,
+    counts: &mut [u64],
+) -> bool {
     let span = r.words;
     let n = span.1 / 4;
     let room = r.room;
@@ -60,6 +74,6 @@ pub(crate) fn write_record(sample: &[u8], r: Record, counts: &mut [u64]) -> bool
         return false;
     }
     bump(counts, RECORDS);
-    write_case(sample, r, n, room, counts);
+    write_case(streams, sample, r, n, room, counts);
     true
 }

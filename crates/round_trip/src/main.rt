@@ -3,6 +3,8 @@
 // Where standard input cannot be read, the answer is `refused 3`, whatever came before, and standard error has the reason. Where
 // standard output cannot be written, standard error says so. `--help` is answered by the usage; any other argument too, on standard
 // error and with nothing on standard output.
+#![tactic(auto)]
+
 ghost use Rattle.std.specs.Prelude.{◌≡◌, length};
 ghost use Rattle.std.proofs.lemmas.List.Edits.{sets};
 ghost use Rattle.round_trip.specs.Trip.{answered, of_trip, refusal, replied, trip, written_again};
@@ -13,9 +15,10 @@ use bflan::read::{ReadAnswer, of_reading, read};
 use bflan::write::{WriteAnswer, of_writing, write};
 use console::argument::{Asked, arguments};
 use console::input::{Input, read_input};
-use console::output::{can_say, finish, say, say_to};
-use console::room::{MOST, input_room, words_room};
-use libc::{STDERR_FILENO, STDOUT_FILENO};
+use console::output::{can_say, fail, finish, say, say_to};
+use console::room::{MOST, bytes_room, input_room, words_room};
+use console::streams::{Stream, Streams};
+use itoa::Buffer;
 
 // What becomes of an input.
 #[derive(Drop)]
@@ -61,10 +64,11 @@ fn round_trip(section: &[u8], words: &mut [u32], texts: &mut [u8], out: &mut [u8
 fn refuse(number: usize, out: &mut [u8]) -> usize
     ensures { (result ≡ length (refusal number)) × (out.new ≡ sets out.old 0 (refusal number)) }
 {
-    let mut digits = [0u8; 20];
-    let n = io::decimal(number as u64, &mut digits);
+    let mut buffer = Buffer::new();
+    let digits = buffer.format(number).as_bytes();
+    let n = digits.len();
     copy(b"refused ", out, 0);
-    copy(&digits[..n], out, 8);
+    copy(digits, out, 8);
     copy(b"\n", out, n + 8);
     n + 9
 }
@@ -98,61 +102,76 @@ fn answer(input: Input, room: &[u8], words: &mut [u32], texts: &mut [u8], out: &
 }
 
 // Reads standard input, and says so if that fails.
-fn read_section(room: &mut [u8]) -> Input {
-    let input = read_input(room);
+fn read_section(streams: &mut Streams, room: &mut [u8]) -> Input {
+    let input = read_input(streams, room);
     match input {
         Input::Bytes(_n) => {}
         Input::Failed => {
-            os::fail(b"round_trip: no section was written, since standard input could not be read")
+            fail(
+                streams,
+                b"round_trip: no section was written, since standard input could not be read",
+            )
         }
     }
     input
 }
 
-fn run_program() {
-    if !can_say(b"round_trip: no section was written, since standard output could not be written") {
+fn run_program(streams: &mut Streams) {
+    if !can_say(
+        streams,
+        b"round_trip: no section was written, since standard output could not be written",
+    ) {
         return;
     }
     let mut room = input_room();
-    let input = read_section(&mut room);
+    let input = read_section(streams, &mut room);
     let mut words = words_room();
-    let mut texts = io::large_buffer();
-    let mut out = io::large_buffer();
+    let mut texts = bytes_room();
+    let mut out = bytes_room();
     let len = answer(input, &room, &mut words, &mut texts, &mut out);
-    say(part(&out, 0, len));
-    finish(b"round_trip");
+    say(streams, part(&out, 0, len));
+    finish(streams, b"round_trip");
 }
 
-fn say_usage(fd: i32) {
-    say_to(fd, b"usage: round_trip < section\n");
+fn say_usage(streams: &mut Streams, to: Stream) {
+    say_to(streams, to, b"usage: round_trip < section\n");
     say_to(
-        fd,
+        streams,
+        to,
         b"Reads a pai1 section of at most 65536 bytes from standard input, and writes it again to\n",
     );
     say_to(
-        fd,
+        streams,
+        to,
         b"standard output: in the order of document 01, with no gaps. A section that is turned down\n",
     );
     say_to(
-        fd,
+        streams,
+        to,
         b"is answered by 'refused N' only, with the number of the refusal.\n",
     );
     say_to(
-        fd,
+        streams,
+        to,
         b"example: round_trip < crates/round_trip/stdin > written.pai1\n",
     );
 }
 
-fn main() {
-    match arguments() {
-        Asked::Nothing => run_program(),
+fn main(rt: HostRuntime) {
+    let mut streams = Streams::new(rt);
+    match arguments(rt) {
+        Asked::Nothing => run_program(&mut streams),
         Asked::Help => {
-            say_usage(STDOUT_FILENO);
-            finish(b"round_trip");
+            say_usage(&mut streams, Stream::Output);
+            finish(&mut streams, b"round_trip");
         }
         Asked::Other => {
-            say_to(STDERR_FILENO, b"round_trip takes no argument\n");
-            say_usage(STDERR_FILENO);
+            say_to(
+                &mut streams,
+                Stream::Error,
+                b"round_trip takes no argument\n",
+            );
+            say_usage(&mut streams, Stream::Error);
         }
     }
 }

@@ -5,6 +5,7 @@ ghost use Rattle.std.specs.Prelude.{◌<◌, ◌≤◌, length};
 use crate::hex::say_hex;
 use base::part::part;
 use console::output::say;
+use console::streams::Streams;
 use std::num::wrapping_add_usize;
 
 // 1 before the point and 149 behind it, or 39 before it, is the most that there is.
@@ -114,7 +115,7 @@ fn spell(digits: &[u8], from: usize, to: usize, text: &mut [u8], start: usize) -
 }
 
 // The number with the point before its last digits, as many as `places` says.
-fn say_digits(digits: &[u8], places: usize) {
+fn say_digits(streams: &mut Streams, digits: &[u8], places: usize) {
     let mut text = [0u8; TEXT];
     let whole = spell(
         digits,
@@ -124,61 +125,61 @@ fn say_digits(digits: &[u8], places: usize) {
         0,
     );
     if places == 0 {
-        say(part(&text, 0, whole));
+        say(streams, part(&text, 0, whole));
         return;
     }
     let point = put(&mut text, whole, b'.');
     let end = spell(digits, places, 0, &mut text, point);
-    say(part(&text, 0, end));
+    say(streams, part(&text, 0, end));
 }
 
 // m × 2^j.
-fn say_whole(m: u32, j: u32) {
+fn say_whole(streams: &mut Streams, m: u32, j: u32) {
     let mut digits = [0u8; DIGITS];
     put_number(&mut digits, m);
     multiply_often(&mut digits, false, j);
-    say_digits(&digits, 0);
+    say_digits(streams, &digits, 0);
 }
 
 // m / 2^k.
-fn say_fraction(m: u32, k: u32) {
+fn say_fraction(streams: &mut Streams, m: u32, k: u32) {
     let low = in_lowest_terms(m, k);
     let mut digits = [0u8; DIGITS];
     put_number(&mut digits, low.0);
     multiply_often(&mut digits, true, low.1);
-    say_digits(&digits, low.1 as usize);
+    say_digits(streams, &digits, low.1 as usize);
 }
 
 // m × 2^s / 2^149.
-fn say_scaled(m: u32, s: u32) {
+fn say_scaled(streams: &mut Streams, m: u32, s: u32) {
     if s < 149 {
-        say_fraction(m, 149 - s);
+        say_fraction(streams, m, 149 - s);
     } else {
-        say_whole(m, s - 149);
+        say_whole(streams, m, s - 149);
     }
 }
 
 // The number of a pattern without its sign.
-fn say_finite(exponent: u32, fraction: u32)
+fn say_finite(streams: &mut Streams, exponent: u32, fraction: u32)
     requires { fraction < 8388608 }
 {
     if exponent == 0 {
-        say_scaled(fraction, 0);
+        say_scaled(streams, fraction, 0);
     } else {
-        say_scaled(fraction + 8388608, exponent - 1);
+        say_scaled(streams, fraction + 8388608, exponent - 1);
     }
 }
 
 // A pattern: the number, if it is finite, or the bits.
-pub(crate) fn say_float(bits: u32) {
+pub(crate) fn say_float(streams: &mut Streams, bits: u32) {
     let exponent = bits / 8388608 % 256;
     if exponent == 255 {
-        say(b"0x");
-        say_hex(bits, 8);
+        say(streams, b"0x");
+        say_hex(streams, bits, 8);
         return;
     }
     if bits / 2147483648 == 1 {
-        say(b"-");
+        say(streams, b"-");
     }
-    say_finite(exponent, bits % 8388608);
+    say_finite(streams, exponent, bits % 8388608);
 }

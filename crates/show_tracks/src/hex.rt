@@ -2,9 +2,10 @@
 use base::part::part;
 use console::hex::hex_digit;
 use console::output::say;
+use console::streams::Streams;
 
 // The last hexadecimal digits of a number, at most eight, in capitals.
-pub(crate) fn say_hex(n: u32, digits: usize) {
+pub(crate) fn say_hex(streams: &mut Streams, n: u32, digits: usize) {
     let mut text = [b'0'; 8];
     let mut rest = n;
     let mut i = 8;
@@ -14,6 +15,6 @@ pub(crate) fn say_hex(n: u32, digits: usize) {
         rest /= 16;
     }
     if digits <= 8 {
-        say(part(&text, 8 - digits, digits));
+        say(streams, part(&text, 8 - digits, digits));
     }
 }

@@ -23,6 +23,8 @@
 // Where standard input cannot be read, nothing is printed, and standard error has the reason. Where standard output cannot be written,
 // standard error says so, and what is written is the beginning of the output. `--help` is answered by the usage; any other argument
 // too, on standard error and with nothing on standard output.
+#![tactic(auto)]
+
 mod decimal;
 mod hex;
 mod names;
@@ -36,64 +38,72 @@ use bflan::fault::Fault;
 use bflan::read::{ReadAnswer, of_reading, read};
 use console::argument::{Asked, arguments};
 use console::input::{Input, read_input};
-use console::output::{can_say, finish, say, say_number, say_to};
+use console::output::{can_say, fail, finish, say, say_number, say_to};
 use console::refusal::{say_refused, say_too_long, say_why};
-use console::room::{MOST, input_room, words_room};
-use libc::{STDERR_FILENO, STDOUT_FILENO};
+use console::room::{MOST, bytes_room, input_room, words_room};
+use console::streams::{Stream, Streams};
 
-fn say_fault(f: Fault) {
-    say_refused(f);
-    say_why(f);
+fn say_fault(streams: &mut Streams, f: Fault) {
+    say_refused(streams, f);
+    say_why(streams, f);
 }
 
-fn say_too_short(n: Numbers) {
-    say_number(b"refused ", n.0);
-    say_number(b" (", n.1);
-    say_number(b", ", n.2);
+fn say_too_short(streams: &mut Streams, n: Numbers) {
+    say_number(streams, b"refused ", n.0);
+    say_number(streams, b" (", n.1);
+    say_number(streams, b", ", n.2);
     say(
+        streams,
         b"): the record has more than the 16384 words or the 65536 text bytes that there is room for\n",
     );
 }
 
-fn answer(section: &[u8], words: &mut [u32], texts: &mut [u8]) {
+fn answer(streams: &mut Streams, section: &[u8], words: &mut [u32], texts: &mut [u8]) {
     if MOST < section.len() {
-        say_too_long();
+        say_too_long(streams);
         return;
     }
     let a = read(section, words, texts);
     match a {
         // the texts are found in the section again, so their table is free
-        ReadAnswer::Accepted(_n, _m, replaced) => show(section, words, replaced, texts),
-        ReadAnswer::Refused(f) => say_fault(f),
-        ReadAnswer::TooLong(_size) => say_too_long(),
-        ReadAnswer::TooShort(_n, _m) => say_too_short(of_reading(a)),
+        ReadAnswer::Accepted(_n, _m, replaced) => show(streams, section, words, replaced, texts),
+        ReadAnswer::Refused(f) => say_fault(streams, f),
+        ReadAnswer::TooLong(_size) => say_too_long(streams),
+        ReadAnswer::TooShort(_n, _m) => say_too_short(streams, of_reading(a)),
     }
 }
 
 // The answer to the first n bytes of the room.
-fn show_section(room: &[u8], n: usize) {
+fn show_section(streams: &mut Streams, room: &[u8], n: usize) {
     let mut words = words_room();
-    let mut texts = io::large_buffer();
-    answer(part(room, 0, n), &mut words, &mut texts);
-    finish(b"show_tracks");
+    let mut texts = bytes_room();
+    answer(streams, part(room, 0, n), &mut words, &mut texts);
+    finish(streams, b"show_tracks");
 }
 
-fn run_program() {
-    if !can_say(b"show_tracks: nothing was printed, since standard output could not be written") {
+fn run_program(streams: &mut Streams) {
+    if !can_say(
+        streams,
+        b"show_tracks: nothing was printed, since standard output could not be written",
+    ) {
         return;
     }
     let mut room = input_room();
-    match read_input(&mut room) {
-        Input::Bytes(n) => show_section(&room, n),
+    match read_input(streams, &mut room) {
+        Input::Bytes(n) => show_section(streams, &room, n),
         Input::Failed => {
-            os::fail(b"show_tracks: nothing was printed, since standard input could not be read")
+            fail(
+                streams,
+                b"show_tracks: nothing was printed, since standard input could not be read",
+            )
         }
     }
 }
 
-fn say_usage(fd: i32) {
+fn say_usage(streams: &mut Streams, to: Stream) {
     say_to(
-        fd,
+        streams,
+        to,
         b"usage: show_tracks < section\n\
           Reads a pai1 section of at most 65536 bytes from standard input, and prints it to standard\n\
           output: a line for each texture, content, info, track and extended datum. `replaced` counts\n\
@@ -103,16 +113,21 @@ fn say_usage(fd: i32) {
     );
 }
 
-fn main() {
-    match arguments() {
-        Asked::Nothing => run_program(),
+fn main(rt: HostRuntime) {
+    let mut streams = Streams::new(rt);
+    match arguments(rt) {
+        Asked::Nothing => run_program(&mut streams),
         Asked::Help => {
-            say_usage(STDOUT_FILENO);
-            finish(b"show_tracks");
+            say_usage(&mut streams, Stream::Output);
+            finish(&mut streams, b"show_tracks");
         }
         Asked::Other => {
-            say_to(STDERR_FILENO, b"show_tracks takes no argument\n");
-            say_usage(STDERR_FILENO);
+            say_to(
+                &mut streams,
+                Stream::Error,
+                b"show_tracks takes no argument\n",
+            );
+            say_usage(&mut streams, Stream::Error);
         }
     }
 }

@@ -4,6 +4,7 @@ use base::number::write_u32;
 use base::part::part;
 use bflan::letters;
 use console::output::say;
+use console::streams::Streams;
 
 // The end of the name at `from`: the next byte `end`.
 fn name_end(names: &[u8], from: usize, end: u8) -> usize {
@@ -35,16 +36,16 @@ fn name(names: &[u8], n: u32, end: u8) -> &[u8] {
     part(names, start, len)
 }
 
-fn say_name(names: &[u8], n: u32) {
-    say(name(names, n, b' '));
+fn say_name(streams: &mut Streams, names: &[u8], n: u32) {
+    say(streams, name(names, n, b' '));
 }
 
-pub(crate) fn say_type(n: u32) {
-    say_name(b"Pane Material User PaneExt StateMachine", n);
+pub(crate) fn say_type(streams: &mut Streams, n: u32) {
+    say_name(streams, b"Pane Material User PaneExt StateMachine", n);
 }
 
-pub(crate) fn say_curve(n: u32) {
-    say_name(b"Constant Step Hermite", n);
+pub(crate) fn say_curve(streams: &mut Streams, n: u32) {
+    say_name(streams, b"Constant Step Hermite", n);
 }
 
 // The number of letters in the lists below. Those of targets come first; behind them is FLEU, and then what is not listed.
@@ -73,8 +74,9 @@ fn letters_number(word: u32) -> u32 {
     }
 }
 
-fn say_letters_name(word: u32) {
+fn say_letters_name(streams: &mut Streams, word: u32) {
     say_name(
+        streams,
         b"PerCharacterTransformCurveAnim PerCharacterTransformAnim PaneSrtAnim VertexColorAnim VisibilityAnim \
           DropShadowAnim MaskTextureAnim ProceduralShapeAnim WindowAnim StateMachineAnim AlphaCompareAnim \
           FontShadowAnim IndirectSrtAnim MaterialColorAnim TextureSrtAnim TexturePatternAnim BrickRepeatAnim \
@@ -84,31 +86,32 @@ fn say_letters_name(word: u32) {
 }
 
 // The four letters; a record keeps none that are not listed.
-fn say_four(word: u32) {
+fn say_four(streams: &mut Streams, word: u32) {
     if word == 0 {
-        say(b"----");
+        say(streams, b"----");
         return;
     }
     let mut four = [0u8; 4];
     write_u32(&mut four, 0, word);
-    say(&four);
+    say(streams, &four);
 }
 
 // An info's letters and their name.
-pub(crate) fn say_letters(word: u32) {
-    say_four(word);
-    say(b" ");
-    say_letters_name(word);
+pub(crate) fn say_letters(streams: &mut Streams, word: u32) {
+    say_four(streams, word);
+    say(streams, b" ");
+    say_letters_name(streams, word);
 }
 
 // Name n of list i.
-fn say_listed(lists: &[u8], i: u32, n: u32) {
-    say_name(name(lists, i, b';'), n);
+fn say_listed(streams: &mut Streams, lists: &[u8], i: u32, n: u32) {
+    say_name(streams, name(lists, i, b';'), n);
 }
 
 // The targets below the letters of each number.
-fn say_target_name(number: u32, n: u32) {
+fn say_target_name(streams: &mut Streams, number: u32, n: u32) {
     say_listed(
+        streams,
         b"TranslateX TranslateY TranslateZ RotateX RotateY RotateZ LeftTopRed LeftTopGreen LeftTopBlue LeftTopAlpha \
           LeftBottomRed LeftBottomGreen LeftBottomBlue LeftBottomAlpha ScaleX ScaleY;\
           EvalTimeOffset EvalTimeWidth;\
@@ -154,12 +157,12 @@ fn say_target_name(number: u32, n: u32) {
 }
 
 // The name of target n below letters, behind a blank.
-pub(crate) fn say_target(word: u32, n: u32) {
-    say(b" ");
+pub(crate) fn say_target(streams: &mut Streams, word: u32, n: u32) {
+    say(streams, b" ");
     let number = letters_number(word);
     if number < 18 {
-        say_target_name(number, n);
+        say_target_name(streams, number, n);
     } else {
-        say(b"Invalid");
+        say(streams, b"Invalid");
     }
 }

@@ -5,6 +5,7 @@ use base::part::part;
 use bflan::find::FindAnswer;
 use console::hex::say_escaped;
 use console::output::{say, say_number};
+use console::streams::Streams;
 
 // Where a text is: the source, its start and its length there; and how many characters of it were replaced.
 #[derive(Drop)]
@@ -92,18 +93,18 @@ fn plain_end(text: &[u8], from: usize) -> usize
 }
 
 // The n bytes at i, each as `\x` and two digits.
-fn say_bytes(text: &[u8], i: usize, n: usize)
+fn say_bytes(streams: &mut Streams, text: &[u8], i: usize, n: usize)
     requires { (i < length text.now) × (n ≤ 3) }
 {
     let mut k = 0;
     while k < n {
-        say_escaped(byte(text, i + k));
+        say_escaped(streams, byte(text, i + k));
         k += 1;
     }
 }
 
 // The escape at i; gives the position behind it. At the end there is none.
-fn say_escape(text: &[u8], i: usize) -> usize
+fn say_escape(streams: &mut Streams, text: &[u8], i: usize) -> usize
     requires { i ≤ length text.now }
     ensures { i < result }
 {
@@ -112,31 +113,31 @@ fn say_escape(text: &[u8], i: usize) -> usize
     }
     let n = control(text, i);
     if n == 0 {
-        say(b"\\");
-        say(part(text, i, 1));
+        say(streams, b"\\");
+        say(streams, part(text, i, 1));
         return i + 1;
     }
-    say_bytes(text, i, n);
+    say_bytes(streams, text, i, n);
     i + n
 }
 
 // A text in quotes.
-pub(crate) fn say_quoted(text: &[u8]) {
-    say(b"\"");
+pub(crate) fn say_quoted(streams: &mut Streams, text: &[u8]) {
+    say(streams, b"\"");
     let mut i = 0;
     while i < text.len() {
         let end = plain_end(text, i);
-        say(part(text, i, end - i));
-        i = say_escape(text, end);
+        say(streams, part(text, i, end - i));
+        i = say_escape(streams, text, end);
     }
-    say(b"\"");
+    say(streams, b"\"");
 }
 
 // The same, and how many characters were replaced, where the section's bytes are ill-formed.
-pub(crate) fn say_found(text: &[u8], replaced: usize) {
-    say_quoted(text);
+pub(crate) fn say_found(streams: &mut Streams, text: &[u8], replaced: usize) {
+    say_quoted(streams, text);
     if replaced > 0 {
-        say_number(b" (ill-formed, replaced ", replaced);
-        say(b")");
+        say_number(streams, b" (ill-formed, replaced ", replaced);
+        say(streams, b")");
     }
 }
