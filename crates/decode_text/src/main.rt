@@ -33,7 +33,7 @@ const DECODED: usize = 1536;
 const SHOWN: usize = 4608;
 
 // What a line in hexadecimal gives.
-#[derive(Drop)]
+#[derive(Clone, Copy)]
 enum Hex {
     // The number of bytes.
     Bytes(usize),
@@ -43,7 +43,7 @@ enum Hex {
 
 // Where the reading is: the characters of the present line so far, ROOM + 1 if they have no room, its number, whether more input may
 // come, and whether a read failed.
-#[derive(Drop)]
+#[derive(Clone, Copy)]
 struct Place {
     len: usize,
     number: usize,

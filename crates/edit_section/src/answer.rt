@@ -7,7 +7,7 @@ use console::streams::Streams;
 use edit::edit::{EditAnswer, of_editing};
 use edit::undo::{UndoAnswer, of_undoing};
 
-#[derive(Drop)]
+#[derive(Clone, Copy)]
 pub(crate) enum Step {
     // The new count of journal entries.
     On(usize),

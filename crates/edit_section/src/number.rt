@@ -14,7 +14,7 @@ enum Base {
     Sixteen,
 }
 
-#[derive(Drop)]
+#[derive(Clone, Copy)]
 enum Parsed {
     Value(u32),
     Bad,

@@ -23,7 +23,7 @@ const MANY: usize = 1000;
 
 // How far the texts were looked for: the place in the record's words, the number of the next text, where its bytes begin, and how many
 // replaced characters of the sum that the reading gave are still to come.
-#[derive(Drop)]
+#[derive(Clone, Copy)]
 struct Walk {
     place: Place,
     text: usize,
@@ -32,10 +32,10 @@ struct Walk {
 }
 
 // Whether a text is right, and how many characters of it were replaced.
-#[derive(Drop)]
+#[derive(Clone, Copy)]
 struct Seen(bool, usize);
 
-#[derive(Drop)]
+#[derive(Clone, Copy)]
 enum Turn {
     On(Walk),
     // All texts are right, or one is not.

@@ -21,7 +21,7 @@ pub(crate) struct Case {
     pub(crate) record_texts: Span,
 }
 
-#[derive(Drop)]
+#[derive(Clone, Copy)]
 pub(crate) struct Record {
     pub(crate) words: Span,
     pub(crate) texts: Span,
@@ -32,7 +32,7 @@ pub(crate) struct Record {
     pub(crate) section: Span,
 }
 
-#[derive(Drop)]
+#[derive(Clone, Copy)]
 pub(crate) enum Next {
     // A section to read, and the position behind it.
     Case(Case, usize),

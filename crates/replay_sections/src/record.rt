@@ -18,7 +18,7 @@ pub(crate) struct Place {
     extended: bool,
 }
 
-#[derive(Drop)]
+#[derive(Clone, Copy)]
 pub(crate) enum Met {
     // The length of a text, and the place behind it.
     Length(usize, Place),

@@ -2,14 +2,12 @@
 -- Assumes nothing.
 use Prim.Native.Nat.{ℕ, ◌-◌, ◌<◌, ◌≤◌}
 use mathlib.Core.Path.{◌≡◌, refl, ap, sym, ◌∙◌}
-use mathlib.Core.List.{List, [], ◌∷◌}
+use mathlib.Core.List.{List}
 use native.Mathlib.Nat.{sub-zero}
 use native.Mathlib.Omega.{arith}
 use borrow.Author.Tests.{le-leb, lt-leb}
-use denote.Enum.Declared.{tag_of}
 use lib.ListN.{length, take, drop, get_or}
 use lib.Seq.{length-sets}
-use types.Run.{OneOf, miss}
 use Rattle.base.specs.Outcome.{Outcome, flat, in_order}
 use Rattle.base.specs.declared.outcome.Numbers.{Numbers}
 use Rattle.bflan.specs.declared.fault.Fault.{Fault}
@@ -24,8 +22,6 @@ use Rattle.bflan.specs.pai1.Reading.{section}
 use Rattle.bflan.specs.Items.{words_of, texts_of}
 use Rattle.bflan.specs.Writing.{of_writing}
 use Rattle.bflan.proofs.read.Answers.{accepted-filled}
-use Rattle.bflan.specs.contracts.read.ReadAnswer.{the_type as readType}
-use Rattle.bflan.specs.contracts.write.WriteAnswer.{the_type as writeType}
 use Rattle.round_trip.specs.Trip.{of_trip, said, most, written_again, after_reading, trip}
 use Rattle.round_trip.specs.declared.Trip.{Trip}
 use Rattle.round_trip.specs.declared.Trip.TheVariants.{Section, Refused}
@@ -47,15 +43,15 @@ module _ (w x out after : List ℕ) where
   wrote_section len e = wrote (Written len) (Section len) e refl
 
 -- every variant but the first one is a refusal
-unwritten : (a : WriteAnswer) → OneOf (1 ∷ 2 ∷ 3 ∷ 4 ∷ []) (tag_of writeType a) → of_trip (Refused (of_writing a).number) ≡ said (of_writing a)
+unwritten : (a : WriteAnswer) → ((len : ℕ) → a ≡ Written len → ⊥) → of_trip (Refused (of_writing a).number) ≡ said (of_writing a)
 unfolding of_trip said of_writing
-unwritten (Written len) h = absurd (miss (1 ∷ 2 ∷ 3 ∷ 4 ∷ []) 0 Prim.tt h)
+unwritten (Written len) h = absurd (h len refl)
 unwritten (BadWord i) h = refl
 unwritten (BadText i) h = refl
 unwritten OverLimit h = refl
 unwritten (OutputTooShort len) h = refl
 
-pub wrote_none : (w x out after : List ℕ) (a : WriteAnswer) (n : ℕ) → (of_writing a, after) ≡ writing w x out → OneOf (1 ∷ 2 ∷ 3 ∷ 4 ∷ []) (tag_of writeType a) → n ≡ (of_writing a).number
+pub wrote_none : (w x out after : List ℕ) (a : WriteAnswer) (n : ℕ) → (of_writing a, after) ≡ writing w x out → ((len : ℕ) → a ≡ Written len → ⊥) → n ≡ (of_writing a).number
     → (of_trip (Refused n), after) ≡ written_again w x out
 wrote_none w x out after a n e h en = wrote w x out after a (Refused n) e (ap (λ (z : ℕ). of_trip (Refused z)) en ∙ unwritten a h)
 
@@ -67,9 +63,9 @@ fault_said (PastEnd offset requested) w x out = refl
 fault_said (NoZero start) w x out = refl
 fault_said (OtherLetters letters) w x out = refl
 
-unread : (a : ReadAnswer) (w x out : List ℕ) → OneOf (1 ∷ 2 ∷ 3 ∷ []) (tag_of readType a) → (of_trip (Refused (of_reading a).number), out) ≡ after_reading (of_reading a, w, x) out
+unread : (a : ReadAnswer) (w x out : List ℕ) → ((n m c : ℕ) → a ≡ Accepted n m c → ⊥) → (of_trip (Refused (of_reading a).number), out) ≡ after_reading (of_reading a, w, x) out
 unfolding of_trip said of_reading after_reading
-unread (Accepted n m c) w x out h = absurd (miss (1 ∷ 2 ∷ 3 ∷ []) 0 Prim.tt h)
+unread (Accepted n m c) w x out h = absurd (h n m c refl)
 unread (ReadRefused f) w x out h = fault_said f w x out
 unread (TooLong size) w x out h = refl
 unread (TooShort n m) w x out h = refl
@@ -84,7 +80,7 @@ module _ (s w x out : List ℕ) where
     unfolding trip
     by_reading a e = rw (le-leb _ _ short, e)
 
-    pub trip_unread : (a : ReadAnswer) (n : ℕ) → (of_reading a, w', x') ≡ reading s w x → OneOf (1 ∷ 2 ∷ 3 ∷ []) (tag_of readType a) → n ≡ (of_reading a).number
+    pub trip_unread : (a : ReadAnswer) (n : ℕ) → (of_reading a, w', x') ≡ reading s w x → ((n m c : ℕ) → a ≡ Accepted n m c → ⊥) → n ≡ (of_reading a).number
         → (of_trip (Refused n), out) ≡ trip s w x out
     trip_unread a n e h en = ap (λ (z : ℕ). (of_trip (Refused z), out)) en ∙ unread a w' x' out h ∙ by_reading a e
 

@@ -21,7 +21,7 @@ use console::streams::{Stream, Streams};
 use itoa::Buffer;
 
 // What becomes of an input.
-#[derive(Drop)]
+#[derive(Clone, Copy)]
 enum Trip {
     // The length of the section that was written.
     Section(usize),

@@ -14,7 +14,7 @@ const DIGITS: usize = 160;
 const TEXT: usize = 161;
 
 // What is left of m and k when m / 2^k is in lowest terms: the last digit of m × 5^k is then no zero.
-#[derive(Drop)]
+#[derive(Clone, Copy)]
 struct Lowest(u32, u32);
 
 fn wide(b: u8) -> u32

@@ -8,7 +8,7 @@ use console::output::{say, say_number};
 use console::streams::Streams;
 
 // Where a text is: the source, its start and its length there; and how many characters of it were replaced.
-#[derive(Drop)]
+#[derive(Clone, Copy)]
 pub(crate) struct Text(
     pub(crate) usize,
     pub(crate) usize,

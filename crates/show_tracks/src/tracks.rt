@@ -12,14 +12,14 @@ use std::num::wrapping_add_usize;
 const NAME: usize = 84;
 
 // Where the walk stands: the next word, and the number of the next text.
-#[derive(Drop)]
+#[derive(Clone, Copy)]
 struct Walk {
     at: usize,
     text: usize,
 }
 
 // A place: the content, the info, and the target or the extended datum.
-#[derive(Drop)]
+#[derive(Clone, Copy)]
 struct Place(usize, usize, usize);
 
 // Word k behind `at`. (A record that was read has all the words that are asked for.)
