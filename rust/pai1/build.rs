@@ -7,18 +7,23 @@ fn main() {
     let here = PathBuf::from(env::var_os("CARGO_MANIFEST_DIR").unwrap());
     let root = here.join("../..");
     println!("cargo::rerun-if-changed=build.rs");
-    for watched in ["crates.txt", "crates"] {
-        println!("cargo::rerun-if-changed={}", root.join(watched).display());
+    println!("cargo::rerun-if-changed={}", root.join("crates.txt").display());
+    // not the crates' folders as a whole: `rt` writes what it makes into them
+    for built in ["base", "bflan", "edit", "capi"] {
+        for watched in ["src", "specs", "proofs"] {
+            println!("cargo::rerun-if-changed={}", root.join("crates").join(built).join(watched).display());
+        }
     }
+    let capi = root.join("crates/capi");
     let status = Command::new("rt")
-        .args(["staticlib", "capi"])
-        .current_dir(&root)
+        .arg("lib")
+        .current_dir(&capi)
         .status()
         .expect("rt, the kit's command, is not on the path");
-    assert!(status.success(), "rt staticlib capi: {status}");
-    // a copy, since the gate removes the repository's target/
+    assert!(status.success(), "rt lib in crates/capi: {status}");
+    // a copy, since the next `rt lib` writes it anew
     let copy = PathBuf::from(env::var_os("OUT_DIR").unwrap());
-    fs::copy(root.join("target/staticlib/libcapi.a"), copy.join("libcapi.a")).unwrap();
+    fs::copy(capi.join("out/libcapi.a"), copy.join("libcapi.a")).unwrap();
     println!("cargo::rustc-link-search=native={}", copy.display());
     println!("cargo::rustc-link-lib=static=capi");
 }

@@ -13,9 +13,11 @@ pub fn program(name: &str) -> PathBuf {
     // tests run beside each other, and rt has one folder to build in
     static ALONE: Mutex<()> = Mutex::new(());
     let _alone = ALONE.lock().unwrap();
-    let status = Command::new("rt").args(["check", name]).current_dir(root()).stdout(Stdio::null()).status();
-    assert!(status.unwrap().success(), "rt check {name}");
-    root().join("target/bin").join(name)
+    let folder = root().join("crates").join(name);
+    // what is built is run too, here for its usage
+    let status = Command::new("rt").args(["run", "--", "--help"]).current_dir(&folder).stdin(Stdio::null()).stdout(Stdio::null()).status();
+    assert!(status.unwrap().success(), "rt run in crates/{name}");
+    folder.join("out").join(name)
 }
 
 /// What a program writes.
