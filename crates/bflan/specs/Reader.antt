@@ -1,5 +1,5 @@
 -- Reading as a function of a section's bytes and a position: a value and the position after it, or the fault that stopped it.
--- The numbers, seeks and texts are core's (document 01, 'Bytes and text').
+-- The numbers, seeks and texts are base's (document 01, 'Bytes and text').
 use Rattle.std.specs.Prelude.{ℕ, zero, suc, ◌+◌, Bool, true, false, List, [], ◌∷◌, ◌++◌}
 use Rattle.base.specs.Number.{read_of}
 use Rattle.base.specs.Seek.{seek_of}

@@ -1,4 +1,4 @@
-// Functions of core, bflan and edit for a program in C or Rust. Each calls the function of the same name and has its contract, but for
+// Functions of base, bflan and edit for a program in C or Rust. Each calls the function of the same name and has its contract, but for
 // the eight `nnbfl_edit_*` and the six `nnbfl_field_*`, which call `edit` with the change and `field_at` with the place that their
 // numbers say. A slice is passed as
 // its address and its length, and an answer that is an enum comes back as numbers in a list. None asks anything of the caller but

@@ -1,4 +1,4 @@
-// Runs of keys and of values, each read whole by core's runs.
+// Runs of keys and of values, each read whole by base's runs.
 ghost use Rattle.std.specs.Prelude.{◌≡◌, List, ℕ, ◌<◌};
 ghost use Rattle.bflan.specs.Reader.{numbers};
 ghost use Rattle.bflan.specs.pai1.Reading.{keys};

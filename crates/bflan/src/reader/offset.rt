@@ -1,4 +1,4 @@
-// Numbers that are known to be there. They are read without a test, by the bytes (core's readers test, since they ask nothing of a caller).
+// Numbers that are known to be there. They are read without a test, by the bytes (base's readers test, since they ask nothing of a caller).
 ghost use Rattle.std.specs.Prelude.{◌≡◌, ◌+◌, ◌<◌, ◌≤◌, length};
 ghost use Rattle.base.specs.Number.{get};
 
