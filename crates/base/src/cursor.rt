@@ -1,6 +1,6 @@
 // A slice with a position in it that reading goes on from. Each method takes the cursor apart and calls a function on slice and position, which
 // does the work. An enum cannot hold a cursor, so an answer holds the position after what was read. The functions behind the methods make a
-// cursor from plain parameters and read by it: their callers need no proof by hand.
+// cursor from plain parameters and read by it.
 ghost use Rattle.std.specs.Prelude.{◌≡◌};
 ghost use Rattle.base.specs.Number.{read_of};
 ghost use Rattle.base.specs.Seek.{seek_of};
