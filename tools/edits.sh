@@ -1,4 +1,4 @@
-# How an edit of crates/NAME/must-fail/code is carried out: for tools/must-fail and tools/mistakes, which read this file.
+# How an edit of crates/NAME/must-fail is carried out: for tools/must-fail and tools/mistakes, which read this file.
 
 # In FILE, puts NEW for OLD, which must stand there exactly once.
 replace() { # FILE OLD NEW
@@ -13,14 +13,17 @@ replace() { # FILE OLD NEW
         }' "$1" >"$1.new" && mv "$1.new" "$1"
 }
 
-# Carries out EDIT in the crate folder HERE, and prints the place that it names. With `src` behind, only what it changes in the code.
+# The edit's own proof, if it has one.
+own_proof() { # EDIT
+    echo "${1%/must-fail/*}/edit-proofs/$(basename "$1" .edit).answers"
+}
+
+# Carries out EDIT in the crate folder HERE. With `src` behind, only what it changes in the code.
 carry_out() { # EDIT HERE [src]
-    at='' file='' old='' pairs=0
+    file='' old='' pairs=0
     while IFS= read -r line; do
         case $line in
-        'at: '*) at=${line#at: } ;;
-        'among: '*) at=${line#among: } ;;
-        'proof: '*) file=${line#proof: }; [ -f "$2/$file" ] && cp "${1%.edit}.proof" "$2/$file" || return 1 ;;
+        '# proof: '*) file=${line#'# proof: '}; [ -f "$2/$file" ] && cp "$(own_proof "$1")" "$2/$file" || return 1 ;;
         'file: '*) file=${line#file: } ;;
         'old: '*) old=${line#old: } ;;
         'new: '*)
@@ -29,5 +32,5 @@ carry_out() { # EDIT HERE [src]
             ;;
         esac
     done <"$1"
-    [ -n "$at" ] && [ "$pairs" -gt 0 ] && echo "$at"
+    [ "$pairs" -gt 0 ]
 }
