@@ -5,18 +5,15 @@ use mathlib.Core.Path.{◌≡◌, refl, ap, sym, ◌∙◌}
 use mathlib.Core.Bool.{Bool, true, false}
 use mathlib.Core.List.{List, [], ◌∷◌}
 use mathlib.Core.Logic.{inr}
-use native.Mathlib.Nat.{add-zero, add-suc}
+use native.Mathlib.Nat.{add-suc}
 use native.Mathlib.Numerals.{add-one}
 use native.Mathlib.Omega.{arith}
 use borrow.Author.Tests.{leb-true, leb-false}
 use lib.Dec.{leb}
 use lib.ListN.{length, get_or, set, take, drop, length-drop, take-append-drop, drop_of_length-le}
-use lib.Seq.{sets, length-sets, drop-cons, length-take-le, take-add, take-suc, take-suc-set, get_or-drop, get_or-take}
+use lib.Seq.{sets, length-sets, drop-cons, length-take-le, take-add}
 use Rattle.base.proofs.Apart.{sets_past}
 use Rattle.base.proofs.Stores.{sets_out, sets-append, sets_over}
-
-pub fill_start : (l : List ℕ) (o : ℕ) (v : List ℕ) → sets l (o + 0) (drop 0 v) ≡ sets l o v
-fill_start l o v = rw add-zero
 
 pub fill_turn : (l : List ℕ) (o i : ℕ) (v : List ℕ) → i < length v
     → sets (set l (o + i) (get_or v i 0)) (o + (i + 1)) (drop (i + 1) v) ≡ sets l (o + i) (drop i v)
@@ -29,14 +26,6 @@ fill_none l o (x ∷ v) e = sets_out l o (x ∷ v) (omega arith)
 
 pub fill_end : (l : List ℕ) (o i : ℕ) (v : List ℕ) → min (length v) (length l - o) ≤ i → sets l (o + i) (drop i v) ≡ l
 fill_end l o i v h = let e = length-drop i v in fill_none l (o + i) (drop i v) (omega arith)
-
--- a turn that stores of a run v the first n
-pub fill_first : (l : List ℕ) (o i n : ℕ) (v : List ℕ) → n ≤ length v → i < n
-    → sets (set l (o + i) (get_or v i 0)) (o + (i + 1)) (drop (i + 1) (take n v)) ≡ sets l (o + i) (drop i (take n v))
-fill_first l o i n v h k =
-    let t = length-take-le n v h in
-    let e : get_or v i 0 ≡ get_or (take n v) i 0 = sym (get_or-take n v i 0 k) in
-    rw e (fill_turn l o i (take n v) (omega arith))
 
 -- the part of a run that there is room for stores as much as the run
 pub fill_room : (l : List ℕ) (o n : ℕ) (v : List ℕ) → n ≡ min (length v) (length l - o) → sets l o (take n v) ≡ sets l o v
@@ -141,10 +130,3 @@ module _ (l : List ℕ) (o : ℕ) (v : List ℕ) where
       let two : o + 2 ≡ suc (suc o) = omega arith in
       let three : o + 3 ≡ suc (suc (suc o)) = omega arith in
       rw (add-one, two, three) (ap (sets l o) (firsts_all 4 0 v e))
-
--- a turn of a loop that takes the bytes of v from i on into a list b
-pub load_turn : (v b : List ℕ) (i k : ℕ) → i + k < length v → k < length b → take k b ≡ take k (drop i v)
-    → take (k + 1) (set b k (get_or v (i + k) 0)) ≡ take (k + 1) (drop i v)
-load_turn v b i k h g e =
-    let m = length-drop i v in
-    rw (add-one, take-suc-set b k (get_or v (i + k) 0) g, take-suc (drop i v) k 0 (omega arith), get_or-drop) (rw e refl)

@@ -1,5 +1,7 @@
 -- Patterns of binary32 come back bit for bit, a NaN's too: through values, and through bytes.
 -- Assumes nothing.
+use Rattle.std.specs.Prelude.{Result, Ok, Err}
+use Rattle.base.specs.declared.error.PastEnd.{PastEnd}
 use Prim.Native.Nat.{ℕ, ◌+◌, ◌<◌, ◌≤◌, ◌^◌}
 use mathlib.Core.Path.{◌≡◌, refl, sym, ◌∙◌, subst}
 use mathlib.Core.Bool.{Bool, true, false, not, true≢false, ◌||◌}
@@ -13,17 +15,14 @@ use lib.Ieee.{Float, nan, inf, fin, binary32, is_nan, ne, fits, nan_bits, of_bit
 use lib.Ieee.Bits.{nan_bits_is, to_bits-of_bits, to_bits-lt}
 use lib.Ieee.Compare.{differs_from_itself}
 use Rattle.base.specs.Choice.{pick}
-use Rattle.base.specs.Number.{get, put}
+use Rattle.base.specs.Number.{get, put, past_end, read_of}
 use Rattle.base.specs.Float.{float_of, pattern_of, hermite_of, patterns_of, read_float_of, patterns_at, put_patterns, read_hermite_of}
 use Rattle.base.specs.declared.float.Binary32.{Binary32}
 use Rattle.base.specs.declared.float.Binary32.TheVariants.{Number, Nan}
 use Rattle.base.specs.declared.float.Hermite.TheVariants.{Floats, Patterns}
 use Rattle.base.specs.declared.float.Hermite.{Hermite}
 use Rattle.base.specs.declared.float.HermiteBits.{HermiteBits}
-use Rattle.base.specs.declared.float.ReadFloat.TheVariants.{Value as FloatValue, Past as FloatPast}
-use Rattle.base.specs.declared.float.ReadHermite.{ReadHermite}
-use Rattle.base.specs.declared.float.ReadHermite.TheVariants.{Value as HermiteValue, Past as HermitePast}
-use Rattle.base.proofs.Numbers.{Bytes, Short, get_lt, get-put, put-get, length-put, get_beside}
+use Rattle.base.proofs.Numbers.{Bytes, Short, get_lt, get-put, put-get, length-put, get_beside, err_past, ok_pair}
 
 -- ---- tests
 
@@ -91,29 +90,42 @@ pub record GotFloat (s : List ℕ) (at : ℕ) (x : Binary32) (n : ℕ) : Type 0 
   pub value : x ≡ float_of (get 4 s at)
   pub next : n ≡ at + 4
 
-pub float_there : (s : List ℕ) (at : ℕ) → at + 4 ≤ length s → read_float_of s at ≡ FloatValue (float_of (get 4 s at)) (at + 4)
+pub float_there : (s : List ℕ) (at : ℕ) → at + 4 ≤ length s → read_float_of s at ≡ Ok (float_of (get 4 s at), at + 4)
 unfolding read_float_of
 float_there s at h = rw (le-leb (at + 4) (length s) h)
 
-pub float_short : (s : List ℕ) (at : ℕ) → length s < at + 4 → read_float_of s at ≡ FloatPast at 4
+pub float_short : (s : List ℕ) (at : ℕ) → length s < at + 4 → read_float_of s at ≡ Err (past_end at 4)
 unfolding read_float_of
 float_short s at h = rw (lt-leb (at + 4) (length s) h)
 
-pub float_value : (s : List ℕ) (at : ℕ) (x : Binary32) (n : ℕ) → read_float_of s at ≡ FloatValue x n → GotFloat s at x n
+pub float_value : (s : List ℕ) (at : ℕ) (x : Binary32) (n : ℕ) → read_float_of s at ≡ Ok (x, n) → GotFloat s at x n
 unfolding read_float_of
 float_value s at x n = go (leb (at + 4) (length s)) refl
   where
-    go : (t : Bool) → leb (at + 4) (length s) ≡ t → pick t (FloatValue (float_of (get 4 s at)) (at + 4)) (FloatPast at 4) ≡ FloatValue x n → GotFloat s at x n
-    go true q e = record { room = leb-true (at + 4) (length s) q; value = cc; next = cc }
+    go : (t : Bool) → leb (at + 4) (length s) ≡ t → pick {A = Result (Binary32 × ℕ) PastEnd} t (Ok (float_of (get 4 s at), at + 4)) (Err (past_end at 4)) ≡ Ok (x, n) → GotFloat s at x n
+    go true q e = record { room = leb-true (at + 4) (length s) q; value = sym (ok_pair e).0; next = sym (ok_pair e).1 }
     go false q e = let z : ◌≡◌ {A = ℕ} 0 1 = cc in absurd (omega arith)
 
-pub float_past : (s : List ℕ) (at p m : ℕ) → read_float_of s at ≡ FloatPast p m → Short 4 s at p m
+pub float_past : (s : List ℕ) (at p m : ℕ) → read_float_of s at ≡ Err (past_end p m) → Short 4 s at p m
 unfolding read_float_of
 float_past s at p m = go (leb (at + 4) (length s)) refl
   where
-    go : (t : Bool) → leb (at + 4) (length s) ≡ t → pick t (FloatValue (float_of (get 4 s at)) (at + 4)) (FloatPast at 4) ≡ FloatPast p m → Short 4 s at p m
+    go : (t : Bool) → leb (at + 4) (length s) ≡ t → pick {A = Result (Binary32 × ℕ) PastEnd} t (Ok (float_of (get 4 s at), at + 4)) (Err (past_end at 4)) ≡ Err (past_end p m) → Short 4 s at p m
     go true q e = let z : ◌≡◌ {A = ℕ} 0 1 = cc in absurd (omega arith)
-    go false q e = record { over = leb-false (at + 4) (length s) q; place = cc; asked = cc }
+    go false q e = record { over = leb-false (at + 4) (length s) q; place = sym (err_past e).0; asked = sym (err_past e).1 }
+
+-- a float's read by the read of its four bytes; and a Hermite key's, by its three reads
+abbrev pub float_read : Result (ℕ × ℕ) PastEnd → Result (Binary32 × ℕ) PastEnd
+float_read (Ok (n, next)) = Ok (float_of n, next)
+float_read (Err e) = Err e
+
+pub float_by_read : {r : Result (ℕ × ℕ) PastEnd} (s : List ℕ) (at : ℕ) → r ≡ read_of 4 s at → float_read r ≡ read_float_of s at
+unfolding read_of read_float_of
+float_by_read s at e = rw e (go (leb (at + 4) (length s)))
+  where
+    go : (t : Bool) → float_read (pick {A = Result (ℕ × ℕ) PastEnd} t (Ok (get 4 s at, at + 4)) (Err (past_end at 4))) ≡ pick {A = Result (Binary32 × ℕ) PastEnd} t (Ok (float_of (get 4 s at), at + 4)) (Err (past_end at 4))
+    go true = refl
+    go false = refl
 
 -- a read that gave a key
 pub record GotHermite (s : List ℕ) (at : ℕ) (h : Hermite) (n : ℕ) : Type 0 where
@@ -122,20 +134,20 @@ pub record GotHermite (s : List ℕ) (at : ℕ) (h : Hermite) (n : ℕ) : Type 0
   pub next : n ≡ at + 12
 
 module _ (s : List ℕ) (at : ℕ) where
-  pub hermite_there : at + 12 ≤ length s → read_hermite_of s at ≡ HermiteValue (hermite_of (patterns_at s at)) (at + 12)
+  pub hermite_there : at + 12 ≤ length s → read_hermite_of s at ≡ Ok (hermite_of (patterns_at s at), at + 12)
   unfolding read_hermite_of
   hermite_there h = rw (le-leb (at + 4) (length s) (omega arith), le-leb (at + 8) (length s) (omega arith), le-leb (at + 12) (length s) h)
 
   -- the first of the three reads that the slice is too short for is refused
-  pub hermite_short : length s < at + 4 → read_hermite_of s at ≡ HermitePast at 4
+  pub hermite_short : length s < at + 4 → read_hermite_of s at ≡ Err (past_end at 4)
   unfolding read_hermite_of
   hermite_short h = rw (lt-leb (at + 4) (length s) h)
 
-  pub hermite_short_2 : at + 4 ≤ length s → length s < at + 8 → read_hermite_of s at ≡ HermitePast (at + 4) 4
+  pub hermite_short_2 : at + 4 ≤ length s → length s < at + 8 → read_hermite_of s at ≡ Err (past_end (at + 4) 4)
   unfolding read_hermite_of
   hermite_short_2 k h = rw (le-leb (at + 4) (length s) k, lt-leb (at + 8) (length s) h)
 
-  pub hermite_short_3 : at + 8 ≤ length s → length s < at + 12 → read_hermite_of s at ≡ HermitePast (at + 8) 4
+  pub hermite_short_3 : at + 8 ≤ length s → length s < at + 12 → read_hermite_of s at ≡ Err (past_end (at + 8) 4)
   unfolding read_hermite_of
   hermite_short_3 k h = rw (le-leb (at + 4) (length s) (omega arith), le-leb (at + 8) (length s) k, lt-leb (at + 12) (length s) h)
 
@@ -151,30 +163,30 @@ module _ (s : List ℕ) (at : ℕ) where
   key : Hermite
   key = hermite_of (patterns_at s at)
 
-  answer : Bool → Bool → Bool → ReadHermite
-  answer a b c = pick a (pick b (pick c (HermiteValue key (at + 12)) (HermitePast (at + 8) 4)) (HermitePast (at + 4) 4)) (HermitePast at 4)
+  answer : Bool → Bool → Bool → Result (Hermite × ℕ) PastEnd
+  answer a b c = pick a (pick b (pick c (Ok (key, at + 12)) (Err (past_end (at + 8) 4))) (Err (past_end (at + 4) 4))) (Err (past_end at 4))
 
-  pub hermite_value : (h : Hermite) (n : ℕ) → read_hermite_of s at ≡ HermiteValue h n → GotHermite s at h n
+  pub hermite_value : (h : Hermite) (n : ℕ) → read_hermite_of s at ≡ Ok (h, n) → GotHermite s at h n
   unfolding read_hermite_of key answer
   hermite_value h n = go (leb (at + 4) (length s)) (leb (at + 8) (length s)) (leb (at + 12) (length s)) refl
     where
-      go : (a b c : Bool) → leb (at + 12) (length s) ≡ c → answer a b c ≡ HermiteValue h n → GotHermite s at h n
-      go true true true q e = record { room = leb-true (at + 12) (length s) q; key = cc; next = cc }
+      go : (a b c : Bool) → leb (at + 12) (length s) ≡ c → answer a b c ≡ Ok (h, n) → GotHermite s at h n
+      go true true true q e = record { room = leb-true (at + 12) (length s) q; key = sym (ok_pair e).0; next = sym (ok_pair e).1 }
       go true true false q e = let z : ◌≡◌ {A = ℕ} 0 1 = cc in absurd (omega arith)
       go true false c q e = let z : ◌≡◌ {A = ℕ} 0 1 = cc in absurd (omega arith)
       go false b c q e = let z : ◌≡◌ {A = ℕ} 0 1 = cc in absurd (omega arith)
 
-  pub hermite_past : (p m : ℕ) → read_hermite_of s at ≡ HermitePast p m → ShortHermite s at p m
+  pub hermite_past : (p m : ℕ) → read_hermite_of s at ≡ Err (past_end p m) → ShortHermite s at p m
   unfolding read_hermite_of key answer
   hermite_past p m = go (leb (at + 4) (length s)) (leb (at + 8) (length s)) (leb (at + 12) (length s)) refl refl refl
     where
-      short : (o : ℕ) → length s < o + 4 → at ≤ o → o ≤ at + 8 → HermitePast o 4 ≡ HermitePast p m → ShortHermite s at p m
+      short : (o : ℕ) → length s < o + 4 → at ≤ o → o ≤ at + 8 → ◌≡◌ {A = Result (Hermite × ℕ) PastEnd} (Err (past_end o 4)) (Err (past_end p m)) → ShortHermite s at p m
       short o h f t e =
-          let ep : o ≡ p = cc in
-          let em : 4 ≡ m = cc in
+          let ep : o ≡ p = (err_past e).0 in
+          let em : 4 ≡ m = (err_past e).1 in
           record { over = omega arith; from = omega arith; to = omega arith; asked = sym em }
 
-      go : (a b c : Bool) → leb (at + 4) (length s) ≡ a → leb (at + 8) (length s) ≡ b → leb (at + 12) (length s) ≡ c → answer a b c ≡ HermitePast p m → ShortHermite s at p m
+      go : (a b c : Bool) → leb (at + 4) (length s) ≡ a → leb (at + 8) (length s) ≡ b → leb (at + 12) (length s) ≡ c → answer a b c ≡ Err (past_end p m) → ShortHermite s at p m
       go true true true qa qb qc e = let z : ◌≡◌ {A = ℕ} 0 1 = cc in absurd (omega arith)
       go true true false qa qb qc e = short (at + 8) (omega (arith, leb-false (at + 12) (length s) qc)) (omega arith) (omega arith) e
       go true false c qa qb qc e = short (at + 4) (omega (arith, leb-false (at + 8) (length s) qb)) (omega arith) (omega arith) e
@@ -182,7 +194,7 @@ module _ (s : List ℕ) (at : ℕ) where
 
 -- ---- bytes: what was written is read, with its bits
 
-pub float_back : (s : List ℕ) (at n : ℕ) → n < 2 ^ 32 → at + 4 ≤ length s → read_float_of (put 4 s at n) at ≡ FloatValue (float_of n) (at + 4)
+pub float_back : (s : List ℕ) (at n : ℕ) → n < 2 ^ 32 → at + 4 ≤ length s → read_float_of (put 4 s at n) at ≡ Ok (float_of n, at + 4)
 float_back s at n h l = rw (float_there (put 4 s at n) at (rw length-put l), get-put 4 s at n h l)
 
 length_patterns : (s : List ℕ) (at : ℕ) (b : HermiteBits) → length (put_patterns s at b) ≡ length s
@@ -203,7 +215,7 @@ patterns_read s at b h l =
     let w : get 4 (put 4 u (at + 8) b.2) (at + 8) ≡ b.2 = get-put 4 u (at + 8) b.2 h.slope (omega arith) in
     rw (f, v, w)
 
-pub hermite_back : (s : List ℕ) (at : ℕ) (b : HermiteBits) → Patterns32 b → at + 12 ≤ length s → read_hermite_of (put_patterns s at b) at ≡ HermiteValue (hermite_of b) (at + 12)
+pub hermite_back : (s : List ℕ) (at : ℕ) (b : HermiteBits) → Patterns32 b → at + 12 ≤ length s → read_hermite_of (put_patterns s at b) at ≡ Ok (hermite_of b, at + 12)
 hermite_back s at b h l = rw (hermite_there (put_patterns s at b) at (rw length_patterns l), patterns_read s at b h l)
 
 -- ---- bytes: what was read, written where it was read, leaves every byte as it was

@@ -1,6 +1,9 @@
 -- A run of Hermite keys copied as numbers is the bits of the keys that are read there, one after another (document 01, 'Form by location':
 -- a Hermite key is read from bytes with its bits unchanged).
 -- Assumes nothing.
+use Rattle.std.specs.Prelude.{Result, Ok, Err}
+use Rattle.base.specs.declared.error.PastEnd.{PastEnd}
+use Rattle.base.specs.declared.float.Hermite.{Hermite}
 use Prim.Native.Nat.{ℕ, zero, suc, ◌+◌, ◌*◌, ◌≤◌}
 use mathlib.Core.Path.{◌≡◌, refl, ap, ◌∙◌}
 use mathlib.Core.List.{List, [], ◌∷◌, ◌++◌}
@@ -10,8 +13,6 @@ use Rattle.base.specs.Float.{patterns_of, patterns_at, read_hermite_of}
 use Rattle.base.specs.Number.{get}
 use Rattle.base.specs.Run.{numbers_at}
 use Rattle.base.specs.declared.float.HermiteBits.{HermiteBits}
-use Rattle.base.specs.declared.float.ReadHermite.{ReadHermite}
-use Rattle.base.specs.declared.float.ReadHermite.TheVariants.{Value, Past}
 use Rattle.base.proofs.Floats.{hermite_there, patterns_back, patterns_lt}
 use Rattle.base.proofs.Numbers.{Bytes}
 
@@ -20,9 +21,9 @@ abbrev pub bits_of : HermiteBits → List ℕ
 bits_of b = b.0 ∷ b.1 ∷ b.2 ∷ []
 
 -- those of the key that a read gave
-unfoldable pub bits_read : ReadHermite → List ℕ
-bits_read (Value h next) = bits_of (patterns_of h)
-bits_read (Past offset requested) = []
+unfoldable pub bits_read : Result (Hermite × ℕ) PastEnd → List ℕ
+bits_read (Ok (h, next)) = bits_of (patterns_of h)
+bits_read (Err e) = []
 
 -- n keys, each read as a Hermite key
 unfoldable pub hermites_at : ℕ → List ℕ → ℕ → List ℕ

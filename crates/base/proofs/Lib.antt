@@ -8,6 +8,7 @@ pub mod Outcomes
 pub mod Padding
 pub mod Parts
 pub mod Placeholders
+pub mod Results
 pub mod Runs
 pub mod Seeks
 pub mod Stores

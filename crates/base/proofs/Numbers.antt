@@ -1,4 +1,6 @@
 -- The laws of numbers in bytes, each proved once, for every width k. Assumes nothing.
+use Rattle.std.specs.Prelude.{Result, Ok, Err}
+use Rattle.base.specs.declared.error.PastEnd.{PastEnd}
 use mathlib.Core.Path.{◌≡◌, refl, ap, ◌∙◌, sym}
 use mathlib.Core.Bool.{Bool, true, false}
 use mathlib.Core.List.{List, [], ◌∷◌, ◌++◌, append_assoc}
@@ -11,9 +13,9 @@ use borrow.Author.Tests.{leb-true, leb-false, le-leb, lt-leb}
 use lib.Dec.{leb}
 use lib.ListN.{length, get_or, set, take, drop, replicate, length-drop}
 use lib.Seq.{sets, length-sets, sets-eq, take-nil, drop-nil, drop_at, take_at, length-take-le, get_or-drop, set-get_or}
+use Rattle.std.specs.Int.{w16, w32, to_le_bytes, from_le_bytes}
 use Rattle.base.specs.Choice.{pick}
-use Rattle.base.specs.Number.{le, val, get, put, read_of}
-use Rattle.base.specs.declared.number.Read.TheVariants.{Value, Past}
+use Rattle.base.specs.Number.{le, val, get, put, read_of, past_end}
 use Rattle.base.proofs.Apart.{Apart, sets_away, sets_past}
 use Rattle.base.proofs.Stores.{sets_out, sets-sets}
 
@@ -212,17 +214,24 @@ patch_late k s at m n o v h =
 
 -- ---- reads that may be refused
 
-pub read_there : (k : ℕ) (s : List ℕ) (at : ℕ) → at + k ≤ length s → read_of k s at ≡ Value (get k s at) (at + k)
+pub read_there : (k : ℕ) (s : List ℕ) (at : ℕ) → at + k ≤ length s → read_of k s at ≡ Ok (get k s at, at + k)
 unfolding read_of
 read_there k s at h = rw (le-leb (at + k) (length s) h)
 
-pub read_short : (k : ℕ) (s : List ℕ) (at : ℕ) → length s < at + k → read_of k s at ≡ Past at k
+pub read_short : (k : ℕ) (s : List ℕ) (at : ℕ) → length s < at + k → read_of k s at ≡ Err (past_end at k)
 unfolding read_of
 read_short k s at h = rw (lt-leb (at + k) (length s) h)
 
 -- the same, as code gives its answer
-pub read_is : (k : ℕ) (s : List ℕ) (at v : ℕ) → at + k ≤ length s → v ≡ get k s at → Value v (at + k) ≡ read_of k s at
+pub read_is : (k : ℕ) (s : List ℕ) (at v : ℕ) → at + k ≤ length s → v ≡ get k s at → Ok (v, at + k) ≡ read_of k s at
 read_is k s at v h e = rw e (sym (read_there k s at h))
+
+-- answers that are the same have the same parts
+pub err_past : {A : Type 0} {a b c d : ℕ} → ◌≡◌ {A = Result A PastEnd} (Err (past_end a b)) (Err (past_end c d)) → (a ≡ c) × (b ≡ d)
+err_past e = let f : past_end _ _ ≡ past_end _ _ = cc in (ap (λ (x : PastEnd). x.offset) f, ap (λ (x : PastEnd). x.requested) f)
+
+pub ok_pair : {A B E : Type 0} {a c : A} {b d : B} → ◌≡◌ {A = Result (A × B) E} (Ok (a, b)) (Ok (c, d)) → (a ≡ c) × (b ≡ d)
+ok_pair {A = A} {B = B} e = let f : ◌≡◌ {A = A × B} (_, _) (_, _) = cc in (ap (λ (x : A × B). x.0) f, ap (λ (x : A × B). x.1) f)
 
 -- what a read that gave a number says
 pub record Got (k : ℕ) (s : List ℕ) (at v n : ℕ) : Type 0 where
@@ -236,24 +245,24 @@ pub record Short (k : ℕ) (s : List ℕ) (at p m : ℕ) : Type 0 where
   pub place : p ≡ at
   pub asked : m ≡ k
 
-pub read_value_lem : (k : ℕ) (s : List ℕ) (at v n : ℕ) → read_of k s at ≡ Value v n → Got k s at v n
+pub read_value_lem : (k : ℕ) (s : List ℕ) (at v n : ℕ) → read_of k s at ≡ Ok (v, n) → Got k s at v n
 unfolding read_of
 read_value_lem k s at v n = go (leb (at + k) (length s)) refl
   where
-    go : (b : Bool) → leb (at + k) (length s) ≡ b → pick b (Value (get k s at) (at + k)) (Past at k) ≡ Value v n → Got k s at v n
-    go true t e = record { fits = leb-true (at + k) (length s) t; number = cc; next = cc }
+    go : (b : Bool) → leb (at + k) (length s) ≡ b → pick {A = Result (ℕ × ℕ) PastEnd} b (Ok (get k s at, at + k)) (Err (past_end at k)) ≡ Ok (v, n) → Got k s at v n
+    go true t e = let same = ok_pair e in record { fits = leb-true (at + k) (length s) t; number = sym same.0; next = sym same.1 }
     go false t e = let z : ◌≡◌ {A = ℕ} 0 1 = cc in absurd (omega arith)
 
-pub read_past : (k : ℕ) (s : List ℕ) (at p m : ℕ) → read_of k s at ≡ Past p m → Short k s at p m
+pub read_past : (k : ℕ) (s : List ℕ) (at p m : ℕ) → read_of k s at ≡ Err (past_end p m) → Short k s at p m
 unfolding read_of
 read_past k s at p m = go (leb (at + k) (length s)) refl
   where
-    go : (b : Bool) → leb (at + k) (length s) ≡ b → pick b (Value (get k s at) (at + k)) (Past at k) ≡ Past p m → Short k s at p m
+    go : (b : Bool) → leb (at + k) (length s) ≡ b → pick {A = Result (ℕ × ℕ) PastEnd} b (Ok (get k s at, at + k)) (Err (past_end at k)) ≡ Err (past_end p m) → Short k s at p m
     go true t e = let z : ◌≡◌ {A = ℕ} 0 1 = cc in absurd (omega arith)
-    go false t e = record { over = leb-false (at + k) (length s) t; place = cc; asked = cc }
+    go false t e = let same = err_past e in record { over = leb-false (at + k) (length s) t; place = sym same.0; asked = sym same.1 }
 
 -- a read of what was written, and a read beside it
-pub read-put : (k : ℕ) (s : List ℕ) (at n : ℕ) → n < 256 ^ k → at + k ≤ length s → read_of k (put k s at n) at ≡ Value n (at + k)
+pub read-put : (k : ℕ) (s : List ℕ) (at n : ℕ) → n < 256 ^ k → at + k ≤ length s → read_of k (put k s at n) at ≡ Ok (n, at + k)
 read-put k s at n h l =
     rw (read_there k (put k s at n) at (rw length-put l), get-put k s at n h l)
 
@@ -264,3 +273,38 @@ read_away j s o v b h = rw (length-sets s o v, get_away j s o v b h)
 pub read_beside : (j k : ℕ) (s : List ℕ) (at n b : ℕ) → Apart j b k at → read_of j (put k s at n) b ≡ read_of j s b
 unfolding put
 read_beside j k s at n b h = read_away j s at (le k n) b (rw length-le h)
+
+-- ---- the bytes that the library's `to_le_bytes` gives, and the number that its `from_le_bytes` does
+
+le_two : (n : ℕ) → le 2 n ≡ to_le_bytes w16 n
+unfolding le
+le_two n = refl
+
+le_four : (n : ℕ) → le 4 n ≡ to_le_bytes w32 n
+unfolding le
+le_four n =
+    let a : n / 256 / 256 / 256 ≡ n / 16777216 = omega arith in
+    let b : n / 256 / 256 ≡ n / 65536 = omega arith in
+    rw (a, b)
+
+pub sets_two : (s : List ℕ) (at n : ℕ) → sets s at (to_le_bytes w16 n) ≡ put 2 s at n
+unfolding put
+sets_two s at n = ap (sets s at) (sym (le_two n))
+
+pub sets_four : (s : List ℕ) (at n : ℕ) → sets s at (to_le_bytes w32 n) ≡ put 4 s at n
+unfolding put
+sets_four s at n = ap (sets s at) (sym (le_four n))
+
+pub from_two : (s : List ℕ) (at : ℕ) → from_le_bytes w16 (get_or s at 0 ∷ get_or s (at + 1) 0 ∷ []) ≡ get 2 s at
+from_two s at = omega (arith, get_suc 1 s at, get_suc 0 s (at + 1), get_zero s (at + 1 + 1))
+
+pub from_four : (s : List ℕ) (at : ℕ) → from_le_bytes w32 (get_or s at 0 ∷ get_or s (at + 1) 0 ∷ get_or s (at + 2) 0 ∷ get_or s (at + 3) 0 ∷ []) ≡ get 4 s at
+from_four s at =
+    let a : ℕ = get_or s at 0 in
+    let b : ℕ = get_or s (at + 1) 0 in
+    let c : ℕ = get_or s (at + 2) 0 in
+    let d : ℕ = get_or s (at + 3) 0 in
+    let e : from_le_bytes w32 (a ∷ b ∷ c ∷ d ∷ []) ≡ a + b * 256 + c * 65536 + d * 16777216 = refl in
+    let two : get 2 s (at + 1 + 1) ≡ get 2 s (at + 2) = ap (get 2 s) (omega arith) in
+    let three : get 1 s (at + 2 + 1) ≡ get 1 s (at + 3) = ap (get 1 s) (omega arith) in
+    e ∙ omega (arith, two, three, get_suc 3 s at, get_suc 2 s (at + 1), get_suc 1 s (at + 2), get_suc 0 s (at + 3), get_zero s (at + 3 + 1))

@@ -1,5 +1,6 @@
 -- Runs of numbers, read and written: how many words, and bytes, they are, and each of them.
 -- Assumes nothing.
+use Rattle.std.specs.Prelude.{Ok, Err}
 use Prim.Native.Nat.{ℕ, zero, suc, min, ◌+◌, ◌-◌, ◌*◌, ◌/◌, ◌%◌, ◌<◌, ◌≤◌}
 use mathlib.Core.Path.{◌≡◌, refl, ap, sym, ◌∙◌}
 use mathlib.Core.List.{List, [], ◌∷◌, ◌++◌, append_assoc}
@@ -14,8 +15,7 @@ use Rattle.base.proofs.Filling.{fill_none, fill_turn, fill_end}
 use Rattle.base.proofs.Numbers.{low, length-le, length-put}
 use Rattle.base.proofs.Stores.{sets_out, sets-turn}
 use Rattle.base.specs.Choice.{pick}
-use Rattle.base.specs.Number.{le, get, put}
-use Rattle.base.specs.declared.run.Run.TheVariants.{Next, Cut}
+use Rattle.base.specs.Number.{le, get, put, past_end}
 use Rattle.base.specs.Run.{numbers_at, numbers_of, pairs_at, pairs_of, cut_pair, stored_run, numbers_le, pairs_le}
 
 pub length-numbers : (n : ℕ) (s : List ℕ) (at : ℕ) → length (numbers_at n s at) ≡ n
@@ -35,19 +35,19 @@ length_pairs zero s at = refl
 length_pairs (suc n) s at = let h = length_pairs n s (at + 8) in omega arith
 
 -- the answers
-pub numbers-whole : (n : ℕ) (s : List ℕ) (at : ℕ) → n ≤ (length s - at) / 4 → numbers_of n s at ≡ Next (at + 4 * n)
+pub numbers-whole : (n : ℕ) (s : List ℕ) (at : ℕ) → n ≤ (length s - at) / 4 → numbers_of n s at ≡ Ok (at + 4 * n)
 unfolding numbers_of
 numbers-whole n s at h = rw (le-leb n ((length s - at) / 4) h)
 
-pub numbers_cut : (n : ℕ) (s : List ℕ) (at : ℕ) → (length s - at) / 4 < n → numbers_of n s at ≡ Cut (at + 4 * ((length s - at) / 4)) 4
+pub numbers_cut : (n : ℕ) (s : List ℕ) (at : ℕ) → (length s - at) / 4 < n → numbers_of n s at ≡ Err (past_end (at + 4 * ((length s - at) / 4)) 4)
 unfolding numbers_of
 numbers_cut n s at h = rw (lt-leb n ((length s - at) / 4) h)
 
-pub stored_next : (next : ℕ) (out : List ℕ) (o : ℕ) (v : List ℕ) → stored_run (Next next) out o v ≡ sets out o v
+pub stored_next : (next : ℕ) (out : List ℕ) (o : ℕ) (v : List ℕ) → stored_run (Ok next) out o v ≡ sets out o v
 unfolding stored_run
 stored_next next out o v = refl
 
-pub stored_cut : (at k : ℕ) (out : List ℕ) (o : ℕ) (v : List ℕ) → stored_run (Cut at k) out o v ≡ out
+pub stored_cut : (at k : ℕ) (out : List ℕ) (o : ℕ) (v : List ℕ) → stored_run (Err (past_end at k)) out o v ≡ out
 unfolding stored_run
 stored_cut at k out o v = refl
 
@@ -71,7 +71,7 @@ pairs_second (suc n) s at (suc i) h =
     let d : 2 * suc i + 1 ≡ suc (suc (2 * i + 1)) = omega arith in
     rw d (pairs_second n s (at + 8) i (omega arith) ∙ ap (get 2 s) e)
 
-pub pairs_whole : (n : ℕ) (s : List ℕ) (at : ℕ) → n ≤ (length s - at + 2) / 8 → pairs_of n s at ≡ Next (at + 8 * n)
+pub pairs_whole : (n : ℕ) (s : List ℕ) (at : ℕ) → n ≤ (length s - at + 2) / 8 → pairs_of n s at ≡ Ok (at + 8 * n)
 unfolding pairs_of
 pairs_whole n s at h = rw (le-leb n ((length s - at + 2) / 8) h)
 
@@ -83,7 +83,7 @@ pub stored_cut_pair : (s : List ℕ) (at : ℕ) (out : List ℕ) (o : ℕ) (v : 
 unfolding cut_pair
 stored_cut_pair s at out o v = go (leb (at + 4) (length s))
   where
-    go : (b : Bool) → stored_run (pick b (Cut (at + 4) 2) (Cut at 4)) out o v ≡ out
+    go : (b : Bool) → stored_run (pick b (Err (past_end (at + 4) 2)) (Err (past_end at 4))) out o v ≡ out
     go true = stored_cut (at + 4) 2 out o v
     go false = stored_cut at 4 out o v
 
@@ -107,16 +107,16 @@ pair_last l o k n x v e h r ex =
 
 -- ---- what an answer says of a run of numbers
 
-pub numbers_next : (n : ℕ) (s : List ℕ) (at q : ℕ) → numbers_of n s at ≡ Next q → (n ≤ (length s - at) / 4) × (q ≡ at + 4 * n)
+pub numbers_next : (n : ℕ) (s : List ℕ) (at q : ℕ) → numbers_of n s at ≡ Ok q → (n ≤ (length s - at) / 4) × (q ≡ at + 4 * n)
 unfolding numbers_of
 numbers_next n s at q e = go (leb n ((length s - at) / 4)) refl e
   where
-    go : (t : Bool) → leb n ((length s - at) / 4) ≡ t → pick t (Next (at + 4 * n)) (Cut (at + 4 * ((length s - at) / 4)) 4) ≡ Next q → (n ≤ (length s - at) / 4) × (q ≡ at + 4 * n)
+    go : (t : Bool) → leb n ((length s - at) / 4) ≡ t → pick t (Ok (at + 4 * n)) (Err (past_end (at + 4 * ((length s - at) / 4)) 4)) ≡ Ok q → (n ≤ (length s - at) / 4) × (q ≡ at + 4 * n)
     go true l d = (leb-true n ((length s - at) / 4) l, (cc))
     go false l d = let z : ◌≡◌ {A = ℕ} 0 1 = cc in absurd (omega arith)
 
 -- of a table that starts within the slice
-pub table_fits : (n : ℕ) (s : List ℕ) (at q : ℕ) → at ≤ length s → numbers_of n s at ≡ Next q → at + 4 * n ≤ length s
+pub table_fits : (n : ℕ) (s : List ℕ) (at q : ℕ) → at ≤ length s → numbers_of n s at ≡ Ok q → at + 4 * n ≤ length s
 table_fits n s at q h e = let r = numbers_next n s at q e in omega (arith, r.0)
 
 -- ---- runs that are written: the words from a place on
@@ -137,9 +137,6 @@ words_pair n from k ws h =
     (words_at n from (2 * k) ws (omega arith), ap (λ (i : ℕ). get_or ws i 0) e ∙ words_at n from (2 * k + 1) ws h)
 
 -- the counts of a loop over what is there and has room: a turn less, the pairs that are there, and the place behind them
-pub count_down : (n k : ℕ) → k < n → n - (k + 1) < n - k
-count_down n k h = omega arith
-
 pub count_below : (n w r k : ℕ) → r ≡ min n w → k < r → k < n
 count_below n w r k e h = omega arith
 

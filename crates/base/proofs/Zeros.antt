@@ -1,5 +1,10 @@
 -- The first zero of a text: where it can stand, over a text in two parts, at a position of a slice; and what a text that was found says of its bounds.
 -- Assumes nothing.
+use Rattle.std.specs.Prelude.{Result, Ok, Err}
+use Rattle.base.specs.declared.error.TextError.{TextError}
+use Rattle.base.specs.Number.{past_end}
+use Rattle.base.proofs.Numbers.{ok_pair}
+use Rattle.base.specs.declared.error.TextError.TheVariants.{PastEnd, NoZero}
 use Prim.Native.Nat.{ℕ, zero, suc, ◌+◌, ◌-◌, ◌<◌, ◌≤◌, min}
 use mathlib.Core.Path.{◌≡◌, refl, sym, ap, ◌∙◌}
 use mathlib.Core.Bool.{Bool, true, false, not, ◌&&◌, true≢false}
@@ -13,7 +18,6 @@ use lib.ListN.{length, get_or, take, drop, length-append, length-take, length-dr
 use lib.Seq.{drop-cons, drop-drop}
 use Rattle.base.specs.Choice.{pick}
 use Rattle.base.specs.Text.{before_zero, every, zero_free, fixed_of, ended_of}
-use Rattle.base.specs.declared.text.TextAt.TheVariants.{Text, Past, Unended}
 
 -- ---- one byte
 
@@ -29,11 +33,11 @@ before_other b bs e = rw (ne_eqb _ _ e)
 
 -- and the test of all bytes fails at a zero, or goes on
 free_zero : (b : ℕ) (bs : List ℕ) → b ≡ 0 → zero_free (b ∷ bs) ≡ false
-unfolding zero_free every
+unfolding every
 free_zero b bs e = rw (eq-eqb _ _ e)
 
 free_other : (b : ℕ) (bs : List ℕ) → (b ≡ 0 → ⊥) → zero_free (b ∷ bs) ≡ zero_free bs
-unfolding zero_free every
+unfolding every
 free_other b bs e = rw (ne_eqb _ _ e)
 
 -- a byte that passes the test is above zero
@@ -130,7 +134,7 @@ before-skip (b ∷ bs) (suc k) h =
     (λ e. before_other b bs e ∙ ap suc (before-skip bs k (omega (arith, before_other b bs e))) ∙ sym (suc-add k (before_zero (drop k bs))))
 
 free_nil : zero_free [] ≡ true
-unfolding zero_free every
+unfolding every
 free_nil = refl
 
 free_take : (n : ℕ) (s : List ℕ) → n ≤ before_zero s → zero_free (take n s) ≡ true
@@ -199,17 +203,17 @@ pub record Fixed (n : ℕ) (s : List ℕ) (at len next : ℕ) : Type 0 where
   pub field : next ≡ at + min n (length s - at)
   pub fits : next ≤ length s
 
-pub fixed_text_lem : (n : ℕ) (s : List ℕ) (at len next : ℕ) → fixed_of n s at ≡ Text len next → Fixed n s at len next
+pub fixed_text_lem : (n : ℕ) (s : List ℕ) (at len next : ℕ) → fixed_of n s at ≡ Ok (len, next) → Fixed n s at len next
 unfolding fixed_of
 fixed_text_lem n s at len next e = go (leb (at + min n 1) (length s)) refl e
   where
     go : (t : Bool) → leb (at + min n 1) (length s) ≡ t
-        → pick t (Text (before_zero (take n (drop at s))) (at + length (take n (drop at s)))) (Past at n) ≡ Text len next
+        → pick {A = Result (ℕ × ℕ) TextError} t (Ok (before_zero (take n (drop at s)), at + length (take n (drop at s)))) (Err (PastEnd (past_end at n))) ≡ Ok (len, next)
         → Fixed n s at len next
     go true q e =
         let i : at + min n 1 ≤ length s = leb-true _ _ q in
-        let a : before_zero (take n (drop at s)) ≡ len = cc in
-        let b : at + length (take n (drop at s)) ≡ next = cc in
+        let a : before_zero (take n (drop at s)) ≡ len = (ok_pair e).0 in
+        let b : at + length (take n (drop at s)) ≡ next = (ok_pair e).1 in
         let l : length (take n (drop at s)) ≡ min n (length s - at) = simp (length-take, length-drop) in
         let z = before-le (take n (drop at s)) in
         record { starts = i; text = sym a; within = omega arith; field = omega arith; fits = omega arith }
@@ -221,22 +225,22 @@ pub record Ended (s : List ℕ) (at len next : ℕ) : Type 0 where
   pub after : next ≡ at + len + 1
   pub fits : next ≤ length s
 
-pub ended_text_lem : (s : List ℕ) (at len next : ℕ) → ended_of s at ≡ Text len next → Ended s at len next
+pub ended_text_lem : (s : List ℕ) (at len next : ℕ) → ended_of s at ≡ Ok (len, next) → Ended s at len next
 unfolding ended_of
 ended_text_lem s at len next e = go (ltb (at + before_zero (drop at s)) (length s)) refl e
   where
     go : (t : Bool) → ltb (at + before_zero (drop at s)) (length s) ≡ t
-        → pick t (Text (before_zero (drop at s)) (at + before_zero (drop at s) + 1)) (Unended at) ≡ Text len next
+        → pick {A = Result (ℕ × ℕ) TextError} t (Ok (before_zero (drop at s), at + before_zero (drop at s) + 1)) (Err (NoZero at)) ≡ Ok (len, next)
         → Ended s at len next
     go true q e =
         let i : at + before_zero (drop at s) < length s = ltb-true _ _ q in
-        let a : before_zero (drop at s) ≡ len = cc in
-        let b : at + before_zero (drop at s) + 1 ≡ next = cc in
+        let a : before_zero (drop at s) ≡ len = (ok_pair e).0 in
+        let b : at + before_zero (drop at s) + 1 ≡ next = (ok_pair e).1 in
         record { text = sym a; after = omega arith; fits = omega arith }
     go false q e = let z : ◌≡◌ {A = ℕ} 0 1 = cc in absurd (omega arith)
 
 -- where the text t stands, and a zero after it
-pub ended_there : (s : List ℕ) (at : ℕ) (t rest : List ℕ) → drop at s ≡ t ++ 0 ∷ rest → before_zero t ≡ length t → ended_of s at ≡ Text (length t) (at + length t + 1)
+pub ended_there : (s : List ℕ) (at : ℕ) (t rest : List ℕ) → drop at s ≡ t ++ 0 ∷ rest → before_zero t ≡ length t → ended_of s at ≡ Ok (length t, at + length t + 1)
 unfolding ended_of
 ended_there s at t rest e f =
     let b : before_zero (drop at s) ≡ length t = ap before_zero e ∙ before_free t (0 ∷ rest) f ∙ rw (before_zero_lem 0 rest refl, add-zero) in
@@ -244,21 +248,21 @@ ended_there s at t rest e f =
     rw (b, lt-ltb (at + length t) (length s) (omega arith))
 
 -- a text that is refused: no zero from its start on
-pub ended_unended : (s : List ℕ) (at a : ℕ) → ended_of s at ≡ Unended a → (length s ≤ at + before_zero (drop at s)) × (a ≡ at)
+pub ended_unended : (s : List ℕ) (at a : ℕ) → ended_of s at ≡ Err (NoZero a) → (length s ≤ at + before_zero (drop at s)) × (a ≡ at)
 unfolding ended_of
 ended_unended s at a e = go (ltb (at + before_zero (drop at s)) (length s)) refl e
   where
     go : (t : Bool) → ltb (at + before_zero (drop at s)) (length s) ≡ t
-        → pick t (Text (before_zero (drop at s)) (at + before_zero (drop at s) + 1)) (Unended at) ≡ Unended a
+        → pick {A = Result (ℕ × ℕ) TextError} t (Ok (before_zero (drop at s), at + before_zero (drop at s) + 1)) (Err (NoZero at)) ≡ Err (NoZero a)
         → (length s ≤ at + before_zero (drop at s)) × (a ≡ at)
     go true q e = let z : ◌≡◌ {A = ℕ} 0 1 = cc in absurd (omega arith)
     go false q e = (ltb-false _ _ q, cc)
 
 -- and it is refused for nothing else
-pub ended_never_past : (s : List ℕ) (at o m : ℕ) → ended_of s at ≡ Past o m → ⊥
+pub ended_never_past : (s : List ℕ) (at o m : ℕ) → ended_of s at ≡ Err (PastEnd (past_end o m)) → ⊥
 unfolding ended_of
 ended_never_past s at o m e = go (ltb (at + before_zero (drop at s)) (length s)) e
   where
-    go : (t : Bool) → pick t (Text (before_zero (drop at s)) (at + before_zero (drop at s) + 1)) (Unended at) ≡ Past o m → ⊥
+    go : (t : Bool) → pick {A = Result (ℕ × ℕ) TextError} t (Ok (before_zero (drop at s), at + before_zero (drop at s) + 1)) (Err (NoZero at)) ≡ Err (PastEnd (past_end o m)) → ⊥
     go true e = let z : ◌≡◌ {A = ℕ} 0 1 = cc in omega arith
     go false e = let z : ◌≡◌ {A = ℕ} 0 1 = cc in omega arith

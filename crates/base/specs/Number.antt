@@ -1,10 +1,9 @@
 -- Little-endian numbers of k bytes (document 01, 'Bytes and text'), for every k at once.
-use Rattle.std.specs.Prelude.{nat_le}
+use Rattle.std.specs.Prelude.{nat_le, Result, Ok, Err}
 use Rattle.std.specs.Prelude.{ℕ, zero, suc, ◌+◌, ◌*◌, ◌/◌, ◌%◌, List, [], ◌∷◌, length, take, drop}
 use Rattle.std.proofs.lemmas.List.Edits.{sets}
 use Rattle.base.specs.Choice.{pick}
-use Rattle.base.specs.declared.number.Read.{Read}
-use Rattle.base.specs.declared.number.Read.TheVariants.{Value, Past}
+use Rattle.base.specs.declared.error.PastEnd.{PastEnd}
 
 -- the k bytes of n, the least first
 unfoldable pub le : ℕ → ℕ → List ℕ
@@ -24,6 +23,10 @@ get k s at = val (take k (drop at s))
 unfoldable pub put : ℕ → List ℕ → ℕ → ℕ → List ℕ
 put k s at n = sets s at (le k n)
 
+-- a read or a seek past the end: the offset and what was requested
+abbrev pub past_end : ℕ → ℕ → PastEnd
+past_end offset requested = record { offset = offset; requested = requested }
+
 -- a read of k bytes at a position: the number and the position after it, or, past the end, the present position and k
-unfoldable pub read_of : ℕ → List ℕ → ℕ → Read
-read_of k s at = pick (nat_le (at + k) (length s)) (Value (get k s at) (at + k)) (Past at k)
+unfoldable pub read_of : ℕ → List ℕ → ℕ → Result (ℕ × ℕ) PastEnd
+read_of k s at = pick (nat_le (at + k) (length s)) (Ok (get k s at, at + k)) (Err (past_end at k))

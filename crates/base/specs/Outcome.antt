@@ -1,22 +1,15 @@
 -- The number and the values of an answer (document 01: the refusals' table, and 'Form by location' on an answer that is an enum).
 -- An accepted answer has the number 0.
-use Rattle.std.specs.Prelude.{◌==◌}
+use Rattle.std.specs.Prelude.{◌==◌, Result, Ok, Err}
 use Rattle.std.specs.Prelude.{ℕ, List, [], ◌∷◌, ◌++◌, length, take, replicate}
 use Rattle.base.specs.Choice.{pick}
 use Rattle.base.specs.Float.{pattern_of, patterns_of}
 use Rattle.base.specs.declared.outcome.Numbers.{Numbers}
-use Rattle.base.specs.declared.number.Read.{Read}
-use Rattle.base.specs.declared.number.Read.TheVariants.{Value, Past}
-use Rattle.base.specs.declared.run.Run.{Run}
-use Rattle.base.specs.declared.run.Run.TheVariants.{Next, Cut}
-use Rattle.base.specs.declared.seek.Sought.{Sought}
-use Rattle.base.specs.declared.seek.Sought.TheVariants.{At, Past as SoughtPast}
-use Rattle.base.specs.declared.text.TextAt.{TextAt}
-use Rattle.base.specs.declared.text.TextAt.TheVariants.{Text, Past as TextPast, Unended}
-use Rattle.base.specs.declared.float.ReadFloat.{ReadFloat}
-use Rattle.base.specs.declared.float.ReadFloat.TheVariants.{Value as FloatValue, Past as FloatPast}
-use Rattle.base.specs.declared.float.ReadHermite.{ReadHermite}
-use Rattle.base.specs.declared.float.ReadHermite.TheVariants.{Value as HermiteValue, Past as HermitePast}
+use Rattle.base.specs.declared.error.PastEnd.{PastEnd}
+use Rattle.base.specs.declared.error.TextError.{TextError}
+use Rattle.base.specs.declared.error.TextError.TheVariants.{PastEnd as TextPast, NoZero}
+use Rattle.base.specs.declared.float.Binary32.{Binary32}
+use Rattle.base.specs.declared.float.Hermite.{Hermite}
 
 pub record Outcome : Type 0 where
   pub number : ℕ
@@ -54,33 +47,46 @@ refused_past offset requested = refused 3 (offset ∷ requested ∷ [])
 abbrev pub refused_no_zero : ℕ → Outcome
 refused_no_zero start = refused 4 (start ∷ [])
 
+-- the same of the code's error
+abbrev pub of_past_end : PastEnd → Outcome
+of_past_end e = refused_past e.offset e.requested
+
+-- of a call that can be refused: the value's, or the error's
+abbrev pub outcome_of : {T E : Type 0} → (T → Outcome) → (E → Outcome) → Result T E → Outcome
+outcome_of value error (Ok v) = value v
+outcome_of value error (Err e) = error e
+
+-- a length or a count, accepted
+abbrev pub of_count : ℕ → Outcome
+of_count n = accepted (n ∷ [])
+
 -- a read: the number and the position after it
-unfoldable pub of_read : Read → Outcome
-of_read (Value n next) = accepted (n ∷ next ∷ [])
-of_read (Past offset requested) = refused_past offset requested
+unfoldable pub of_read : Result (ℕ × ℕ) PastEnd → Outcome
+of_read (Ok (n, next)) = accepted (n ∷ next ∷ [])
+of_read (Err e) = of_past_end e
 
 -- a seek: the position
-unfoldable pub of_sought : Sought → Outcome
-of_sought (At position) = accepted (position ∷ [])
-of_sought (SoughtPast offset requested) = refused_past offset requested
+unfoldable pub of_sought : Result ℕ PastEnd → Outcome
+of_sought (Ok position) = accepted (position ∷ [])
+of_sought (Err e) = of_past_end e
 
 -- a text: its length and the position after it
-unfoldable pub of_text : TextAt → Outcome
-of_text (Text len next) = accepted (len ∷ next ∷ [])
-of_text (TextPast offset requested) = refused_past offset requested
-of_text (Unended start) = refused_no_zero start
+unfoldable pub of_text : Result (ℕ × ℕ) TextError → Outcome
+of_text (Ok (len, next)) = accepted (len ∷ next ∷ [])
+of_text (Err (TextPast e)) = of_past_end e
+of_text (Err (NoZero start)) = refused_no_zero start
 
 -- a run: the position after it
-unfoldable pub of_run : Run → Outcome
-of_run (Next next) = accepted (next ∷ [])
-of_run (Cut offset requested) = refused_past offset requested
+unfoldable pub of_run : Result ℕ PastEnd → Outcome
+of_run (Ok next) = accepted (next ∷ [])
+of_run (Err e) = of_past_end e
 
 -- a binary32: its pattern and the position after it
-unfoldable pub of_float : ReadFloat → Outcome
-of_float (FloatValue x next) = accepted (pattern_of x ∷ next ∷ [])
-of_float (FloatPast offset requested) = refused_past offset requested
+unfoldable pub of_float : Result (Binary32 × ℕ) PastEnd → Outcome
+of_float (Ok (x, next)) = accepted (pattern_of x ∷ next ∷ [])
+of_float (Err e) = of_past_end e
 
 -- a Hermite key: the patterns of its frame, its value and its slope, and the position after it
-unfoldable pub of_hermite : ReadHermite → Outcome
-of_hermite (HermiteValue h next) = accepted ((patterns_of h).0 ∷ (patterns_of h).1 ∷ (patterns_of h).2 ∷ next ∷ [])
-of_hermite (HermitePast offset requested) = refused_past offset requested
+unfoldable pub of_hermite : Result (Hermite × ℕ) PastEnd → Outcome
+of_hermite (Ok (h, next)) = accepted ((patterns_of h).0 ∷ (patterns_of h).1 ∷ (patterns_of h).2 ∷ next ∷ [])
+of_hermite (Err e) = of_past_end e

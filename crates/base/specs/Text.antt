@@ -1,11 +1,12 @@
 -- Texts among bytes (document 01, 'Bytes and text'): up to the first zero, in a field of fixed length or up to the zero that ends it.
-use Rattle.std.specs.Prelude.{◌==◌, nat_le, nat_lt, slice_index}
+use Rattle.std.specs.Prelude.{◌==◌, Result, Ok, Err, nat_le, nat_lt, slice_index}
 use Rattle.std.specs.Prelude.{ℕ, suc, min, ◌+◌, Bool, true, not, ◌&&◌, List, [], ◌∷◌, length, take, drop}
 use Rattle.std.proofs.Math.Seq.{slice}
 use Rattle.base.specs.Choice.{pick}
 use Rattle.base.specs.Utf8.{valid_up_to}
-use Rattle.base.specs.declared.text.TextAt.{TextAt}
-use Rattle.base.specs.declared.text.TextAt.TheVariants.{Text, Past, Unended}
+use Rattle.base.specs.Number.{past_end}
+use Rattle.base.specs.declared.error.TextError.{TextError}
+use Rattle.base.specs.declared.error.TextError.TheVariants.{PastEnd, NoZero}
 
 -- how many bytes stand before the first zero; all, where there is none
 unfoldable pub before_zero : List ℕ → ℕ
@@ -30,7 +31,7 @@ ascii b = nat_lt b 128
 abbrev pub plain : ℕ → Bool
 plain b = not_zero b && ascii b
 
-unfoldable pub zero_free : List ℕ → Bool
+abbrev pub zero_free : List ℕ → Bool
 zero_free bs = every not_zero bs
 
 -- a plain text: 8 to 32 bytes from 01 to 7F
@@ -43,13 +44,13 @@ plain_at s at n = (nat_lt (at + n) (length s) && slice_index s (at + n) == 0) &&
 
 -- a field of n bytes, read up to its first zero; where the slice ends within it, what remains is the field, and where nothing remains it is
 -- refused. A field of no bytes is there up to the slice's end (`read_fixed_string(0)` of the Rust)
-unfoldable pub fixed_of : ℕ → List ℕ → ℕ → TextAt
+unfoldable pub fixed_of : ℕ → List ℕ → ℕ → Result (ℕ × ℕ) TextError
 fixed_of n s at =
-    pick (nat_le (at + min n 1) (length s)) (Text (before_zero (take n (drop at s))) (at + length (take n (drop at s))))
-    (Past at n)
+    pick (nat_le (at + min n 1) (length s)) (Ok (before_zero (take n (drop at s)), at + length (take n (drop at s))))
+    (Err (PastEnd (past_end at n)))
 
 -- a text that ends at a zero, which the next position is after; with no zero before the slice ends it is refused at its start
-unfoldable pub ended_of : List ℕ → ℕ → TextAt
+unfoldable pub ended_of : List ℕ → ℕ → Result (ℕ × ℕ) TextError
 ended_of s at =
-    pick (nat_lt (at + before_zero (drop at s)) (length s)) (Text (before_zero (drop at s)) (at + before_zero (drop at s) + 1))
-    (Unended at)
+    pick (nat_lt (at + before_zero (drop at s)) (length s)) (Ok (before_zero (drop at s), at + before_zero (drop at s) + 1))
+    (Err (NoZero at))

@@ -6,9 +6,10 @@ ghost use Rattle.base.specs.Number.{read_of};
 ghost use Rattle.base.specs.Seek.{seek_of};
 ghost use Rattle.base.specs.Text.{fixed_of, ended_of};
 
-use crate::number::{Read, read_u8, read_u16, read_u32};
-use crate::seek::{Sought, seek};
-use crate::text::{TextAt, ended_text, fixed_text};
+use crate::error::{PastEnd, TextError};
+use crate::number::{read_u8, read_u16, read_u32};
+use crate::seek::seek;
+use crate::text::{ended_text, fixed_text};
 
 #[derive(Clone, Copy)]
 pub struct Cursor<'a> {
@@ -23,38 +24,38 @@ impl<'a> Cursor<'a> {
         Cursor { data, pos }
     }
 
-    pub fn read_u8(self) -> Read
+    pub fn read_u8(self) -> Result<(u32, usize), PastEnd>
         ensures { result ≡ read_of 1 self.entry.«data».now self.entry.pos }
     {
         read_u8(self.data, self.pos)
     }
 
-    pub fn read_u16(self) -> Read
+    pub fn read_u16(self) -> Result<(u32, usize), PastEnd>
         ensures { result ≡ read_of 2 self.entry.«data».now self.entry.pos }
     {
         read_u16(self.data, self.pos)
     }
 
-    pub fn read_u32(self) -> Read
+    pub fn read_u32(self) -> Result<(u32, usize), PastEnd>
         ensures { result ≡ read_of 4 self.entry.«data».now self.entry.pos }
     {
         read_u32(self.data, self.pos)
     }
 
     // A field of `len` bytes, read up to its first zero.
-    pub fn read_fixed_string(self, len: usize) -> TextAt
+    pub fn read_fixed_string(self, len: usize) -> Result<(usize, usize), TextError>
         ensures { result ≡ fixed_of len self.entry.«data».now self.entry.pos }
     {
         fixed_text(self.data, self.pos, len)
     }
 
-    pub fn read_null_terminated_string(self) -> TextAt
+    pub fn read_null_terminated_string(self) -> Result<(usize, usize), TextError>
         ensures { result ≡ ended_of self.entry.«data».now self.entry.pos }
     {
         ended_text(self.data, self.pos)
     }
 
-    pub fn seek(self, pos: usize) -> Sought
+    pub fn seek(self, pos: usize) -> Result<usize, PastEnd>
         ensures { result ≡ seek_of self.entry.«data».now pos }
     {
         seek(self.data, pos)
@@ -62,39 +63,39 @@ impl<'a> Cursor<'a> {
 }
 
 // The number of one, two or four bytes at a position.
-pub fn u8_at(data: &[u8], pos: usize) -> Read
+pub fn u8_at(data: &[u8], pos: usize) -> Result<(u32, usize), PastEnd>
     ensures { result ≡ read_of 1 «data».now pos }
 {
     Cursor::at(data, pos).read_u8()
 }
 
-pub fn u16_at(data: &[u8], pos: usize) -> Read
+pub fn u16_at(data: &[u8], pos: usize) -> Result<(u32, usize), PastEnd>
     ensures { result ≡ read_of 2 «data».now pos }
 {
     Cursor::at(data, pos).read_u16()
 }
 
-pub fn u32_at(data: &[u8], pos: usize) -> Read
+pub fn u32_at(data: &[u8], pos: usize) -> Result<(u32, usize), PastEnd>
     ensures { result ≡ read_of 4 «data».now pos }
 {
     Cursor::at(data, pos).read_u32()
 }
 
 // The text in a field of `len` bytes, and the text that ends at a zero.
-pub fn fixed_string_at(data: &[u8], pos: usize, len: usize) -> TextAt
+pub fn fixed_string_at(data: &[u8], pos: usize, len: usize) -> Result<(usize, usize), TextError>
     ensures { result ≡ fixed_of len «data».now pos }
 {
     Cursor::at(data, pos).read_fixed_string(len)
 }
 
-pub fn null_terminated_string_at(data: &[u8], pos: usize) -> TextAt
+pub fn null_terminated_string_at(data: &[u8], pos: usize) -> Result<(usize, usize), TextError>
     ensures { result ≡ ended_of «data».now pos }
 {
     Cursor::at(data, pos).read_null_terminated_string()
 }
 
 // A seek: from any position it leads to the same, so it starts at 0.
-pub fn seek_to(data: &[u8], to: usize) -> Sought
+pub fn seek_to(data: &[u8], to: usize) -> Result<usize, PastEnd>
     ensures { result ≡ seek_of «data».now to }
 {
     Cursor::at(data, 0).seek(to)

@@ -3,36 +3,21 @@ ghost use Rattle.std.specs.Prelude.{◌≡◌, ◌+◌, ◌-◌, ◌≤◌, min,
 ghost use Rattle.std.proofs.lemmas.List.Edits.{sets};
 ghost use Rattle.base.specs.Fill.{padding_of};
 
-// How many places below `size` there are from `at` on.
-pub(crate) fn ahead(at: usize, size: usize) -> usize
-    ensures { result ≡ size - at }
-{
-    if at < size {
-        return size - at;
-    }
-    0
-}
-
 // How many of the `n` places from `at` on lie below `size`.
 pub(crate) fn room(n: usize, at: usize, size: usize) -> usize
     ensures { result ≡ min n (size - at) }
 {
-    let most = ahead(at, size);
-    if n < most {
-        return n;
-    }
-    most
+    n.min(size.saturating_sub(at))
 }
 
 // The first `n` bytes of `src`, from `at` on. The loop asks nothing of the bounds, so that it becomes one move of memory.
+// Kept: `copy_from_slice` asks for a part of `out`, and where nothing is copied there may be none at `at`, so each call would need a test.
 fn copy_first(src: &[u8], out: &mut [u8], at: usize, n: usize)
     requires { (n ≤ length src.now) × (n ≤ length out.old - at) }
     ensures { out.new ≡ sets out.old at (take n src.now) }
 {
-    let mut i = 0;
-    while i < n {
+    for i in 0..n {
         out[at + i] = src[i];
-        i += 1;
     }
 }
 
@@ -42,10 +27,8 @@ fn load(src: &[u8], at: usize, n: usize) -> [u8; 16]
     ensures { (length result ≡ 16) × (take n result ≡ take n (drop at src.now)) }
 {
     let mut block = [0u8; 16];
-    let mut k: usize = 0;
-    while k < n {
+    for k in 0..n {
         block[k] = src[at + k];
-        k += 1;
     }
     block
 }
@@ -59,19 +42,13 @@ fn copy_block(src: &[u8], from: usize, out: &mut [u8], at: usize, n: usize)
     copy_first(&block, out, at, n);
 }
 
-pub(crate) fn least(a: usize, b: usize) -> usize
-    ensures { result ≡ min a b }
-{
-    if a < b { a } else { b }
-}
-
 // 8 to 32 bytes as four blocks, which may overlap: one way for all these lengths, which a processor could not foresee.
 fn copy_four(src: &[u8], out: &mut [u8], at: usize, n: usize)
     requires { (8 ≤ n) × (n ≤ 32) × (n ≤ length src.now) × (n ≤ length out.old - at) }
     ensures { out.new ≡ sets out.old at (take n src.now) }
 {
     let last = n - 8;
-    let b = least(8, last);
+    let b = last.min(8);
     let c = last - b;
     copy_block(src, 0, out, at, 8);
     copy_block(src, b, out, at + b, 8);
@@ -103,7 +80,7 @@ pub(crate) fn copy_few(src: &[u8], out: &mut [u8], at: usize) -> usize
     ensures { (out.new ≡ sets out.old at src.now) × (result ≡ at + min (length src.now) (length out.old - at)) }
 {
     let n = src.len();
-    if ahead(at, out.len()) < 4 {
+    if out.len().saturating_sub(at) < 4 {
         return copy_on(src, out, at);
     }
     if 4 < n {
@@ -134,15 +111,12 @@ pub fn copy(src: &[u8], out: &mut [u8], at: usize)
     copy_on(src, out, at);
 }
 
-// `n` zeros, from `at` on.
+// `n` zeros, from `at` on. Kept: `fill` asks for a part of `out`, as `copy_from_slice` does.
 pub fn zeros(out: &mut [u8], at: usize, n: usize)
     ensures { out.new ≡ sets out.old at (replicate n 0) }
 {
-    let m = room(n, at, out.len());
-    let mut i = 0;
-    while i < m {
+    for i in 0..room(n, at, out.len()) {
         out[at + i] = 0;
-        i += 1;
     }
 }
 

@@ -6,7 +6,8 @@ ghost use Rattle.std.specs.Float.Ieee.{nan_bits};
 ghost use Rattle.base.specs.Number.{put};
 ghost use Rattle.base.specs.Float.{float_of, pattern_of, hermite_of, patterns_of, read_float_of, read_hermite_of, put_patterns};
 
-use crate::number::{Read, read_u32, write_u32};
+use crate::error::PastEnd;
+use crate::number::{read_u32, write_u32};
 
 // A number, or a NaN by its pattern.
 #[derive(Clone, Copy)]
@@ -32,24 +33,6 @@ pub enum Hermite {
 // The patterns of a frame, a value and a slope.
 #[derive(Clone, Copy)]
 pub struct HermiteBits(pub u32, pub u32, pub u32);
-
-// What a read of a binary32 gives.
-#[derive(Clone, Copy)]
-pub enum ReadFloat {
-    // The value, and the position after it.
-    Value(Binary32, usize),
-    // The slice ends first: the position, and how many bytes were asked for.
-    Past(usize, usize),
-}
-
-// What a read of a Hermite key gives.
-#[derive(Clone, Copy)]
-pub enum ReadHermite {
-    // The key, and the position after it.
-    Value(Hermite, usize),
-    // The slice ends first: the position of the number that is not whole, and how many bytes were asked for.
-    Past(usize, usize),
-}
 
 // Whether a pattern is a NaN's: above the infinity's, with the sign's bit off.
 pub fn is_nan(bits: u32) -> bool
@@ -108,13 +91,11 @@ pub fn hermite_to_bits(h: Hermite) -> HermiteBits
     }
 }
 
-pub fn read_f32(s: &[u8], at: usize) -> ReadFloat
+pub fn read_f32(s: &[u8], at: usize) -> Result<(Binary32, usize), PastEnd>
     ensures { result ≡ read_float_of s.now at }
 {
-    match read_u32(s, at) {
-        Read::Value(n, next) => ReadFloat::Value(from_bits(n), next),
-        Read::Past(place, asked) => ReadFloat::Past(place, asked),
-    }
+    let (bits, next) = read_u32(s, at)?;
+    Ok((from_bits(bits), next))
 }
 
 pub fn write_f32(out: &mut [u8], at: usize, x: Binary32)
@@ -123,21 +104,13 @@ pub fn write_f32(out: &mut [u8], at: usize, x: Binary32)
     write_u32(out, at, to_bits(x));
 }
 
-pub fn read_hermite(s: &[u8], at: usize) -> ReadHermite
+pub fn read_hermite(s: &[u8], at: usize) -> Result<(Hermite, usize), PastEnd>
     ensures { result ≡ read_hermite_of s.now at }
 {
-    match read_u32(s, at) {
-        Read::Past(place, asked) => ReadHermite::Past(place, asked),
-        Read::Value(frame, second) => match read_u32(s, second) {
-            Read::Past(place, asked) => ReadHermite::Past(place, asked),
-            Read::Value(value, third) => match read_u32(s, third) {
-                Read::Past(place, asked) => ReadHermite::Past(place, asked),
-                Read::Value(slope, next) => {
-                    ReadHermite::Value(hermite_from_bits(HermiteBits(frame, value, slope)), next)
-                }
-            },
-        },
-    }
+    let (frame, second) = read_u32(s, at)?;
+    let (value, third) = read_u32(s, second)?;
+    let (slope, next) = read_u32(s, third)?;
+    Ok((hermite_from_bits(HermiteBits(frame, value, slope)), next))
 }
 
 pub fn write_hermite(out: &mut [u8], at: usize, h: Hermite)

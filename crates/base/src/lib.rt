@@ -1,7 +1,9 @@
 // Bytes and text: what every layer above is made of. No function that another crate can call asks anything of its caller.
 #![tactic(auto)]
 
+mod byte_test;
 pub mod cursor;
+pub mod error;
 pub mod fill;
 pub mod float;
 pub mod number;

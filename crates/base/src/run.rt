@@ -5,17 +5,9 @@ ghost use Rattle.std.specs.Prelude.{◌≡◌, [], ◌∷◌, ◌+◌, ◌-◌, 
 ghost use Rattle.std.proofs.lemmas.List.Edits.{sets};
 ghost use Rattle.base.specs.Run.{numbers_at, numbers_of, pairs_at, pairs_of, cut_pair, stored_run, numbers_le, pairs_le};
 
-use crate::fill::{ahead, room};
+use crate::error::PastEnd;
+use crate::fill::room;
 use crate::number::{four, store_four, two, write_u32};
-
-// What a run gives.
-#[derive(Clone, Copy)]
-pub enum Run {
-    // The position after it.
-    Next(usize),
-    // The slice ends within it: the position of the number that is not whole, and how many bytes that has.
-    Cut(usize, usize),
-}
 
 // One word at `at`.
 pub fn put_word(out: &mut [u32], at: usize, v: u32)
@@ -30,71 +22,91 @@ pub fn put_word(out: &mut [u32], at: usize, v: u32)
 fn whole_numbers(s: &[u8], at: usize) -> usize
     ensures { result ≡ (length s.now - at) / 4 }
 {
-    ahead(at, s.len()) / 4
+    s.len().saturating_sub(at) / 4
 }
 
 // The answer of a run of `n` numbers of four bytes, which are not read.
-pub fn numbers_end(s: &[u8], at: usize, n: usize) -> Run
+pub fn numbers_end(s: &[u8], at: usize, n: usize) -> Result<usize, PastEnd>
     ensures { result ≡ numbers_of n s.now at }
 {
     let whole = whole_numbers(s, at);
     if whole < n {
-        return Run::Cut(at + 4 * whole, 4);
+        return Err(PastEnd {
+            offset: at + 4 * whole,
+            requested: 4,
+        });
     }
-    Run::Next(at + 4 * n)
+    Ok(at + 4 * n)
 }
 
 // `n` numbers of four bytes from `at` on, stored from `o` on.
-pub fn read_numbers(s: &[u8], at: usize, n: usize, out: &mut [u32], o: usize) -> Run
+pub fn read_numbers(
+    s: &[u8],
+    at: usize,
+    n: usize,
+    out: &mut [u32],
+    o: usize,
+) -> Result<usize, PastEnd>
     ensures { (result ≡ numbers_of n s.now at) × (out.new ≡ stored_run result out.old o (numbers_at n s.now at)) }
 {
     let whole = whole_numbers(s, at);
     if whole < n {
-        return Run::Cut(at + 4 * whole, 4);
+        return Err(PastEnd {
+            offset: at + 4 * whole,
+            requested: 4,
+        });
     }
     let m = room(n, o, out.len());
-    let mut k = 0;
-    while k < m {
+    for k in 0..m {
         out[o + k] = four(s, at + 4 * k);
-        k += 1;
     }
-    Run::Next(at + 4 * n)
+    Ok(at + 4 * n)
 }
 
 // `n` pairs of a number of four bytes and one of two, each pair in eight bytes, stored from `o` on.
-pub fn read_pairs(s: &[u8], at: usize, n: usize, out: &mut [u32], o: usize) -> Run
+pub fn read_pairs(
+    s: &[u8],
+    at: usize,
+    n: usize,
+    out: &mut [u32],
+    o: usize,
+) -> Result<usize, PastEnd>
     ensures { (result ≡ pairs_of n s.now at) × (out.new ≡ stored_run result out.old o (pairs_at n s.now at)) }
 {
-    let left = ahead(at, s.len());
+    let left = s.len().saturating_sub(at);
     let whole = (left + 2) / 8;
     if whole < n {
         return cut_pair(s, at + 8 * whole);
     }
     let m = room(2 * n, o, out.len());
     let full = m / 2;
-    let mut k = 0;
-    while k < full {
+    for k in 0..full {
         out[o + 2 * k] = four(s, at + 8 * k);
         out[o + 2 * k + 1] = two(s, at + 8 * k + 4);
-        k += 1;
     }
     // The first number of the next pair may have room. The answer is the same either way; each way has its own `return`, since they leave different
     // lists and are proved apart.
     if full < n {
         put_word(out, o + 2 * full, four(s, at + 8 * full));
-        return Run::Next(at + 8 * n);
+        return Ok(at + 8 * n);
     }
-    Run::Next(at + 8 * n)
+    Ok(at + 8 * n)
 }
 
 // The answer where the pair at `at` is not whole.
-fn cut_pair(s: &[u8], at: usize) -> Run
+fn cut_pair(s: &[u8], at: usize) -> Result<usize, PastEnd>
     ensures { result ≡ cut_pair s.now at }
 {
-    if ahead(at, s.len()) < 4 {
-        return Run::Cut(at, 4);
+    if s.len().saturating_sub(at) < 4 {
+        return Err(PastEnd {
+            offset: at,
+            requested: 4,
+        });
     }
-    Run::Cut(at + 4, 2)
+    Err(PastEnd {
+        offset: at + 4,
+        requested: 2,
+    })
 }
 
 // The `n` words from `from` on as numbers of four bytes, stored from `at` on. Those that have room go by a loop that tests nothing, so that it
@@ -103,11 +115,9 @@ pub fn write_numbers(words: &[u32], from: usize, n: usize, out: &mut [u8], at: u
     ensures { out.new ≡ sets out.old at (numbers_le (take n (drop from words.now))) }
 {
     let m = room(n, from, words.len());
-    let full = room(m, 0, ahead(at, out.len()) / 4);
-    let mut k = 0;
-    while k < full {
+    let full = room(m, 0, out.len().saturating_sub(at) / 4);
+    for k in 0..full {
         store_four(out, at + 4 * k, words[from + k]);
-        k += 1;
     }
     if full < m {
         write_u32(out, at + 4 * full, words[from + full]);
@@ -138,17 +148,15 @@ fn clip_pair(out: &mut [u8], at: usize, a: u32, b: u32)
 pub fn write_pairs(words: &[u32], from: usize, n: usize, out: &mut [u8], at: usize)
     ensures { out.new ≡ sets out.old at (pairs_le (take (2 * n) (drop from words.now))) }
 {
-    let m = room(n, 0, ahead(from, words.len()) / 2);
-    let full = room(m, 0, ahead(at, out.len()) / 8);
-    let mut k = 0;
-    while k < full {
+    let m = room(n, 0, words.len().saturating_sub(from) / 2);
+    let full = room(m, 0, out.len().saturating_sub(at) / 8);
+    for k in 0..full {
         store_pair(
             out,
             at + 8 * k,
             words[from + 2 * k],
             words[from + 2 * k + 1],
         );
-        k += 1;
     }
     if full < m {
         clip_pair(

@@ -2,24 +2,19 @@
 ghost use Rattle.std.specs.Prelude.{◌≡◌};
 ghost use Rattle.base.specs.Seek.{seek_of};
 
-use crate::fill::ahead;
+use crate::error::PastEnd;
 
-// What a seek gives.
-#[derive(Clone, Copy)]
-pub enum Sought {
-    // The position, which may be the slice's end.
-    At(usize),
-    // Beyond the end: the slice's length, and by how much.
-    Past(usize, usize),
-}
-
-pub fn seek(s: &[u8], to: usize) -> Sought
+// A seek to the slice's end is fine. Beyond it, the offset is the slice's length, and what was requested is the excess.
+pub fn seek(s: &[u8], to: usize) -> Result<usize, PastEnd>
     ensures { result ≡ seek_of s.now to }
 {
     let size = s.len();
-    let excess = ahead(size, to);
+    let excess = to.saturating_sub(size);
     if excess < 1 {
-        return Sought::At(to);
+        return Ok(to);
     }
-    Sought::Past(size, excess)
+    Err(PastEnd {
+        offset: size,
+        requested: excess,
+    })
 }

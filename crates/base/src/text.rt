@@ -3,34 +3,10 @@ ghost use Rattle.std.specs.Prelude.{◌≡◌, ◌+◌, ◌*◌, ◌≤◌, ◌<
 ghost use Rattle.base.specs.Choice.{pick};
 ghost use Rattle.base.specs.Text.{before_zero, zero_free, first_fault, fixed_of, ended_of, plain_at};
 
+use crate::byte_test::{NotZero, every_in};
+use crate::error::{PastEnd, TextError};
 use crate::utf8::first_ill;
 use crate::utf8::scan::is_plain;
-
-// Where a text was looked for, what is there.
-#[derive(Clone, Copy)]
-pub enum TextAt {
-    // The text's length, and the position after the text.
-    Text(usize, usize),
-    // The slice ends first: the position, and how many bytes were asked for.
-    Past(usize, usize),
-    // No zero before the slice ends: the text's start.
-    Unended(usize),
-}
-
-// Whether none of the `n` bytes from `at` on is zero. There is no test on the way, so that the loop runs on whole vectors where `n` is a
-// constant.
-fn clear_in(text: &[u8], at: usize, n: usize) -> bool
-    requires { at + n ≤ length text.now }
-    ensures { result ≡ zero_free (take n (drop at text.now)) }
-{
-    let mut clear = true;
-    let mut i: usize = 0;
-    while i < n {
-        clear = clear & (text[at + i] != 0);
-        i += 1;
-    }
-    clear
-}
 
 // A place that no zero stands before: behind the blocks of `size` bytes from `from` on that have none. Fewer than `size` bytes on, a zero or the
 // end stands; which place it is is left open, since `first_zero` finds the same zero from each.
@@ -39,12 +15,9 @@ fn clear_blocks(text: &[u8], from: usize, size: usize) -> usize
     ensures { (from ≤ result) × (result ≤ before_zero text.now) × (result + size ≤ length text.now → before_zero text.now < result + size) }
 {
     let mut at: usize = from;
-    while size <= text.len() - at {
-        if clear_in(text, at, size) {
-            at += size;
-        } else {
-            return at;
-        }
+    // Kept: the index goes on by blocks, and where it stops is the answer; `chunks` would have to be counted.
+    while size <= text.len() - at && every_in::<NotZero>(text, at, size) {
+        at += size;
     }
     at
 }
@@ -55,7 +28,11 @@ fn half(text: &[u8], at: usize, n: usize) -> usize
     requires { (at + 2 * n ≤ length text.now) × (at ≤ before_zero text.now) × (before_zero text.now < at + 2 * n) }
     ensures { (result ≤ before_zero text.now) × (before_zero text.now < result + n) × (result + n ≤ length text.now) }
 {
-    if clear_in(text, at, n) { at + n } else { at }
+    if every_in::<NotZero>(text, at, n) {
+        at + n
+    } else {
+        at
+    }
 }
 
 // The first zero, where it is among the 8 bytes from `at` on.
@@ -68,6 +45,7 @@ fn zero_in(text: &[u8], at: usize) -> usize
     half(text, b, 1)
 }
 
+// Kept: `8 * usize::from(test)` was tried. The compiler then adds the three tests up before it multiplies, and the search takes up to 3 % longer.
 fn eight_if(test: bool) -> usize
     ensures { (result ≡ pick test 8 0) × (result ≤ 8) }
 {
@@ -80,9 +58,9 @@ fn zero_block(text: &[u8], at: usize) -> usize
     requires { (at + 32 ≤ length text.now) × (at ≤ before_zero text.now) × (before_zero text.now < at + 32) }
     ensures { (result ≤ before_zero text.now) × (before_zero text.now < result + 8) × (result + 8 ≤ length text.now) }
 {
-    let a = clear_in(text, at, 8);
-    let b = clear_in(text, at + 8, 8);
-    let c = clear_in(text, at + 16, 8);
+    let a = every_in::<NotZero>(text, at, 8);
+    let b = every_in::<NotZero>(text, at + 8, 8);
+    let c = every_in::<NotZero>(text, at + 16, 8);
     at + eight_if(a) + eight_if(a & b) + eight_if(a & b & c)
 }
 
@@ -91,14 +69,12 @@ fn zero_from(text: &[u8], at: usize) -> usize
     requires { at ≤ length text.now }
     ensures { result ≡ at + before_zero (drop at text.now) }
 {
-    let mut i = at;
-    while i < text.len() {
+    for i in at..text.len() {
         if text[i] == 0 {
             return i;
         }
-        i += 1;
     }
-    i
+    text.len()
 }
 
 // The same where fewer than 8 bytes are left, and no zero stands before them: the last 8 bytes are tested together.
@@ -110,7 +86,7 @@ fn zero_behind(text: &[u8], at: usize) -> usize
     if n < 8 {
         return zero_from(text, at);
     }
-    if clear_in(text, n - 8, 8) {
+    if every_in::<NotZero>(text, n - 8, 8) {
         return n;
     }
     zero_from(text, at)
@@ -140,40 +116,46 @@ pub fn first_fault(text: &[u8]) -> usize
     }
     let zero = first_zero(text);
     let ill = first_ill(text);
-    if zero < ill { zero } else { ill }
+    zero.min(ill)
 }
 
 // A field of `n` bytes, read up to its first zero, and cut where the slice ends.
-pub fn fixed_text(s: &[u8], at: usize, n: usize) -> TextAt
+pub fn fixed_text(s: &[u8], at: usize, n: usize) -> Result<(usize, usize), TextError>
     ensures { result ≡ fixed_of n s.now at }
 {
     if s.len() < at {
-        return TextAt::Past(at, n);
+        return Err(TextError::PastEnd(PastEnd {
+            offset: at,
+            requested: n,
+        }));
     }
     let left = s.len() - at;
     if n <= left {
         let end = at + n;
-        return TextAt::Text(first_zero(&s[at..end]), end);
+        return Ok((first_zero(&s[at..end]), end));
     }
     if left == 0 {
-        return TextAt::Past(at, n);
+        return Err(TextError::PastEnd(PastEnd {
+            offset: at,
+            requested: n,
+        }));
     }
-    TextAt::Text(first_zero(&s[at..]), s.len())
+    Ok((first_zero(&s[at..]), s.len()))
 }
 
 // A text that ends at a zero.
-pub fn ended_text(s: &[u8], at: usize) -> TextAt
+pub fn ended_text(s: &[u8], at: usize) -> Result<(usize, usize), TextError>
     ensures { result ≡ ended_of s.now at }
 {
     if s.len() <= at {
-        return TextAt::Unended(at);
+        return Err(TextError::NoZero(at));
     }
     let n = first_zero(&s[at..]);
     let zero = at + n;
     if zero < s.len() {
-        TextAt::Text(n, zero + 1)
+        Ok((n, zero + 1))
     } else {
-        TextAt::Unended(at)
+        Err(TextError::NoZero(at))
     }
 }
 

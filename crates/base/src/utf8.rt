@@ -3,14 +3,12 @@ ghost use Rattle.std.specs.Prelude.{◌==◌, nat_lt, slice_index};
 ghost use Rattle.std.specs.Prelude.{◌≡◌, true, ◌&&◌, ◌+◌, ◌-◌, ◌≤◌, min, ltb, eqb, length, get_or, drop};
 ghost use Rattle.std.proofs.lemmas.List.Edits.{sets};
 ghost use Rattle.base.specs.Choice.{pick};
-ghost use Rattle.base.specs.Utf8.{Classes, class_of, replacement, decode, decoded_size, valid_up_to, replacements, well_formed};
-ghost use Rattle.base.specs.inner.Flow.{Rows};
+ghost use Rattle.base.specs.Utf8.{class_of, replacement, decode, decoded_size, valid_up_to, replacements, well_formed};
 ghost use Rattle.base.specs.inner.Scan.{added, Lones};
 
-use crate::fill::{ahead, copy, copy_few, copy_on};
-use crate::number::total;
-use crate::utf8::class::{CLASSES, class_in};
-use crate::utf8::flow::{ROWS, flow_over};
+use crate::fill::{copy, copy_few, copy_on};
+use crate::utf8::class::{CLASSES, ClassTable};
+use crate::utf8::flow::{Automaton, ROWS};
 use crate::utf8::scan::{is_ascii, next_run};
 use crate::utf8::step::{Step, step_at};
 
@@ -30,7 +28,7 @@ fn put_clipped(out: &mut [u8], at: usize) -> usize
 fn put_replacement(out: &mut [u8], at: usize) -> usize
     ensures { (out.new ≡ sets out.old at replacement) × (result ≡ at + min 3 (length out.old - at)) }
 {
-    if ahead(at, out.len()) < 3 {
+    if out.len().saturating_sub(at) < 3 {
         return put_clipped(out, at);
     }
     out[at] = 0xEF;
@@ -41,36 +39,29 @@ fn put_replacement(out: &mut [u8], at: usize) -> usize
 
 // Whether a short text is well-formed, by one way through the automaton. A no is left open: the caller then goes through the text as if nothing
 // had been asked.
-fn short_valid(text: &[u8], classes: &[u8; 256], rows: &[u64; 16]) -> bool
-    requires { Classes classes.now × Rows rows.now }
+fn short_valid(text: &[u8], automaton: Automaton) -> bool
     ensures { result ≡ true → valid_up_to text.now ≡ length text.now }
 {
     let n = text.len();
     if 64 < n {
         return false;
     }
-    flow_over(text, 0, n, 0, classes, rows) % 64 == 0
+    automaton.flow_over(text, 0, n, 0) % 64 == 0
 }
 
-// Where the first ill-formed subpart starts, or the length. A short text is looked at as a whole first: names are well-formed.
-fn ill_by(text: &[u8], classes: &[u8; 256], rows: &[u64; 16]) -> usize
-    requires { Classes classes.now × Rows rows.now }
-    ensures { result ≡ valid_up_to text.now }
-{
-    if short_valid(text, classes, rows) {
-        return text.len();
-    }
-    let run = next_run(text, 0, classes, rows);
-    run.end
-}
-
-// The same with the tables in place. It is asked of a text of which `is_ascii` says no.
+// Where the first ill-formed subpart starts, or the length. A short text is looked at as a whole first: names are well-formed. It is asked of a text
+// of which `is_ascii` says no, and is no part of what asks: an ASCII text then has nothing to do with the room for the tables.
+#[inline(never)]
 fn ill_mixed(text: &[u8]) -> usize
     ensures { result ≡ valid_up_to text.now }
 {
     let classes = CLASSES;
     let rows = ROWS;
-    ill_by(text, &classes, &rows)
+    let automaton = Automaton::new(&classes, &rows);
+    if short_valid(text, automaton) {
+        return text.len();
+    }
+    next_run(text, 0, automaton).end
 }
 
 // Where the first ill-formed subpart starts, or the length. A text that is seen to be ASCII has none.
@@ -86,23 +77,16 @@ pub fn first_ill(text: &[u8]) -> usize
 pub fn well_formed(text: &[u8]) -> bool
     ensures { result ≡ well_formed text.now }
 {
-    if is_ascii(text) {
-        return true;
-    }
-    ill_mixed(text) == text.len()
+    first_ill(text) == text.len()
 }
 
 // A byte that begins nothing is an ill-formed subpart by itself.
-fn lone(text: &[u8], at: usize, classes: &[u8; 256]) -> bool
-    requires { Classes classes.now }
+fn lone(text: &[u8], at: usize, classes: ClassTable) -> bool
     ensures { result ≡ (nat_lt at (length text.now) && class_of (slice_index text.now at) == 0) }
 {
     if at < text.len() {
-        let c = class_in(classes, text[at]);
-        if c == 0 {
-            return true;
-        }
-        return 9 < c;
+        let c = classes.class(text[at]);
+        return c == 0 || 9 < c;
     }
     false
 }
@@ -115,13 +99,14 @@ struct LoneEnd {
 }
 
 // Lone bytes from `i` on: a U+FFFD for each, from `o` on. Nothing is counted on the way: there are as many as bytes.
-fn put_lone(text: &[u8], i: usize, out: &mut [u8], o: usize, classes: &[u8; 256]) -> LoneEnd
-    requires { Classes classes.now × (i ≤ length text.now) }
+fn put_lone(text: &[u8], i: usize, out: &mut [u8], o: usize, classes: ClassTable) -> LoneEnd
+    requires { i ≤ length text.now }
     ensures { Lones text.now i result.end
         × (sets out.new result.next (decode (drop result.end text.now)) ≡ sets out.old o (decode (drop i text.now))) }
 {
     let mut end = i;
     let mut next = o;
+    // Kept: where the lone bytes end is the answer, and a `for` over what is left would have to carry it as well.
     while lone(text, end, classes) {
         next = put_replacement(out, next);
         end += 1;
@@ -135,11 +120,9 @@ fn decode_runs(
     text: &[u8],
     out: &mut [u8],
     at: usize,
-    classes: &[u8; 256],
-    rows: &[u64; 16],
+    automaton: Automaton,
     replaced: &mut usize,
 ) -> usize
-    requires { Classes classes.now × Rows rows.now }
     ensures { (result ≡ decoded_size text.now) × (replaced.new ≡ added replaced.old (replacements text.now))
         × (out.new ≡ sets out.old at (decode text.now)) }
 {
@@ -147,17 +130,18 @@ fn decode_runs(
     let mut o = at;
     let mut extra: usize = 0;
     let mut count: usize = 0;
+    // Kept: each turn goes on by as many bytes as it took.
     loop {
-        let lones = put_lone(text, i, out, o, classes);
+        let lones = put_lone(text, i, out, o, automaton.classes);
         let from = lones.end;
         count += from - i;
-        let run = next_run(text, from, classes, rows);
+        let run = next_run(text, from, automaton);
         let end = run.end;
         let skip = run.skip;
         let next = copy_on(&text[from..end], out, lones.next);
         if skip == 0 {
-            *replaced = total(*replaced, count);
-            return total(text.len(), 2 * count - extra);
+            *replaced = replaced.saturating_add(count);
+            return text.len().saturating_add(2 * count - extra);
         }
         o = put_replacement(out, next);
         extra += skip - 1;
@@ -166,35 +150,21 @@ fn decode_runs(
     }
 }
 
-// A short text as a whole first here too.
-fn decode_by(
-    text: &[u8],
-    out: &mut [u8],
-    at: usize,
-    classes: &[u8; 256],
-    rows: &[u64; 16],
-    replaced: &mut usize,
-) -> usize
-    requires { Classes classes.now × Rows rows.now }
-    ensures { (result ≡ decoded_size text.now) × (replaced.new ≡ added replaced.old (replacements text.now))
-        × (out.new ≡ sets out.old at (decode text.now)) }
-{
-    if short_valid(text, classes, rows) {
-        copy(text, out, at);
-        return text.len();
-    }
-    decode_runs(text, out, at, classes, rows, replaced)
-}
-
-// The same with the tables in place. It goes on with a part that is all of the text, for the reason that `is_ascii` does.
+// A short text as a whole first here too. It goes on with a part that is all of the text, for the reason that `is_ascii` does.
 fn decode_mixed(text: &[u8], out: &mut [u8], at: usize, replaced: &mut usize) -> usize
     ensures { (result ≡ decoded_size text.now) × (replaced.new ≡ added replaced.old (replacements text.now))
         × (out.new ≡ sets out.old at (decode text.now)) }
 {
+    let n = text.len();
+    let t = &text[0..n];
     let classes = CLASSES;
     let rows = ROWS;
-    let n = text.len();
-    decode_by(&text[0..n], out, at, &classes, &rows, replaced)
+    let automaton = Automaton::new(&classes, &rows);
+    if short_valid(t, automaton) {
+        copy(t, out, at);
+        return n;
+    }
+    decode_runs(t, out, at, automaton, replaced)
 }
 
 // How many bytes the text decodes to: it is decoded into nothing.
@@ -250,21 +220,18 @@ pub fn decode_known(
     text.len()
 }
 
-fn decode_steps(
-    text: &[u8],
-    out: &mut [u8],
-    at: usize,
-    classes: &[u8; 256],
-    replaced: &mut usize,
-) -> usize
-    requires { Classes classes.now }
+// The same, one character at a time: the plain form that the other one is measured against.
+pub fn decode_plain(text: &[u8], out: &mut [u8], at: usize, replaced: &mut usize) -> usize
     ensures { (result ≡ decoded_size text.now) × (replaced.new ≡ replacements text.now)
         × (out.new ≡ sets out.old at (decode text.now)) }
 {
+    let table = CLASSES;
+    let classes = ClassTable::new(&table);
     let mut i = 0;
     let mut o = at;
     let mut extra: usize = 0;
     let mut count: usize = 0;
+    // Kept: each turn goes on by as many bytes as its piece has.
     while i < text.len() {
         match step_at(text, i, classes) {
             Step::Good(k) => {
@@ -281,14 +248,5 @@ fn decode_steps(
         }
     }
     *replaced = count;
-    total(text.len(), 2 * count - extra)
-}
-
-// The same, one character at a time: the plain form that the other one is measured against.
-pub fn decode_plain(text: &[u8], out: &mut [u8], at: usize, replaced: &mut usize) -> usize
-    ensures { (result ≡ decoded_size text.now) × (replaced.new ≡ replacements text.now)
-        × (out.new ≡ sets out.old at (decode text.now)) }
-{
-    let classes = CLASSES;
-    decode_steps(text, out, at, &classes, replaced)
+    text.len().saturating_add(2 * count - extra)
 }

@@ -2,13 +2,15 @@
 -- Assumes nothing.
 use mathlib.Core.Bool.{Bool, ◌&&◌}
 use mathlib.Core.List.{List, [], ◌∷◌}
-use mathlib.Core.Path.{◌≡◌}
+use mathlib.Core.Path.{◌≡◌, refl}
 use Prim.Native.Nat.{ℕ, ◌*◌, ◌/◌, ◌%◌, ◌^◌, ◌<◌}
 use native.Mathlib.Omega.{arith}
 use lib.Dec.{T, eqb, ltb, eqb→eq, ltb→lt}
 use lib.ListN.{length, get_or}
 use Rattle.base.specs.Utf8.{rows, within, class_of, byte_class, Classes}
 use Rattle.base.specs.inner.Flow.{state_after, Rows}
+use Rattle.base.specs.declared.utf8.class.TheConstants.{CLASSES}
+use Rattle.base.specs.declared.utf8.flow.TheConstants.{ROWS}
 use Rattle.base.proofs.utf8.Steps.{byte_below}
 use Rattle.base.proofs.Table.{everywhere, at_entry, at_number, below, both_left, both_right}
 
@@ -55,3 +57,13 @@ rows_by r f = record { entry = λ x q h k. let b = by_class x q h k in (rw b.0 (
 
     held : (c q : ℕ) → c < 13 → q < 9 → get_or r c 0 / 2 ^ (6 * q) % 64 ≡ 6 * state_after q (sample c)
     held c q h k = eqb→eq _ _ (at_number (test c) 9 (at_number (λ d. below (test d) 9) 13 f c h) q k)
+
+-- ---- the tables of the code
+
+pub classes_hold : Classes CLASSES
+unfolding class_test byte_class class_of rows within
+classes_hold = classes_by CLASSES refl tt
+
+pub rows_hold : Rows ROWS
+unfolding row_test sample byte_class class_of rows within state_after
+rows_hold = rows_by ROWS tt

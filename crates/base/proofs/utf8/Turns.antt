@@ -1,5 +1,6 @@
 -- What a step of the code does at a position of a text.
 -- Assumes nothing.
+use Rattle.std.specs.Prelude.{Ok}
 use Prim.Native.Nat.{ℕ, zero, suc, min, ◌+◌, ◌-◌, ◌*◌, ◌<◌, ◌≤◌}
 use mathlib.Core.Path.{◌≡◌, refl, ap, ap₂, sym, ◌∙◌}
 use mathlib.Core.Bool.{Bool, true, false, ◌&&◌}
@@ -17,7 +18,6 @@ use Rattle.base.specs.Utf8.{rows, class_of, later_of, matched, more, good, step_
 use Rattle.base.specs.Choice.{pick}
 use Rattle.base.specs.Text.{before_zero, first_fault, every, not_zero, ascii, plain, is_plain, plain_at, ended_of}
 use Rattle.base.specs.inner.Scan.{ill_size, ascii_seen, added, Lones}
-use Rattle.base.specs.declared.text.TextAt.TheVariants.{Text}
 use Rattle.base.proofs.Stores.{sets_on}
 use Rattle.base.proofs.Tests.{every_at}
 use Rattle.base.proofs.Zeros.{byte_some, free_of, ended_there}
@@ -312,7 +312,7 @@ part_is i end s h = let e : i + (end - i) ≡ end = omega arith in take-drop i (
 -- a plain text at a position, with a zero behind it: the text that ends there, and it is shown as it is
 pub record PlainText (s : List ℕ) (at n : ℕ) : Type 0 where
   pub fits : at + n < length s
-  pub ended : ended_of s at ≡ Text n (at + n + 1)
+  pub ended : ended_of s at ≡ Ok (n, at + n + 1)
   pub shown : decode (slice at (at + n) s) ≡ slice at (at + n) s
 
 pub plain-text : (s : List ℕ) (at n : ℕ) → plain_at s at n ≡ true → PlainText s at n

@@ -3,7 +3,7 @@ ghost use Rattle.std.specs.Prelude.{◌≡◌, ◌≤◌, length};
 ghost use Rattle.base.specs.Utf8.{Classes};
 ghost use Rattle.base.specs.inner.Flow.{state_after, state_of, State, Rows, Flow};
 
-use crate::utf8::class::class_in;
+use crate::utf8::class::ClassTable;
 
 // For each class of a byte the states behind it, six bits for each state before it. A state is held as six times its number, so that it is
 // the shift.
@@ -26,32 +26,42 @@ pub(crate) const ROWS: [u64; 16] = [
     0,
 ];
 
-// The bits above the lowest six are left as they are: the next shift takes no notice of them.
-pub(crate) fn next_state(state: u64, b: u8, classes: &[u8; 256], rows: &[u64; 16]) -> u64
-    requires { State state × Classes classes.now × Rows rows.now }
-    ensures { State result × (state_of result ≡ state_after (state_of state) b) }
-{
-    let c = class_in(classes, b);
-    rows[c as usize] >> (state % 64)
+// The automaton: both tables, of which each step needs one entry.
+#[derive(Clone, Copy)]
+pub(crate) struct Automaton<'a> {
+    pub(crate) classes: ClassTable<'a>,
+    rows: &'a [u64; 16],
+    ghost hold: { Rows rows.now },
 }
 
-// The state behind the bytes from `from` to `stop`.
-pub(crate) fn flow_over(
-    s: &[u8],
-    from: usize,
-    stop: usize,
-    state: u64,
-    classes: &[u8; 256],
-    rows: &[u64; 16],
-) -> u64
-    requires { (from ≤ stop) × (stop ≤ length s.now) × State state × Classes classes.now × Rows rows.now }
-    ensures { Flow s.now from state stop result }
-{
-    let mut j = from;
-    let mut q = state;
-    while j < stop {
-        q = next_state(q, s[j], classes, rows);
-        j += 1;
+impl<'a> Automaton<'a> {
+    pub(crate) fn new(classes: &'a [u8; 256], rows: &'a [u64; 16]) -> Automaton<'a>
+        requires { Classes classes.now × Rows rows.now }
+    {
+        Automaton {
+            classes: ClassTable::new(classes),
+            rows,
+        }
     }
-    q
+
+    // The state behind a byte. The bits above the lowest six are left as they are: the next shift takes no notice of them.
+    pub(crate) fn next_state(self, state: u64, b: u8) -> u64
+        requires { State state }
+        ensures { State result × (state_of result ≡ state_after (state_of state) b) }
+    {
+        let c = self.classes.class(b);
+        self.rows[c as usize] >> (state % 64)
+    }
+
+    // The state behind the bytes from `from` to `stop`.
+    pub(crate) fn flow_over(self, s: &[u8], from: usize, stop: usize, state: u64) -> u64
+        requires { (from ≤ stop) × (stop ≤ length s.now) × State state }
+        ensures { Flow s.now from state stop result }
+    {
+        let mut q = state;
+        for j in from..stop {
+            q = self.next_state(q, s[j]);
+        }
+        q
+    }
 }

@@ -2,12 +2,12 @@
 ghost use Rattle.std.specs.Prelude.{◌==◌};
 ghost use Rattle.std.specs.Prelude.{◌≡◌, ◌&&◌, ◌+◌, ◌%◌, ◌≤◌, ◌<◌, min, max, eqb, length, take, drop};
 ghost use Rattle.base.specs.Text.{every, ascii, plain, is_plain};
-ghost use Rattle.base.specs.Utf8.{Classes, valid_up_to};
+ghost use Rattle.base.specs.Utf8.{valid_up_to};
 ghost use Rattle.base.specs.inner.Scan.{ill_size, ascii_seen};
-ghost use Rattle.base.specs.inner.Flow.{Rows, Flow};
+ghost use Rattle.base.specs.inner.Flow.{Flow};
 
-use crate::fill::least;
-use crate::utf8::flow::{flow_over, next_state};
+use crate::byte_test::{Ascii, Plain, every_in};
+use crate::utf8::flow::Automaton;
 
 // The end of the characters, and the number of bytes of the ill-formed subpart there; 0 at the text's end.
 #[derive(Clone, Copy)]
@@ -16,43 +16,13 @@ pub struct Run {
     pub skip: usize,
 }
 
-// Whether the `n` bytes from `at` on are ASCII. There is no test on the way, so that the loop runs on whole vectors where `n` is a constant.
-fn ascii_in(s: &[u8], at: usize, n: usize) -> bool
-    requires { at + n ≤ length s.now }
-    ensures { result ≡ every ascii (take n (drop at s.now)) }
-{
-    let mut all = true;
-    let mut k = 0;
-    while k < n {
-        all = all & (s[at + k] < 128);
-        k += 1;
-    }
-    all
-}
-
-// The same, and that none of them is zero: both tests are one comparison of vectors, which gives a mask at once. A text that was found by its
-// zero has no other.
-fn plain_in(s: &[u8], at: usize, n: usize) -> bool
-    requires { at + n ≤ length s.now }
-    ensures { result ≡ every plain (take n (drop at s.now)) }
-{
-    let mut all = true;
-    let mut k = 0;
-    while k < n {
-        let b = s[at + k];
-        all = all & (b != 0) & (b < 128);
-        k += 1;
-    }
-    all
-}
-
 // Whether a whole text of 32 to 64 bytes is ASCII, by its first 32 and its last.
 fn ascii_two(s: &[u8]) -> bool
     requires { (32 ≤ length s.now) × (length s.now ≤ 64) }
     ensures { result ≡ every ascii s.now }
 {
-    if ascii_in(s, 0, 32) {
-        return ascii_in(s, s.len() - 32, 32);
+    if every_in::<Ascii>(s, 0, 32) {
+        return every_in::<Ascii>(s, s.len() - 32, 32);
     }
     false
 }
@@ -65,14 +35,15 @@ fn ascii_long(s: &[u8]) -> bool
 {
     let n = s.len();
     let mut i = 0;
+    // Kept: a block is told by its place, since the last one overlaps; `chunks_exact` gives slices, and the last would be cut by itself.
     while 64 <= n - i {
-        if ascii_in(s, i, 64) {
+        if every_in::<Ascii>(s, i, 64) {
             i += 64;
         } else {
             return false;
         }
     }
-    ascii_in(s, n - 64, 64)
+    every_in::<Ascii>(s, n - 64, 64)
 }
 
 // Whether a whole text of 8 to 32 bytes is ASCII and without a zero. It is four blocks whatever the length, so that the processor has no length
@@ -82,11 +53,11 @@ fn plain_four(s: &[u8]) -> bool
     ensures { result ≡ every plain s.now }
 {
     let last = s.len() - 8;
-    let next = least(8, last);
-    let a = plain_in(s, 0, 8);
-    let b = plain_in(s, next, 8);
-    let c = plain_in(s, last - next, 8);
-    let d = plain_in(s, last, 8);
+    let next = last.min(8);
+    let a = every_in::<Plain>(s, 0, 8);
+    let b = every_in::<Plain>(s, next, 8);
+    let c = every_in::<Plain>(s, last - next, 8);
+    let d = every_in::<Plain>(s, last, 8);
     a & b & c & d
 }
 
@@ -100,7 +71,7 @@ pub(crate) fn is_ascii(s: &[u8]) -> bool
     let n = s.len();
     let t = &s[0..n];
     if n < 8 {
-        return ascii_in(t, 0, n);
+        return every_in::<Ascii>(t, 0, n);
     }
     if n < 33 {
         return plain_four(t);
@@ -131,7 +102,7 @@ fn plain_block(s: &[u8], at: usize, state: u64) -> bool
     ensures { result ≡ ((state % 64) == 0 && every ascii (take 32 (drop at s.now))) }
 {
     if state % 64 == 0 {
-        ascii_in(s, at, 32)
+        every_in::<Ascii>(s, at, 32)
     } else {
         false
     }
@@ -139,19 +110,12 @@ fn plain_block(s: &[u8], at: usize, state: u64) -> bool
 
 // The end of the text where the automaton comes to it between two characters, or `good`. Which of the two is left open: from either it is as far
 // to the first ill-formed subpart.
-fn last_block(
-    s: &[u8],
-    good: usize,
-    at: usize,
-    state: u64,
-    classes: &[u8; 256],
-    rows: &[u64; 16],
-) -> usize
-    requires { Flow s.now good 0 at state × Classes classes.now × Rows rows.now }
+fn last_block(s: &[u8], good: usize, at: usize, state: u64, automaton: Automaton) -> usize
+    requires { Flow s.now good 0 at state }
     ensures { (good ≤ result) × (result ≤ length s.now) × (result + valid_up_to (drop result s.now) ≡ good + valid_up_to (drop good s.now)) }
 {
     let n = s.len();
-    let q = flow_over(s, at, n, state, classes, rows);
+    let q = automaton.flow_over(s, at, n, state);
     if q % 64 == 0 {
         return n;
     }
@@ -160,20 +124,21 @@ fn last_block(
 
 // Whole characters, 32 bytes at a time, as far as that goes. `good` is the last end of a block that stands between two characters. How far it goes
 // is left open: the caller walks on from there, byte by byte.
-fn blocks(s: &[u8], from: usize, classes: &[u8; 256], rows: &[u64; 16]) -> usize
-    requires { (from ≤ length s.now) × Classes classes.now × Rows rows.now }
+fn blocks(s: &[u8], from: usize, automaton: Automaton) -> usize
+    requires { (from ≤ length s.now) }
     ensures { (from ≤ result) × (result ≤ length s.now) × (result + valid_up_to (drop result s.now) ≡ from + valid_up_to (drop from s.now)) }
 {
     let mut good = from;
     let mut j = from;
     let mut q: u64 = 0;
+    // Kept: where the walk stops, and in which state, is used behind the loop.
     while 32 <= s.len() - j {
         if plain_block(s, j, q) {
             j += 32;
             good = j;
         } else {
             let next = j + 32;
-            q = flow_over(s, j, next, q, classes, rows);
+            q = automaton.flow_over(s, j, next, q);
             j = next;
             if q % 64 == 6 {
                 return good;
@@ -183,19 +148,14 @@ fn blocks(s: &[u8], from: usize, classes: &[u8; 256], rows: &[u64; 16]) -> usize
             }
         }
     }
-    last_block(s, good, j, q, classes, rows)
-}
-
-fn at_least_one(n: usize) -> usize
-    ensures { result ≡ max n 1 }
-{
-    if n == 0 { 1 } else { n }
+    last_block(s, good, j, q, automaton)
 }
 
 // Byte by byte, until `stop` is reached or an ill-formed subpart is met. `i` is where the character starts that `j` stands in. How
 // near to `stop` it comes is left open: a character that `stop` cuts is left to the next run.
-fn walk(s: &[u8], from: usize, stop: usize, classes: &[u8; 256], rows: &[u64; 16]) -> Run
-    requires { (from ≤ stop) × (stop ≤ length s.now) × Classes classes.now × Rows rows.now }
+// Kept: `for j in from..stop` was tried, and ill-formed texts take 8 to 10 % longer.
+fn walk(s: &[u8], from: usize, stop: usize, automaton: Automaton) -> Run
+    requires { (from ≤ stop) × (stop ≤ length s.now) }
     ensures { (from ≤ result.end) × (result.end ≤ length s.now)
         × (result.end + valid_up_to (drop result.end s.now) ≡ from + valid_up_to (drop from s.now))
         × (result.skip ≡ 0 → stop ≡ length s.now → stop ≤ result.end)
@@ -205,11 +165,11 @@ fn walk(s: &[u8], from: usize, stop: usize, classes: &[u8; 256], rows: &[u64; 16
     let mut j = from;
     let mut q: u64 = 0;
     while j < stop {
-        q = next_state(q, s[j], classes, rows);
+        q = automaton.next_state(q, s[j]);
         if q % 64 == 6 {
             return Run {
                 end: i,
-                skip: at_least_one(j - i),
+                skip: (j - i).max(1),
             };
         }
         j += 1;
@@ -227,37 +187,29 @@ fn walk(s: &[u8], from: usize, stop: usize, classes: &[u8; 256], rows: &[u64; 16
 }
 
 // The rest of a text, by blocks; what is left of them byte by byte. It goes on with a part that is all of the text, for the reason that `is_ascii` does.
-fn far_run(s: &[u8], from: usize, classes: &[u8; 256], rows: &[u64; 16]) -> Run
-    requires { (from ≤ length s.now) × Classes classes.now × Rows rows.now }
+fn far_run(s: &[u8], from: usize, automaton: Automaton) -> Run
+    requires { (from ≤ length s.now) }
     ensures { (result.end ≡ from + valid_up_to (drop from s.now)) × (result.skip ≡ ill_size (drop result.end s.now)) }
 {
     let n = s.len();
     let t = &s[0..n];
-    let e = blocks(t, from, classes, rows);
-    walk(t, e, n, classes, rows)
-}
-
-// A place eight bytes on, or the end.
-fn near(from: usize, size: usize) -> usize
-    requires { from ≤ size }
-    ensures { result ≡ min (from + 8) size }
-{
-    if size - from < 8 { size } else { from + 8 }
+    let e = blocks(t, from, automaton);
+    walk(t, e, n, automaton)
 }
 
 // Behind an ill-formed subpart a few bytes one by one first: where there are many of them, the blocks would be tried in vain.
-pub(crate) fn next_run(s: &[u8], from: usize, classes: &[u8; 256], rows: &[u64; 16]) -> Run
-    requires { (from ≤ length s.now) × Classes classes.now × Rows rows.now }
+pub(crate) fn next_run(s: &[u8], from: usize, automaton: Automaton) -> Run
+    requires { (from ≤ length s.now) }
     ensures { (result.end ≡ from + valid_up_to (drop from s.now)) × (result.skip ≡ ill_size (drop result.end s.now)) }
 {
     if from == 0 {
-        return far_run(s, from, classes, rows);
+        return far_run(s, from, automaton);
     }
-    let stop = near(from, s.len());
-    let run = walk(s, from, stop, classes, rows);
+    let stop = from + (s.len() - from).min(8);
+    let run = walk(s, from, stop, automaton);
     let end = run.end;
     if run.skip != 0 {
         return run;
     }
-    far_run(s, end, classes, rows)
+    far_run(s, end, automaton)
 }

@@ -6,8 +6,8 @@ use lib.ListN.{length-set}
 use Rattle.base.proofs.Filling.{fill_none, each_one, each_two, each_three, each_four}
 use Rattle.base.proofs.fill.copy_few.Goals as goal
 
-pub returns-then-ahead-lt4 : goal.returns-then-ahead-lt4
-returns-then-ahead-lt4 c = c.copy_on.ensures
+pub returns-then-saturating_sub-lt4 : goal.returns-then-saturating_sub-lt4
+returns-then-saturating_sub-lt4 c = c.copy_on.ensures
 
 pub returns-then-n-gt4 : goal.returns-then-n-gt4
 returns-then-n-gt4 c = c.copy_on-then-n-gt4.ensures

@@ -1,15 +1,9 @@
 use mathlib.Core.Path.{◌≡◌, sym, ◌∙◌}
 use Prim.Native.Nat.{ℕ, ◌<◌}
 use native.Mathlib.Omega.{arith}
-use borrow.Author.Rules.{rules}
 use lib.ListN.{length, get_or, replicate, length-set, length-replicate, get_or-replicate}
-use Rattle.base.proofs.Filling.{fill_start, fill_turn, fill_end}
+use Rattle.base.proofs.Filling.{fill_turn, fill_end}
 use Rattle.base.proofs.fill.zeros.Goals as goal
-
-pub loop-i-init : goal.loop-i-init
-loop-i-init c =
-    let a = c.args in
-    (search rules, fill_start a.out.now a.at (replicate a.n 0))
 
 pub loop-i-preserved : goal.loop-i-preserved
 loop-i-preserved c =

@@ -2,15 +2,11 @@
 -- Assumes nothing.
 use mathlib.Core.Path.{sym, ◌∙◌}
 use Rattle.base.specs.Float.{float_of}
-use Rattle.base.proofs.Floats.{fails}
 use Rattle.base.proofs.float.from_bits.Goals as goal
 
 pub returns-then-is_nan : goal.returns-then-is_nan
 unfolding float_of
 returns-then-is_nan c = rw (sym c.is_nan.ensures ∙ c.if-is_nan.true)
-
-pub float_from_bits-result : goal.float_from_bits-result
-float_from_bits-result c = fails _ (sym c.is_nan.ensures ∙ c.if-is_nan.false)
 
 pub returns : goal.returns
 unfolding float_of

@@ -7,7 +7,7 @@ use Rattle.base.specs.Choice.{pick}
 use Rattle.base.specs.Float.{hermite_of}
 use Rattle.base.specs.declared.float.Hermite.TheVariants.{Floats, Patterns}
 use Rattle.base.specs.declared.float.HermiteBits.{HermiteBits}
-use Rattle.base.proofs.Floats.{fails, none_of}
+use Rattle.base.proofs.Floats.{none_of}
 use Rattle.base.proofs.float.hermite_from_bits.Goals as goal
 
 -- the three tests, whose results p, q and r the code joins
@@ -25,15 +25,6 @@ module _ (b : HermiteBits) {p q r : Bool} (ep : p ≡ nan_bits binary32 b.0) (eq
 
 pub returns-then-is_nan : goal.returns-then-is_nan
 returns-then-is_nan c = by_test c.args.bits c.is_nan.ensures c.is_nan-2.ensures c.is_nan-3.ensures true c.if-is_nan.true
-
-pub float_from_bits-result : goal.float_from_bits-result
-float_from_bits-result c = fails _ (none c.args.bits c.is_nan.ensures c.is_nan-2.ensures c.is_nan-3.ensures c.if-is_nan.false).0
-
-pub float_from_bits-result-2 : goal.float_from_bits-result-2
-float_from_bits-result-2 c = fails _ (none c.args.bits c.is_nan.ensures c.is_nan-2.ensures c.is_nan-3.ensures c.if-is_nan.false).1
-
-pub float_from_bits-result-3 : goal.float_from_bits-result-3
-float_from_bits-result-3 c = fails _ (none c.args.bits c.is_nan.ensures c.is_nan-2.ensures c.is_nan-3.ensures c.if-is_nan.false).2
 
 pub returns : goal.returns
 returns c = by_test c.args.bits c.is_nan.ensures c.is_nan-2.ensures c.is_nan-3.ensures false c.if-is_nan.false

@@ -1,13 +1,7 @@
--- `number::four` meets its contract: byte by byte, as the laws of `get` go.
--- Assumes nothing.
-use mathlib.Core.List.{List}
-use Prim.Native.Nat.{ℕ, ◌+◌}
-use native.Mathlib.Omega.{arith}
-use Rattle.base.proofs.Numbers.{get_zero, get_suc}
+-- `number::four` meets its contract: the library's number of four bytes is `get 4`. Assumes nothing.
+use Rattle.std.proofs.Common.{◌∙◌}
+use Rattle.base.proofs.Numbers.{from_four}
 use Rattle.base.proofs.number.four.Goals as goal
 
 pub returns : goal.returns
-returns c =
-    let s : List ℕ = c.args.s.now in
-    let a : ℕ = c.args.at in
-    omega (arith, get_suc 3 s a, get_suc 2 s (a + 1), get_suc 1 s (a + 1 + 1), get_suc 0 s (a + 1 + 1 + 1), get_zero s (a + 1 + 1 + 1 + 1))
+returns c = c.from_le_bytes.ensures ∙ from_four c.args.s.now c.args.at

@@ -6,8 +6,8 @@ use native.Mathlib.Omega.{arith}
 use Rattle.base.proofs.Numbers.{get_zero, get_suc, read_short, read_is}
 use Rattle.base.proofs.number.read_u8.Goals as goal
 
-pub returns-then-ahead-lt1 : goal.returns-then-ahead-lt1
-returns-then-ahead-lt1 c =
+pub returns-then-saturating_sub-lt1 : goal.returns-then-saturating_sub-lt1
+returns-then-saturating_sub-lt1 c =
     let a = c.args in
     sym (read_short 1 a.s.now a.at (omega arith))
 

@@ -1,22 +1,12 @@
--- `number::store_four` meets its contract: byte by byte, as the definition of the number's bytes goes. Assumes nothing.
-use native.Mathlib.Numerals.{add-one}
-use native.Mathlib.Omega.{arith}
-use lib.ListN.{length-set}
-use Rattle.base.specs.Number.{le, put}
+-- `number::store_four` meets its contract: the library's four bytes of a number are those that `put 4` stores. Assumes nothing.
+use Rattle.std.proofs.Common.{◌∙◌, ap, length}
+use Rattle.std.proofs.lemmas.List.Edits.{sets}
+use Rattle.base.proofs.Filling.{each_four}
+use Rattle.base.proofs.Numbers.{sets_four}
 use Rattle.base.proofs.number.store_four.Goals as goal
 
-pub bounds-out-b1 : goal.bounds-out-b1
-unfolding put le
-bounds-out-b1 c = simp length-set (omega arith)
-
-pub bounds-out-b2 : goal.bounds-out-b2
-unfolding put le
-bounds-out-b2 c = simp length-set (omega arith)
-
-pub bounds-out-b3 : goal.bounds-out-b3
-unfolding put le
-bounds-out-b3 c = simp length-set (omega arith)
-
 pub returns : goal.returns
-unfolding put le
-returns c = simp add-one
+returns c =
+    let a = c.args in
+    let e = c.to_le_bytes-bytes.ensures in
+    each_four a.out.now a.at c.to_le_bytes-bytes.result (ap length e) ∙ ap (sets a.out.now a.at) e ∙ sets_four a.out.now a.at a.v

@@ -1,13 +1,7 @@
--- `number::two` meets its contract: byte by byte, as the laws of `get` go.
--- Assumes nothing.
-use mathlib.Core.List.{List}
-use Prim.Native.Nat.{ℕ, ◌+◌}
-use native.Mathlib.Omega.{arith}
-use Rattle.base.proofs.Numbers.{get_zero, get_suc}
+-- `number::two` meets its contract: the library's number of two bytes is `get 2`. Assumes nothing.
+use Rattle.std.proofs.Common.{◌∙◌, arith}
+use Rattle.base.proofs.Numbers.{from_two}
 use Rattle.base.proofs.number.two.Goals as goal
 
 pub returns : goal.returns
-returns c =
-    let s : List ℕ = c.args.s.now in
-    let a : ℕ = c.args.at in
-    (omega (arith, get_suc 1 s a, get_suc 0 s (a + 1), get_zero s (a + 1 + 1)), omega arith)
+returns c = (c.from.ensures ∙ c.from_le_bytes.ensures ∙ from_two c.args.s.now c.args.at, omega (arith, c.from.ensures))

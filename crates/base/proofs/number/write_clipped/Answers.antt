@@ -1,12 +1,8 @@
-use mathlib.Core.Path.{refl, sym, ◌∙◌}
-use native.Mathlib.Nat.{add-zero, sub-zero}
+use mathlib.Core.Path.{sym, ◌∙◌}
 use native.Mathlib.Omega.{arith}
 use lib.ListN.{length-set}
 use Rattle.base.proofs.Numbers.{put-turn, put_end}
 use Rattle.base.proofs.number.write_clipped.Goals as goal
-
-pub loop-i-init : goal.loop-i-init
-loop-i-init c = (refl, rw (add-zero, sub-zero))
 
 pub loop-i-preserved : goal.loop-i-preserved
 loop-i-preserved c =

@@ -8,6 +8,3 @@ use Rattle.base.proofs.number.write_clipped.Given as goal
 
 abbrev pub invariant-loop-i : goal.invariant-loop-i
 invariant-loop-i l = (length l.out ≡ length l.initial.out) × (put (l.k - l.i) l.out (l.at + l.i) l.w ≡ put l.k l.initial.out l.at l.v)
-
-abbrev pub decreases-loop-i : goal.decreases-loop-i
-decreases-loop-i l = l.n - l.i

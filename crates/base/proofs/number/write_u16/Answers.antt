@@ -1,19 +1,7 @@
--- `number::write_u16` meets its contract: byte by byte, as the definition of the number's bytes goes. Assumes nothing.
-use native.Mathlib.Numerals.{add-one}
-use native.Mathlib.Omega.{arith}
-use lib.ListN.{length-set}
-use Rattle.base.specs.Number.{le, put}
-use borrow.Author.Rules.{rules}
+-- `number::write_u16` meets its contract: the library's two bytes of a number are those that `put 2` stores. Assumes nothing.
+use Rattle.std.proofs.Common.{add-one}
+use Rattle.base.proofs.Numbers.{sets_two}
 use Rattle.base.proofs.number.write_u16.Goals as goal
 
-pub returns-then-ahead-lt2 : goal.returns-then-ahead-lt2
-unfolding put le
-returns-then-ahead-lt2 c = search rules
-
-pub bounds-out-b1 : goal.bounds-out-b1
-unfolding put le
-bounds-out-b1 c = simp length-set (omega arith)
-
 pub returns : goal.returns
-unfolding put le
-returns c = simp add-one
+returns c = rw c.to_le_bytes-bytes.ensures (simp add-one (sets_two c.args.out.now c.args.at c.args.v))

@@ -3,13 +3,8 @@ use mathlib.Core.Path.{◌∙◌}
 use Prim.Native.Nat.{◌*◌, ◌≤◌}
 use native.Mathlib.Omega.{arith}
 use lib.ListN.{length}
-use Rattle.base.proofs.Placeholders.{gaps_none, gaps_one, zeros-most}
+use Rattle.base.proofs.Placeholders.{gaps_one, zeros-most}
 use Rattle.base.proofs.placeholder.write_gaps.Goals as goal
-
-pub returns-then-n-eq0 : goal.returns-then-n-eq0
-returns-then-n-eq0 c =
-    let a = c.args in
-    gaps_none a.out.now a.at a.n c.if-n-eq0.true
 
 pub returns-then-n-eq1 : goal.returns-then-n-eq1
 returns-then-n-eq1 c =

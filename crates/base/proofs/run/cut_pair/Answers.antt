@@ -7,9 +7,9 @@ use Rattle.base.proofs.run.cut_pair.Goals as goal
 
 -- `run::cut_pair` meets its contract.
 -- Assumes nothing.
-pub returns-then-ahead-lt4 : goal.returns-then-ahead-lt4
+pub returns-then-saturating_sub-lt4 : goal.returns-then-saturating_sub-lt4
 unfolding cut_pair
-returns-then-ahead-lt4 c = let h : length c.args.s.now < c.args.at + 4 = omega arith in rw (lt-leb _ _ h)
+returns-then-saturating_sub-lt4 c = let h : length c.args.s.now < c.args.at + 4 = omega arith in rw (lt-leb _ _ h)
 
 pub returns : goal.returns
 unfolding cut_pair

@@ -1,21 +1,18 @@
+use Rattle.std.specs.Prelude.{Err}
+use Rattle.base.specs.Number.{past_end}
 use Prim.Native.Nat.{ℕ, ◌+◌, ◌*◌, ◌<◌}
 use mathlib.Core.Path.{◌≡◌, sym, ap, ◌∙◌}
 use native.Mathlib.Omega.{arith}
 use lib.ListN.{length, drop, set, get_or, length-set}
 use lib.Seq.{sets}
-use Rattle.base.specs.declared.run.Run.TheVariants.{Cut}
 use Rattle.base.specs.Run.{numbers_at}
-use Rattle.base.proofs.Filling.{fill_start, fill_turn, fill_end}
+use Rattle.base.proofs.Filling.{fill_turn, fill_end}
 use Rattle.base.proofs.Runs.{length-numbers, numbers_at_lem, numbers-whole, numbers_cut, stored_next, stored_cut}
-use borrow.Author.Rules.{rules}
 use Rattle.base.proofs.run.read_numbers.Goals as goal
 
 pub returns-then-whole-n : goal.returns-then-whole-n
 returns-then-whole-n c =
-    (ap (λ (x : ℕ). Cut (c.args.at + 4 * x) 4) c.whole_numbers-whole.ensures ∙ sym (numbers_cut c.args.n c.args.s.now c.args.at (omega arith)), sym (stored_cut _ _ _ _ _))
-
-pub loop-k-init : goal.loop-k-init
-loop-k-init c = (omega arith, search rules, fill_start c.args.out.now c.args.o (numbers_at c.args.n c.args.s.now c.args.at))
+    (ap (λ (x : ℕ). Err (past_end (c.args.at + 4 * x) 4)) c.whole_numbers-whole.ensures ∙ sym (numbers_cut c.args.n c.args.s.now c.args.at (omega arith)), sym (stored_cut _ _ _ _ _))
 
 pub loop-k-preserved : goal.loop-k-preserved
 loop-k-preserved c =

@@ -1,24 +1,21 @@
 use Prim.Native.Nat.{ℕ, min, ◌+◌, ◌-◌, ◌*◌, ◌/◌, ◌≤◌}
-use mathlib.Core.Path.{◌≡◌, refl, sym, ap, ◌∙◌}
+use mathlib.Core.Path.{◌≡◌, sym, ap, ◌∙◌}
 use native.Mathlib.Omega.{arith}
 use lib.ListN.{length, drop, length-set}
 use lib.Seq.{sets}
 use Rattle.base.specs.Run.{pairs_at, cut_pair, stored_run}
-use Rattle.base.proofs.Filling.{fill_start, fill_end}
+use Rattle.base.proofs.Filling.{fill_end}
 use Rattle.base.proofs.Runs.{length_pairs, pairs_first, pairs_second, pairs_whole, pairs_cut, pair_turn, pair_last, stored_next, stored_cut_pair}
 use Rattle.base.proofs.run.read_pairs.Goals as goal
 
 pub returns-then-whole-n : goal.returns-then-whole-n
 returns-then-whole-n c =
-    let e = c.ahead-left.ensures in
+    let e = c.saturating_sub-left.ensures in
     let w = ap (λ (x : ℕ). cut_pair c.args.s.now (c.args.at + 8 * ((x + 2) / 8))) e in
     let q = c.cut_pair.ensures ∙ w in (
       q ∙ sym (pairs_cut c.args.n c.args.s.now c.args.at (omega arith)),
       sym (ap (λ r. stored_run r c.args.out.now c.args.o (pairs_at c.args.n c.args.s.now c.args.at)) q ∙ stored_cut_pair _ _ _ _ _),
     )
-
-pub loop-k-init : goal.loop-k-init
-loop-k-init c = (omega arith, omega arith, refl, fill_start c.args.out.now c.args.o (pairs_at c.args.n c.args.s.now c.args.at))
 
 pub loop-k-preserved : goal.loop-k-preserved
 loop-k-preserved c =
@@ -46,6 +43,3 @@ returns c =
     let v = pairs_at c.args.n c.args.s.now c.args.at in
     let l = length_pairs c.args.n c.args.s.now c.args.at in
     (sym (pairs_whole _ _ _ (omega arith)), sym (fill_end c.loop-k.out c.args.o (2 * c.loop-k.k) v (omega (arith, l, c.loop-k.invariant.1))) ∙ c.loop-k.invariant.3 ∙ sym (stored_next _ _ _ _))
-
-pub bounds-out-o-in-loop-k : goal.bounds-out-o-in-loop-k
-bounds-out-o-in-loop-k c = simp length-set (omega arith)

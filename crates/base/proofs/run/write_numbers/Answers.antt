@@ -1,19 +1,12 @@
 use Prim.Native.Nat.{ℕ, ◌+◌, ◌*◌, ◌≤◌, ◌<◌}
-use mathlib.Core.Path.{◌≡◌, refl, sym, ap, ◌∙◌}
+use mathlib.Core.Path.{◌≡◌, sym, ap, ◌∙◌}
 use mathlib.Core.List.{List}
 use native.Mathlib.Omega.{arith}
 use lib.ListN.{length, take, drop}
 use lib.Seq.{sets}
 use Rattle.base.specs.Run.{numbers_le}
-use Rattle.base.proofs.Filling.{fill_start}
-use Rattle.base.proofs.Runs.{length-words, words_at, count_down, numbers_le-turn, numbers_le_last, numbers_le_end}
+use Rattle.base.proofs.Runs.{length-words, words_at, numbers_le-turn, numbers_le_last, numbers_le_end}
 use Rattle.base.proofs.run.write_numbers.Goals as goal
-
-pub loop-k-init : goal.loop-k-init
-loop-k-init c = (omega arith, refl, fill_start c.args.out.now c.args.at (numbers_le (take c.args.n (drop c.args.from c.args.words.now))))
-
-pub loop-k-smaller : goal.loop-k-smaller
-loop-k-smaller c = count_down c.room-full.result c.loop-k.k c.loop-k-test.true
 
 pub loop-k-preserved : goal.loop-k-preserved
 loop-k-preserved c =

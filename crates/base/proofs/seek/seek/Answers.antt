@@ -12,4 +12,4 @@ returns-then-excess-lt1 c =
 pub returns : goal.returns
 returns c =
     let a = c.args in
-    rw c.ahead-excess.ensures (sym (seek_over a.s.now a.to (omega arith)))
+    rw c.saturating_sub-excess.ensures (sym (seek_over a.s.now a.to (omega arith)))

@@ -1,5 +1,7 @@
 -- `text::ended_text` meets its contract.
 -- Assumes nothing.
+use Rattle.std.specs.Prelude.{Ok, Err}
+use Rattle.base.specs.declared.error.TextError.TheVariants.{NoZero}
 use Prim.Native.Nat.{ℕ, ◌+◌, ◌-◌, ◌<◌, ◌≤◌}
 use mathlib.Core.Path.{◌≡◌, ap, ◌∙◌}
 use mathlib.Core.List.{List}
@@ -8,12 +10,11 @@ use borrow.Author.Tests.{lt-ltb, le-ltb}
 use lib.ListN.{length, take, drop, length-drop}
 use lib.Seq.{take_all}
 use Rattle.base.specs.Text.{before_zero, ended_of}
-use Rattle.base.specs.declared.text.TextAt.TheVariants.{Text, Unended}
 use Rattle.base.proofs.Zeros.{before-le}
 use Rattle.base.proofs.text.ended_text.Goals as goal
 
 module _ (s : List ℕ) (at : ℕ) where
-  past : length s ≤ at → Unended at ≡ ended_of s at
+  past : length s ≤ at → Err (NoZero at) ≡ ended_of s at
   unfolding ended_of
   past h = rw (le-ltb (at + before_zero (drop at s)) (length s) (omega arith))
 
@@ -27,11 +28,11 @@ module _ (s : List ℕ) (at : ℕ) where
       omega (arith, whole r e)
 
   module _ (r : ℕ) (e : r ≡ before_zero (take (length s - at) (drop at s))) where
-    found : at + r < length s → Text r (at + r + 1) ≡ ended_of s at
+    found : at + r < length s → Ok (r, at + r + 1) ≡ ended_of s at
     unfolding ended_of
     found h = rw (← whole r e, lt-ltb (at + r) (length s) h)
 
-    none : length s ≤ at + r → Unended at ≡ ended_of s at
+    none : length s ≤ at + r → Err (NoZero at) ≡ ended_of s at
     unfolding ended_of
     none h = rw (← whole r e, le-ltb (at + r) (length s) h)
 

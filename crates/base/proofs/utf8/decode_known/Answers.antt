@@ -10,7 +10,7 @@ use lib.Seq.{sets}
 use Rattle.base.specs.Choice.{pick}
 use Rattle.base.specs.Utf8.{decode, decoded_size, replacements}
 use Rattle.base.specs.inner.Scan.{ascii_seen}
-use Rattle.base.proofs.utf8.Turns.{seen_ascii, ascii-decode, ascii-size, ascii-none, added_is}
+use Rattle.base.proofs.utf8.Turns.{seen_ascii, ascii-decode, ascii-size, ascii-none}
 use Rattle.base.proofs.utf8.decode_known.Goals as goal
 use Rattle.base.proofs.utf8.decode_known.Goals.{then-not-plain+else-not-is_ascii, else-not-plain}
 
@@ -19,12 +19,6 @@ as_it_is : (s : List ℕ) (plain : Bool) (before : ℕ) → length s < 184467440
     → (length s ≡ pick plain (length s) (decoded_size s)) × (before ≡ min (before + pick plain 0 (replacements s)) 18446744073709551615) × (s ≡ pick plain s (decode s))
 as_it_is s true before h b e = (refl, omega arith, refl)
 as_it_is s false before h b e = let f = seen_ascii s (e refl) in let n = ascii-none s f in (ascii-size s h f, omega arith, sym (ascii-decode s f))
-
-pub returns-then-not-is_ascii : goal.returns-then-not-is_ascii
-returns-then-not-is_ascii c =
-    let e = c.decode_mixed-n.ensures in
-    let p : c.args.plain ≡ false = c.if-not-plain.true in
-    rw p (e.0, e.1 ∙ sym (added_is _ _ (omega (arith, c.well_formed))), e.2)
 
 pub returns : goal.returns
 returns c =

@@ -36,8 +36,8 @@ pub returns-then-skip-eq0 : goal.returns-then-skip-eq0
 returns-then-skip-eq0 c =
     let r = run (goal.at.returns-then-skip-eq0 c).After-next_run-run in
     let n = counted_last _ _ _ _ _ _ (lones (goal.at.returns-then-skip-eq0 c).After-put_lone-lones) r c.if-skip-eq0.true in (
-      counted-size _ _ _ n.0 c.total-then-skip-eq0.ensures,
-      c.total.ensures ∙ ap₂ (λ (a b : ℕ). min (a + b) 18446744073709551615) c.loop-replaced.invariant.3 n.1 ∙ added_is _ _ (omega (arith, c.loop-replaced.invariant.3, c.row_known-1.given)),
+      counted-size _ _ _ n.0 c.saturating_add-then-skip-eq0.ensures,
+      c.saturating_add.ensures ∙ ap₂ (λ (a b : ℕ). min (a + b) 18446744073709551615) c.loop-replaced.invariant.3 n.1 ∙ added_is _ _ (omega (arith, c.loop-replaced.invariant.3, c.row_known-1.given)),
       c.copy_on-next.ensures.0 ∙ ap (sets c.put_lone-lones.new.out c.put_lone-lones.result.next) (part_is _ _ _ r.start ∙ sym (r.whole c.if-skip-eq0.true)) ∙ c.put_lone-lones.ensures.1 ∙ c.loop-replaced.invariant.2,
     )
 

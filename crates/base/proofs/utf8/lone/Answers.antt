@@ -4,7 +4,7 @@ use Prim.Native.Nat.{ℕ, ◌<◌}
 use mathlib.Core.Path.{◌≡◌, refl, sym, ◌∙◌}
 use mathlib.Core.Bool.{Bool, true, false, ◌&&◌}
 use native.Mathlib.Omega.{arith}
-use borrow.Author.Tests.{eq-eqb, ne_eqb, lt-ltb, le-ltb, ltb-true, ltb-false}
+use borrow.Author.Tests.{eq-eqb, ne_eqb, lt-ltb, ltb-true, ltb-false}
 use lib.Dec.{ltb, eqb}
 use Rattle.base.specs.Utf8.{class_of, byte_class}
 use Rattle.base.proofs.utf8.Steps.{class_row, class_tail}
@@ -25,10 +25,7 @@ module _ (at n x c : ℕ) (h : at < n) (e : c ≡ byte_class x) where
           rw (lt-ltb at n h, ne_eqb (class_of x) 0 (λ z. k (sym (class_row x c e (omega arith)) ∙ z)))
 
 pub returns-then-c-eq0 : goal.returns-then-c-eq0
-returns-then-c-eq0 c = none _ _ _ _ c.if-at-text.true c.class_in-c.ensures c.if-c-eq0.true
+returns-then-c-eq0 c = rw (eq-eqb _ _ c.if-c-eq0.true) (none _ _ _ _ c.if-at-text.true c.class-c.ensures c.if-c-eq0.true)
 
-pub returns-then-at-text : goal.returns-then-at-text
-returns-then-at-text c = tail _ _ _ _ c.if-at-text.true c.class_in-c.ensures c.if-c-eq0.false
-
-pub returns : goal.returns
-returns c = rw (le-ltb _ _ c.if-at-text.false)
+pub returns-else-c-eq0 : goal.returns-else-c-eq0
+returns-else-c-eq0 c = tail _ _ _ _ c.if-at-text.true c.class-c.ensures c.if-c-eq0.false

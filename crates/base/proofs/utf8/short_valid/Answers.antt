@@ -1,7 +1,5 @@
 -- `utf8::short_valid` meets its contract.
 -- Assumes nothing.
-use mathlib.Core.Path.{sym}
-use mathlib.Core.Bool.{true≢false}
 use native.Mathlib.Omega.{arith}
 use borrow.Author.Tests.{eqb-true}
 use lib.ListN.{length}
@@ -9,11 +7,8 @@ use Rattle.base.proofs.utf8.Automaton.{zero_state, state_zero, flow_end}
 use Rattle.base.proofs.utf8.Turns.{valid_end}
 use Rattle.base.proofs.utf8.short_valid.Goals as goal
 
-pub returns-then-n-gt64 : goal.returns-then-n-gt64
-returns-then-n-gt64 c = λ e. absurd (true≢false (sym e))
-
 pub flow_over-requires : goal.flow_over-requires
-flow_over-requires c = (omega arith, omega arith, zero_state, c.requires.0, c.requires.1)
+flow_over-requires c = (omega arith, omega arith, zero_state)
 
 pub returns : goal.returns
 returns c = λ e.

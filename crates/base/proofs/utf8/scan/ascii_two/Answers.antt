@@ -7,8 +7,8 @@ use Rattle.base.specs.Text.{ascii}
 use Rattle.base.proofs.Tests.{every_in, every_fails, every_last}
 use Rattle.base.proofs.utf8.scan.ascii_two.Goals as goal
 
-pub returns-then-ascii_in : goal.returns-then-ascii_in
-returns-then-ascii_in c = every_last ascii c.args.s.now 32 32 _ c.requires.0 c.requires.1 (λ k h. rw zero-add at (every_in ascii c.args.s.now 0 32 (omega arith) (sym c.ascii_in.ensures ∙ c.if-ascii_in.true) k h)) c.ascii_in-then-ascii_in.ensures
+pub returns-then-every_in : goal.returns-then-every_in
+returns-then-every_in c = every_last ascii c.args.s.now 32 32 _ c.requires.0 c.requires.1 (λ k h. rw zero-add at (every_in ascii c.args.s.now 0 32 (omega arith) (sym c.every_in.ensures ∙ c.if-every_in.true) k h)) c.every_in-then-every_in.ensures
 
 pub returns : goal.returns
-returns c = every_fails ascii _ 0 32 (omega arith) (sym c.ascii_in.ensures ∙ c.if-ascii_in.false)
+returns c = every_fails ascii _ 0 32 (omega arith) (sym c.every_in.ensures ∙ c.if-every_in.false)

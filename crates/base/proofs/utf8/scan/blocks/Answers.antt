@@ -9,7 +9,7 @@ use Rattle.base.proofs.utf8.Automaton.{zero_state, state_zero, flow_start, flow_
 use Rattle.base.proofs.utf8.scan.blocks.Goals as goal
 
 pub loop-j-init : goal.loop-j-init
-loop-j-init c = (omega arith, flow_start _ _ _ zero_state c.requires.0, refl)
+loop-j-init c = (omega arith, flow_start _ _ _ zero_state c.requires, refl)
 
 pub overflow_sub-s : goal.overflow_sub-s
 overflow_sub-s c = omega (arith, c.loop-j.invariant.1.fits)
@@ -34,7 +34,7 @@ pub overflow_add-next : goal.overflow_add-next
 overflow_add-next c = omega (arith, c.loop-j.invariant.1.fits)
 
 pub flow_over-q-requires : goal.flow_over-q-requires
-flow_over-q-requires c = (omega arith, omega (arith, c.loop-j.invariant.1.fits), c.loop-j.invariant.1.held, c.requires.1, c.requires.2)
+flow_over-q-requires c = (omega arith, omega (arith, c.loop-j.invariant.1.fits), c.loop-j.invariant.1.held)
 
 pub returns-then-q-eq6 : goal.returns-then-q-eq6
 returns-then-q-eq6 c = let f = c.loop-j.invariant.1 in (c.loop-j.invariant.0, omega (arith, f.start, f.fits), c.loop-j.invariant.2)
@@ -55,7 +55,7 @@ pub loop-j-preserved : goal.loop-j-preserved
 loop-j-preserved c = (c.loop-j.invariant.0, flow_join _ _ _ _ _ _ _ c.loop-j.invariant.1 c.flow_over-q.ensures, c.loop-j.invariant.2)
 
 pub last_block-requires : goal.last_block-requires
-last_block-requires c = (c.loop-j.invariant.1, c.requires.1, c.requires.2)
+last_block-requires c = c.loop-j.invariant.1
 
 pub returns : goal.returns
 returns c = let l = c.last_block.ensures in (omega (arith, c.loop-j.invariant.0, l.0), l.1, l.2 ∙ c.loop-j.invariant.2)

@@ -28,7 +28,7 @@ module _ (s : List ℕ) (r : Bool) where
   longer h e = rw (le-leb 8 (length s) (omega arith), lt-leb (length s) 32 h) e
 
 pub returns-then-n-lt8 : goal.returns-then-n-lt8
-returns-then-n-lt8 c = let t₀ = c.args.s.now in fewer t₀ _ c.if-n-lt8.true (c.ascii_in.ensures ∙ ap (λ (t : List ℕ). every ascii (take (length t₀) (drop 0 t))) (part_all t₀))
+returns-then-n-lt8 c = let t₀ = c.args.s.now in fewer t₀ _ c.if-n-lt8.true (c.every_in.ensures ∙ ap (λ (t : List ℕ). every ascii (take (length t₀) (drop 0 t))) (part_all t₀))
 
 pub returns-then-n-lt33 : goal.returns-then-n-lt33
 returns-then-n-lt33 c = between _ _ c.if-n-lt8.false (omega (arith, c.if-n-lt33.true)) (c.plain_four.ensures ∙ ap (every plain) (part_all _))

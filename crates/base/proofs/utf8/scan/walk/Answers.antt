@@ -10,7 +10,7 @@ loop-j-init c = (omega arith, omega arith, zero_state, rw (state_zero 0 refl) (i
 pub returns-then-q-eq6 : goal.returns-then-q-eq6
 returns-then-q-eq6 c =
     let b = (inside-turn c.args.s.now _ _ _ _ c.loop-j.invariant.3 (omega arith) c.next_state-q.ensures.1).lost (state_lost _ c.if-q-eq6.true) in
-    (c.loop-j.invariant.0, omega (arith, c.loop-j.invariant.3.start), c.loop-j.invariant.4, λ e. absurd (omega (arith, c.at_least_one.ensures, e)), λ h. (c.at_least_one.ensures ∙ b.size, b.here))
+    (c.loop-j.invariant.0, omega (arith, c.loop-j.invariant.3.start), c.loop-j.invariant.4, λ e. absurd (omega (arith, c.max.ensures, e)), λ h. (c.max.ensures ∙ b.size, b.here))
 
 pub loop-j-preserved-then-q-eq0 : goal.loop-j-preserved-then-q-eq0
 loop-j-preserved-then-q-eq0 c =
@@ -28,8 +28,3 @@ pub returns-then-j-s : goal.returns-then-j-s
 returns-then-j-s c =
     let n = c.loop-j.invariant.3 in
     (c.loop-j.invariant.0, omega (arith, n.start), c.loop-j.invariant.4, λ e w. omega (arith, e, w, c.if-j-s.true), λ h. let b = inside_cut _ _ _ _ n (omega arith) (omega (arith, h)) in (b.size, b.here))
-
-pub returns : goal.returns
-returns c =
-    let n = c.loop-j.invariant.3 in
-    (c.loop-j.invariant.0, omega (arith, n.start), c.loop-j.invariant.4, λ e w. absurd (omega (arith, w, c.if-j-s.false)), λ h. absurd (omega (arith, h)))
