@@ -1,19 +1,21 @@
 -- Calls of reading, of any format: for any arguments what they answer, and what the lists that they may change hold afterwards (document 01,
 -- 'Flat record', 'Texts on screen' and the refusals' table; document 02, Point 1). The order of the refusals is the order of the cases.
-use Rattle.std.specs.Prelude.{ℕ, ◌+◌, ◌&&◌, List, [], ◌∷◌, eqb, leb, ltb, length, get_or}
+use Rattle.std.specs.Prelude.{Result, ℕ, ◌+◌, ◌&&◌, List, [], ◌∷◌, eqb, leb, ltb, length, get_or}
 use Rattle.std.specs.Borrow.{Bor}
 use Rattle.std.proofs.Math.Seq.{slice}
 use Rattle.std.proofs.lemmas.List.Edits.{sets}
 use Rattle.base.specs.Choice.{pick}
-use Rattle.base.specs.Outcome.{Outcome, accepted, refused, refused_past, refused_no_zero}
+use Rattle.base.specs.Outcome.{Outcome, outcome_of, accepted, refused, refused_past, refused_no_zero}
 use Rattle.base.specs.Part.{inside, part_of, part_ptr}
 use Rattle.base.specs.Utf8.{decode, replacements, well_formed}
 use Rattle.bflan.specs.declared.fault.Fault.{Fault}
 use Rattle.bflan.specs.declared.fault.Fault.TheVariants.{PastEnd, NoZero, OtherLetters}
-use Rattle.bflan.specs.declared.read.ReadAnswer.{ReadAnswer}
-use Rattle.bflan.specs.declared.read.ReadAnswer.TheVariants.{Accepted, Refused, TooLong, TooShort}
-use Rattle.bflan.specs.declared.find.FindAnswer.{FindAnswer}
-use Rattle.bflan.specs.declared.find.FindAnswer.TheVariants.{Found, Refused as FindRefused, TooLong as FindTooLong, NoSuchText, ScratchTooShort}
+use Rattle.bflan.specs.declared.read.Filled.{Filled}
+use Rattle.bflan.specs.declared.read.ReadError.{ReadError}
+use Rattle.bflan.specs.declared.read.ReadError.TheVariants.{Fault as ReadFault, TooLong, TooShort}
+use Rattle.bflan.specs.declared.find.Found.{Found}
+use Rattle.bflan.specs.declared.find.FindError.{FindError}
+use Rattle.bflan.specs.declared.find.FindError.TheVariants.{Fault as FindFault, TooLong as FindTooLong, NoSuchText, ScratchTooShort}
 use Rattle.bflan.specs.Limits.{limit}
 use Rattle.bflan.specs.Reader.{Res, ok, stop, P, Item}
 use Rattle.bflan.specs.Items.{words_of, texts_of, replacements_of, texts_in}
@@ -37,18 +39,28 @@ of_fault (PastEnd offset requested) = refused_past offset requested
 of_fault (NoZero start) = refused_no_zero start
 of_fault (OtherLetters letters) = other_letters letters
 
-unfoldable pub of_reading : ReadAnswer → Outcome
-of_reading (Accepted words bytes replaced) = accepted (words ∷ bytes ∷ replaced ∷ [])
-of_reading (Refused f) = of_fault f
-of_reading (TooLong size) = too_long size
-of_reading (TooShort words bytes) = too_short words bytes
+abbrev pub of_filled : Filled → Outcome
+of_filled filled = accepted (filled.words ∷ filled.bytes ∷ filled.replaced ∷ [])
 
-unfoldable pub of_finding : FindAnswer → Outcome
-of_finding (Found source start len replaced) = accepted (source ∷ start ∷ len ∷ replaced ∷ [])
-of_finding (FindRefused f) = of_fault f
-of_finding (FindTooLong size) = too_long size
-of_finding NoSuchText = no_place
-of_finding (ScratchTooShort bytes) = too_short 0 bytes
+abbrev pub of_read_error : ReadError → Outcome
+of_read_error (ReadFault f) = of_fault f
+of_read_error (TooLong size) = too_long size
+of_read_error (TooShort words bytes) = too_short words bytes
+
+abbrev pub of_reading : Result Filled ReadError → Outcome
+of_reading = outcome_of of_filled of_read_error
+
+abbrev pub of_found : Found → Outcome
+of_found text = accepted (text.source ∷ text.start ∷ text.len ∷ text.replaced ∷ [])
+
+abbrev pub of_find_error : FindError → Outcome
+of_find_error (FindFault f) = of_fault f
+of_find_error (FindTooLong size) = too_long size
+of_find_error NoSuchText = no_place
+of_find_error (ScratchTooShort bytes) = too_short 0 bytes
+
+abbrev pub of_finding : Result Found FindError → Outcome
+of_finding = outcome_of of_found of_find_error
 
 -- ---- reading: the answer, the words and the text bytes
 

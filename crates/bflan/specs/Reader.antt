@@ -1,15 +1,12 @@
 -- Reading as a function of a section's bytes and a position: a value and the position after it, or the fault that stopped it.
 -- The numbers, seeks and texts are base's (document 01, 'Bytes and text').
-use Rattle.std.specs.Prelude.{ℕ, zero, suc, ◌+◌, Bool, true, false, List, [], ◌∷◌, ◌++◌}
+use Rattle.std.specs.Prelude.{Result, Ok, Err, ℕ, zero, suc, ◌+◌, Bool, true, false, List, [], ◌∷◌, ◌++◌}
 use Rattle.base.specs.Number.{read_of}
 use Rattle.base.specs.Seek.{seek_of}
 use Rattle.base.specs.Text.{fixed_of, ended_of}
-use Rattle.base.specs.declared.number.Read.{Read}
-use Rattle.base.specs.declared.number.Read.TheVariants.{Value, Past as ReadPast}
-use Rattle.base.specs.declared.seek.Sought.{Sought}
-use Rattle.base.specs.declared.seek.Sought.TheVariants.{At, Past as SoughtPast}
-use Rattle.base.specs.declared.text.TextAt.{TextAt}
-use Rattle.base.specs.declared.text.TextAt.TheVariants.{Text, Past as TextPast, Unended}
+use Rattle.base.specs.declared.error.PastEnd.{PastEnd as Past}
+use Rattle.base.specs.declared.error.TextError.{TextError}
+use Rattle.base.specs.declared.error.TextError.TheVariants.{PastEnd as TextPast, NoZero as TextNoZero}
 use Rattle.bflan.specs.declared.fault.Fault.{Fault}
 use Rattle.bflan.specs.declared.fault.Fault.TheVariants.{PastEnd, NoZero}
 
@@ -49,18 +46,25 @@ pub data Item : Type 0 where
 
 -- ---- single reads
 
-abbrev pub as_number : Read → Res ℕ
-as_number (Value v next) = ok v next
-as_number (ReadPast offset requested) = stop (PastEnd offset requested)
+-- what stops a read, as a fault
+abbrev pub past_fault : Past → Fault
+past_fault e = PastEnd e.offset e.requested
 
-abbrev pub as_position : Sought → Res ℕ
-as_position (At position) = ok position position
-as_position (SoughtPast offset requested) = stop (PastEnd offset requested)
+abbrev pub text_fault : TextError → Fault
+text_fault (TextPast e) = past_fault e
+text_fault (TextNoZero start) = NoZero start
 
-abbrev pub as_text : ℕ → TextAt → Res Item
-as_text i (Text len next) = ok (text i len) next
-as_text i (TextPast offset requested) = stop (PastEnd offset requested)
-as_text i (Unended start) = stop (NoZero start)
+abbrev pub as_number : Result (ℕ × ℕ) Past → Res ℕ
+as_number (Ok (v, next)) = ok v next
+as_number (Err e) = stop (past_fault e)
+
+abbrev pub as_position : Result ℕ Past → Res ℕ
+as_position (Ok position) = ok position position
+as_position (Err e) = stop (past_fault e)
+
+abbrev pub as_text : ℕ → Result (ℕ × ℕ) TextError → Res Item
+as_text i (Ok (len, next)) = ok (text i len) next
+as_text i (Err e) = stop (text_fault e)
 
 -- a number of k bytes
 unfoldable pub num : ℕ → P ℕ

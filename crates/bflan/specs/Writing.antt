@@ -1,11 +1,13 @@
 -- A call of writing, of any format: for any arguments what it answers, and what the output holds afterwards (document 01, 'Writing' and
 -- the refusals' table, 6 to 9).
-use Rattle.std.specs.Prelude.{ℕ, List, [], ◌∷◌, leb, length}
+use Rattle.std.specs.Prelude.{ℕ, List, [], ◌∷◌, Result, leb, length}
 use Rattle.std.proofs.lemmas.List.Edits.{sets}
 use Rattle.base.specs.Choice.{pick}
-use Rattle.base.specs.Outcome.{Outcome, accepted, refused}
-use Rattle.bflan.specs.declared.write.WriteAnswer.{WriteAnswer}
-use Rattle.bflan.specs.declared.write.WriteAnswer.TheVariants.{Written, BadWord, BadText, OverLimit, OutputTooShort}
+use Rattle.base.specs.Outcome.{Outcome, outcome_of, of_count, accepted, refused}
+use Rattle.bflan.specs.declared.judge.Misfit.{Misfit}
+use Rattle.bflan.specs.declared.judge.Misfit.TheVariants.{Word, Text}
+use Rattle.bflan.specs.declared.write.WriteError.{WriteError}
+use Rattle.bflan.specs.declared.write.WriteError.TheVariants.{BadWord, BadText, OverLimit, OutputTooShort}
 use Rattle.bflan.specs.Judge.{Judged, fine, bad_word, bad_text, J}
 use Rattle.bflan.specs.Layout.{Layout, size, written}
 use Rattle.bflan.specs.Limits.{limit}
@@ -24,12 +26,20 @@ over_limit = refused 8 (limit ∷ [])
 abbrev pub output_short : ℕ → Outcome
 output_short len = refused 9 (len ∷ [])
 
-unfoldable pub of_writing : WriteAnswer → Outcome
-of_writing (Written len) = accepted (len ∷ [])
-of_writing (BadWord index) = bad_word_at index
-of_writing (BadText index) = bad_text_at index
-of_writing OverLimit = over_limit
-of_writing (OutputTooShort len) = output_short len
+abbrev pub of_write_error : WriteError → Outcome
+of_write_error (BadWord index) = bad_word_at index
+of_write_error (BadText index) = bad_text_at index
+of_write_error OverLimit = over_limit
+of_write_error (OutputTooShort len) = output_short len
+
+-- the section's length is a count
+abbrev pub of_writing : Result ℕ WriteError → Outcome
+of_writing = outcome_of of_count of_write_error
+
+-- what a judge's refusal is as the call's
+unfoldable pub write_error : Misfit → WriteError
+write_error (Word index) = BadWord index
+write_error (Text index) = BadText index
 
 -- ---- the answer, and the output
 

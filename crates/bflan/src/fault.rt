@@ -1,9 +1,9 @@
 // What stops a reading.
 ghost use Rattle.std.specs.Prelude.{◌≡◌};
-ghost use Rattle.base.specs.Outcome.{flat, in_order};
 ghost use Rattle.bflan.specs.Answer.{of_fault};
 
-use base::outcome::Numbers;
+use base::error::{PastEnd, TextError};
+use base::outcome::{Answer, Numbers};
 
 #[derive(Clone, Copy)]
 pub enum Fault {
@@ -15,13 +15,38 @@ pub enum Fault {
     OtherLetters(u32),
 }
 
-// A fault in numbers.
-pub fn of_fault(f: Fault) -> Numbers
-    ensures { in_order result ≡ flat 5 (of_fault f) }
-{
-    match f {
-        Fault::PastEnd(offset, requested) => Numbers(3, offset, requested, 0, 0),
-        Fault::NoZero(start) => Numbers(4, start, 0, 0, 0),
-        Fault::OtherLetters(letters) => Numbers(1, letters as usize, 0, 0, 0),
+impl From<PastEnd> for Fault {
+    ghost use Rattle.bflan.specs.Reader.{past_fault};
+
+    ghost from_gives = { λ e f. f ≡ past_fault e };
+
+    fn from(e: PastEnd) -> Fault {
+        Fault::PastEnd(e.offset, e.requested)
+    }
+}
+
+impl From<TextError> for Fault {
+    ghost use Rattle.bflan.specs.Reader.{text_fault};
+
+    ghost from_gives = { λ e f. f ≡ text_fault e };
+
+    fn from(e: TextError) -> Fault {
+        match e {
+            TextError::PastEnd(past) => Fault::PastEnd(past.offset, past.requested),
+            TextError::NoZero(start) => Fault::NoZero(start),
+        }
+    }
+}
+
+impl Answer for Fault {
+    ghost outcome = { of_fault };
+
+    #[tactic(auto, unfolding(base::specs::Outcome::flat, crate::specs::Answer::of_fault))]
+    fn numbers(self) -> Numbers {
+        match self {
+            Fault::PastEnd(offset, requested) => Numbers(3, offset, requested, 0, 0),
+            Fault::NoZero(start) => Numbers(4, start, 0, 0, 0),
+            Fault::OtherLetters(letters) => Numbers(1, letters as usize, 0, 0, 0),
+        }
     }
 }

@@ -1,22 +1,30 @@
 // Finding a text of a section, and handing it back.
 ghost use Rattle.std.specs.Prelude.{◌≡◌, ◌+◌, ◌≤◌, length};
 ghost use Rattle.std.proofs.Math.Seq.{slice};
-ghost use Rattle.base.specs.Outcome.{flat, in_order};
-ghost use Rattle.bflan.specs.Answer.{of_finding, shown, text_part, text_ptr};
+ghost use Rattle.bflan.specs.Answer.{of_found, of_find_error, of_finding, shown, text_part, text_ptr};
+ghost use Rattle.bflan.specs.declared.find.FindError.TheVariants.{Fault as FindFault};
 ghost use Rattle.bflan.specs.pai1.Calls.{finding};
 
-use crate::fault::{Fault, of_fault};
+use crate::fault::Fault;
 use crate::read::{LIMIT, measure};
-use crate::reader::tally::Walk;
-use base::outcome::Numbers;
+use crate::section::Section;
+use base::outcome::{Answer, Numbers};
 use base::part::part;
 use base::utf8::{decode_into, decoded_len, well_formed};
 
+// A text that was found: its source (0 the section, 1 the scratch), its start and length there, and how many U+FFFD were put in.
+// Kept: the source is a number, since C hands any number back to `text_part`.
 #[derive(Clone, Copy)]
-pub enum FindAnswer {
-    // The source (0 the section, 1 the scratch), the text's start and length there, and how many U+FFFD were put in.
-    Found(usize, usize, usize, usize),
-    Refused(Fault),
+pub struct Found {
+    pub source: usize,
+    pub start: usize,
+    pub len: usize,
+    pub replaced: usize,
+}
+
+#[derive(Clone, Copy)]
+pub enum FindError {
+    Fault(Fault),
     // The section's length, above the limit.
     TooLong(usize),
     // The section reads, but has no text of that number.
@@ -25,41 +33,78 @@ pub enum FindAnswer {
     ScratchTooShort(usize),
 }
 
-// The text of `len` bytes at `start`: where it stands, or decoded into the scratch.
-fn show(s: &[u8], start: usize, len: usize, scratch: &mut [u8]) -> FindAnswer
-    requires { (start + len ≤ length s.now) × (length s.now ≤ 16777216) }
-    ensures { (of_finding result, scratch.new) ≡ shown start (slice start (start + len) s.now) scratch.old }
-{
-    let end = start + len;
-    if well_formed(&s[start..end]) {
-        return FindAnswer::Found(0, start, len, 0);
+impl From<Fault> for FindError {
+    ghost from_gives = { λ f e. e ≡ FindFault f };
+
+    fn from(f: Fault) -> FindError {
+        FindError::Fault(f)
     }
-    let size = decoded_len(&s[start..end]);
-    if scratch.len() < size {
-        return FindAnswer::ScratchTooShort(size);
-    }
-    let mut replaced: usize = 0;
-    decode_into(&s[start..end], scratch, 0, &mut replaced);
-    FindAnswer::Found(1, 0, size, replaced)
 }
 
-pub fn find_text(section: &[u8], text: usize, scratch: &mut [u8]) -> FindAnswer
+impl Answer for Found {
+    ghost outcome = { of_found };
+
+    #[tactic(auto, unfolding(base::specs::Outcome::flat))]
+    fn numbers(self) -> Numbers {
+        Numbers(0, self.source, self.start, self.len, self.replaced)
+    }
+}
+
+impl Answer for FindError {
+    ghost outcome = { of_find_error };
+
+    #[tactic(auto, unfolding(base::specs::Outcome::flat))]
+    fn numbers(self) -> Numbers {
+        match self {
+            FindError::Fault(f) => f.numbers(),
+            FindError::TooLong(size) => Numbers(2, size, 0, 0, 0),
+            FindError::NoSuchText => Numbers(10, 0, 0, 0, 0),
+            FindError::ScratchTooShort(bytes) => Numbers(5, 0, bytes, 0, 0),
+        }
+    }
+}
+
+// The text of `len` bytes at `start`: where it stands, or decoded into the scratch.
+fn show(s: Section, start: usize, len: usize, scratch: &mut [u8]) -> Result<Found, FindError>
+    requires { start + len ≤ length s.bytes.now }
+    ensures { (of_finding result, scratch.new) ≡ shown start (slice start (start + len) s.entry.bytes.now) scratch.old }
+{
+    let end = start + len;
+    if well_formed(&s.bytes[start..end]) {
+        return Ok(Found {
+            source: 0,
+            start,
+            len,
+            replaced: 0,
+        });
+    }
+    let size = decoded_len(&s.bytes[start..end]);
+    if scratch.len() < size {
+        return Err(FindError::ScratchTooShort(size));
+    }
+    let mut replaced: usize = 0;
+    decode_into(&s.bytes[start..end], scratch, 0, &mut replaced);
+    Ok(Found {
+        source: 1,
+        start: 0,
+        len: size,
+        replaced,
+    })
+}
+
+pub fn find_text(section: &[u8], text: usize, scratch: &mut [u8]) -> Result<Found, FindError>
     ensures { (of_finding result, scratch.new) ≡ finding section.now text scratch.old }
 {
     let size = section.len();
     if LIMIT < size {
-        return FindAnswer::TooLong(size);
+        return Err(FindError::TooLong(size));
     }
-    match measure(section, text) {
-        Walk::Stopped(f) => FindAnswer::Refused(f),
-        Walk::Went(t, _p) => {
-            let left = t.left;
-            if left <= text {
-                return FindAnswer::NoSuchText;
-            }
-            show(section, t.start, t.len, scratch)
-        }
+    let s = Section { bytes: section };
+    let (t, _end) = measure(s, text)?;
+    if t.left <= text {
+        return Err(FindError::NoSuchText);
     }
+    show(s, t.start, t.len, scratch)
 }
 
 // A found text: a part of the section or of the scratch. Where there is none, the empty part at the section's start.
@@ -86,17 +131,4 @@ pub fn text_part<'a>(
         }
     }
     &section[0..0]
-}
-
-// The answer in numbers.
-pub fn of_finding(a: FindAnswer) -> Numbers
-    ensures { in_order result ≡ flat 5 (of_finding a) }
-{
-    match a {
-        FindAnswer::Found(source, start, len, replaced) => Numbers(0, source, start, len, replaced),
-        FindAnswer::Refused(f) => of_fault(f),
-        FindAnswer::TooLong(size) => Numbers(2, size, 0, 0, 0),
-        FindAnswer::NoSuchText => Numbers(10, 0, 0, 0, 0),
-        FindAnswer::ScratchTooShort(bytes) => Numbers(5, 0, bytes, 0, 0),
-    }
 }

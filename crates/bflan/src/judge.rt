@@ -4,60 +4,104 @@ ghost use Rattle.bflan.specs.Judge.{ends};
 ghost use Rattle.bflan.specs.pai1.Judge.{pane, section};
 ghost use Rattle.bflan.specs.Layout.{size};
 ghost use Rattle.bflan.specs.pai1.Layout.{section_lay};
-ghost use Rattle.bflan.specs.inner.Measure.{verdict_of};
-ghost use Rattle.bflan.specs.inner.Measure.{filled_up};
+ghost use Rattle.bflan.specs.inner.Measure.{verdict_of, filled_up, mark_grown, mark_padded, past};
 ghost use Rattle.bflan.specs.inner.JudgeParts.{after_head};
 ghost use Rattle.bflan.specs.pai1.Record.{PaneAnimInfo};
 ghost use Rattle.bflan.specs.inner.Walk.{sat};
 
 use crate::judge::content::contents;
-use crate::judge::size::{filled_up, grown};
 use crate::judge::text::textures;
-use crate::judge::word::{below, word_of};
-use crate::reader::tally::add;
+use crate::judge::word::word_below;
+use base::fill::padding;
 
 mod content;
 mod datum;
 mod info;
 mod run;
-mod size;
 mod target;
 mod text;
+mod times;
 pub mod word;
 
-// Where the walk stands behind a part that is within the limits: the next word, the next text byte, and the bytes that the part has in the
-// section. A size that a usize does not hold is the largest one.
+// Where a part of the record starts: at the next word, and the next text byte.
+// Kept: the words and the texts as two slices beside it. A struct of the two would stand in each `ensures` as `record.entry.words.now` for
+// `words.now`.
 #[derive(Clone, Copy)]
-pub struct Mark {
+pub struct Place {
     pub word: usize,
     pub byte: usize,
+}
+
+impl Place {
+    // Behind `n` more words.
+    pub(crate) fn past(self, n: usize) -> Place
+        requires { self.word + n < 18446744073709551616 }
+        ensures { result ≡ past n self }
+    {
+        Place {
+            word: self.word + n,
+            ..self
+        }
+    }
+}
+
+// Where the walk stands behind a part that is within the limits, and the bytes that the part has in the section. A size that a usize does not
+// hold is the largest one.
+#[derive(Clone, Copy)]
+pub struct Mark {
+    pub at: Place,
     pub size: usize,
 }
 
+impl Mark {
+    // With `n` bytes more.
+    pub(crate) fn grown(self, n: usize) -> Mark
+        ensures { result ≡ mark_grown n self }
+    {
+        Mark {
+            size: n.saturating_add(self.size),
+            ..self
+        }
+    }
+
+    // With zeros up to a multiple of 4.
+    pub(crate) fn padded(self) -> Mark
+        ensures { result ≡ mark_padded self }
+    {
+        Mark {
+            size: up_to_four(self.size),
+            ..self
+        }
+    }
+}
+
+// Why a record is refused.
 #[derive(Clone, Copy)]
-pub enum Verdict {
-    Fine(Mark),
+pub enum Misfit {
     // The index of a word that is missing, out of range or over.
-    BadWord(usize),
+    Word(usize),
     // Where a text's fault stands.
-    BadText(usize),
+    Text(usize),
+}
+
+// A size with its zeros up to a multiple of 4.
+fn up_to_four(n: usize) -> usize
+    ensures { result ≡ sat (filled_up n) }
+{
+    n.saturating_add(padding(n))
 }
 
 // That no word and then no text byte is over.
-fn ends(words: &[u32], texts: &[u8], i: usize, j: usize) -> Verdict
-    ensures { result ≡ verdict_of (λ z. 0) (ends words.now texts.now i j) }
+fn ends(words: &[u32], texts: &[u8], at: Place) -> Result<Mark, Misfit>
+    ensures { result ≡ verdict_of (λ z. 0) (ends words.now texts.now at.word at.byte) }
 {
-    if i < words.len() {
-        return Verdict::BadWord(i);
+    if at.word < words.len() {
+        return Err(Misfit::Word(at.word));
     }
-    if j < texts.len() {
-        return Verdict::BadText(j);
+    if at.byte < texts.len() {
+        return Err(Misfit::Text(at.byte));
     }
-    Verdict::Fine(Mark {
-        word: i,
-        byte: j,
-        size: 0,
-    })
+    Ok(Mark { at, size: 0 })
 }
 
 // Where the content table stands behind `n` texture names of `size` bytes.
@@ -65,55 +109,38 @@ fn table_behind(n: usize, size: usize) -> usize
     requires { n < 65536 }
     ensures { result ≡ sat (filled_up (20 + (4 * n + size))) }
 {
-    filled_up(add(20 + 4 * n, size))
+    up_to_four((20 + 4 * n).saturating_add(size))
 }
 
 // What is behind a record's first four words: `nt` texture names and `nc` contents.
-fn headed(words: &[u32], texts: &[u8], i: usize, j: usize, nt: usize, nc: usize) -> Verdict
+// Inlined, as it was before the walks were closures: without that a mixture of parts takes 6 % longer to write.
+#[inline(always)]
+fn headed(words: &[u32], texts: &[u8], at: Place, nt: usize, nc: usize) -> Result<Mark, Misfit>
     requires { (nt < 65536) × (nc < 65536) }
-    ensures { (frames looping : ℕ) → result ≡ verdict_of (λ (a : PaneAnimInfo). size (section_lay a)) (after_head frames looping nt nc words.now texts.now i j) }
+    ensures { (frames looping : ℕ) → result ≡ verdict_of (λ (a : PaneAnimInfo). size (section_lay a)) (after_head frames looping nt nc words.now texts.now at.word at.byte) }
 {
-    match textures(words, texts, i, j, nt) {
-        Verdict::BadWord(k) => Verdict::BadWord(k),
-        Verdict::BadText(k) => Verdict::BadText(k),
-        Verdict::Fine(m) => grown(
-            contents(words, texts, m.word, m.byte, nc),
-            add(table_behind(nt, m.size), 4 * nc),
-        ),
-    }
+    let names = textures(words, texts, at, nt)?;
+    let table = table_behind(nt, names.size);
+    let rest = contents(words, texts, names.at, nc)?;
+    Ok(rest.grown(table.saturating_add(4 * nc)))
 }
 
-// The record that the words from `i` on and the texts from `j` on make, whatever follows.
-fn judge_info(words: &[u32], texts: &[u8], i: usize, j: usize) -> Verdict
-    ensures { result ≡ verdict_of (λ (a : PaneAnimInfo). size (section_lay a)) (pane words.now texts.now i j) }
+// The record that the words and the texts make from a place on, whatever follows.
+fn judge_info(words: &[u32], texts: &[u8], at: Place) -> Result<Mark, Misfit>
+    ensures { result ≡ verdict_of (λ (a : PaneAnimInfo). size (section_lay a)) (pane words.now texts.now at.word at.byte) }
 {
-    if !below(words, i, 65536) {
-        return Verdict::BadWord(i);
-    }
-    let looping = i + 1;
-    if !below(words, looping, 2) {
-        return Verdict::BadWord(looping);
-    }
-    let names = looping + 1;
-    if !below(words, names, 65536) {
-        return Verdict::BadWord(names);
-    }
-    let count = names + 1;
-    if !below(words, count, 65536) {
-        return Verdict::BadWord(count);
-    }
-    let nt = word_of(words, names) as usize;
-    let nc = word_of(words, count) as usize;
-    headed(words, texts, count + 1, j, nt, nc)
+    word_below(words, at.word, 65536)?;
+    word_below(words, at.word + 1, 2)?;
+    let nt = word_below(words, at.word + 2, 65536)?;
+    let nc = word_below(words, at.word + 3, 65536)?;
+    headed(words, texts, at.past(4), nt as usize, nc as usize)
 }
 
-// The section that the words and texts make, all of them.
-pub(crate) fn judge_section(words: &[u32], texts: &[u8]) -> Verdict
+// The section that all the words and texts make.
+pub(crate) fn judge_section(words: &[u32], texts: &[u8]) -> Result<Mark, Misfit>
     ensures { result ≡ verdict_of (λ (a : PaneAnimInfo). size (section_lay a)) (section words.now texts.now 0 0) }
 {
-    match judge_info(words, texts, 0, 0) {
-        Verdict::BadWord(k) => Verdict::BadWord(k),
-        Verdict::BadText(k) => Verdict::BadText(k),
-        Verdict::Fine(m) => grown(ends(words, texts, m.word, m.byte), m.size),
-    }
+    let info = judge_info(words, texts, Place { word: 0, byte: 0 })?;
+    let end = ends(words, texts, info.at)?;
+    Ok(end.grown(info.size))
 }

@@ -8,5 +8,6 @@ pub mod letters;
 pub mod place;
 pub mod read;
 mod reader;
+mod section;
 pub mod write;
 mod writer;

@@ -1,34 +1,71 @@
 // Reading a section into two tables.
 ghost use Rattle.std.specs.Prelude.{◌≡◌, [], ◌≤◌, length};
-ghost use Rattle.base.specs.Outcome.{flat, in_order};
-ghost use Rattle.bflan.specs.Answer.{of_reading};
+ghost use Rattle.bflan.specs.Answer.{of_filled, of_read_error, of_reading};
 ghost use Rattle.bflan.specs.pai1.Calls.{reading};
 ghost use Rattle.bflan.specs.pai1.Reading.{section};
+ghost use Rattle.bflan.specs.declared.read.ReadError.TheVariants.{Fault as ReadFault};
 ghost use Rattle.bflan.specs.inner.Walk.{empty_tally, walk_of};
 
-use crate::fault::{Fault, of_fault};
+use crate::fault::Fault;
 use crate::reader::section::section_at;
 use crate::reader::tally::{Walk, fresh};
-use base::outcome::Numbers;
+use crate::section::Section;
+use base::outcome::{Answer, Numbers};
+
+// What was filled: the words and the text bytes, and how many U+FFFD were put into the texts.
+#[derive(Clone, Copy)]
+pub struct Filled {
+    pub words: usize,
+    pub bytes: usize,
+    pub replaced: usize,
+}
 
 #[derive(Clone, Copy)]
-pub enum ReadAnswer {
-    // The words and the text bytes that were filled, and how many U+FFFD were put into the texts.
-    Accepted(usize, usize, usize),
-    Refused(Fault),
+pub enum ReadError {
+    Fault(Fault),
     // The section's length, above the limit.
     TooLong(usize),
     // The section reads, but does not fit: the words and the text bytes that it needs.
     TooShort(usize, usize),
 }
 
+impl From<Fault> for ReadError {
+    ghost from_gives = { λ f e. e ≡ ReadFault f };
+
+    fn from(f: Fault) -> ReadError {
+        ReadError::Fault(f)
+    }
+}
+
+impl Answer for Filled {
+    ghost outcome = { of_filled };
+
+    #[tactic(auto, unfolding(base::specs::Outcome::flat))]
+    fn numbers(self) -> Numbers {
+        Numbers(0, self.words, self.bytes, self.replaced, 0)
+    }
+}
+
+impl Answer for ReadError {
+    ghost outcome = { of_read_error };
+
+    #[tactic(auto, unfolding(base::specs::Outcome::flat))]
+    fn numbers(self) -> Numbers {
+        match self {
+            ReadError::Fault(f) => f.numbers(),
+            ReadError::TooLong(size) => Numbers(2, size, 0, 0, 0),
+            ReadError::TooShort(words, bytes) => Numbers(5, words, bytes, 0, 0),
+        }
+    }
+}
+
 // The longest section.
 pub const LIMIT: usize = 16777216;
 
 // The walk over a section, storing nothing; text `want` is looked for.
-pub(crate) fn measure(s: &[u8], want: usize) -> Walk
-    requires { length s.now ≤ 16777216 }
-    ensures { result ≡ (walk_of s.now (empty_tally want) [] [] (section s.now 0)).0 }
+#[tactic(auto, using(crate::proofs::read::Answers::measured))]
+pub(crate) fn measure(s: Section, want: usize) -> Walk
+    ensures { result ≡ (walk_of s.entry.bytes.now (empty_tally want) [] [] (section s.entry.bytes.now 0)).0 }
 {
     let mut words = [0u32; 0];
     let mut texts = [0u8; 0];
@@ -36,39 +73,25 @@ pub(crate) fn measure(s: &[u8], want: usize) -> Walk
 }
 
 // Measured over no tables, and then filled. No text is looked for: any number serves.
-pub fn read(section: &[u8], words: &mut [u32], texts: &mut [u8]) -> ReadAnswer
+pub fn read(section: &[u8], words: &mut [u32], texts: &mut [u8]) -> Result<Filled, ReadError>
     ensures { (of_reading result, words.new, texts.new) ≡ reading section.now words.old texts.old }
 {
     let size = section.len();
     if LIMIT < size {
-        return ReadAnswer::TooLong(size);
+        return Err(ReadError::TooLong(size));
     }
-    match measure(section, 0) {
-        Walk::Stopped(f) => ReadAnswer::Refused(f),
-        Walk::Went(t, _p) => {
-            let needs = t.words;
-            let bytes = t.bytes;
-            let replaced = t.replaced;
-            if words.len() < needs {
-                return ReadAnswer::TooShort(needs, bytes);
-            }
-            if texts.len() < bytes {
-                return ReadAnswer::TooShort(needs, bytes);
-            }
-            section_at(section, words, texts, fresh(0));
-            ReadAnswer::Accepted(needs, bytes, replaced)
-        }
+    let s = Section { bytes: section };
+    let (needs, _end) = measure(s, 0)?;
+    if words.len() < needs.words {
+        return Err(ReadError::TooShort(needs.words, needs.bytes));
     }
-}
-
-// The answer in numbers.
-pub fn of_reading(a: ReadAnswer) -> Numbers
-    ensures { in_order result ≡ flat 5 (of_reading a) }
-{
-    match a {
-        ReadAnswer::Accepted(words, bytes, replaced) => Numbers(0, words, bytes, replaced, 0),
-        ReadAnswer::Refused(f) => of_fault(f),
-        ReadAnswer::TooLong(size) => Numbers(2, size, 0, 0, 0),
-        ReadAnswer::TooShort(words, bytes) => Numbers(5, words, bytes, 0, 0),
+    if texts.len() < needs.bytes {
+        return Err(ReadError::TooShort(needs.words, needs.bytes));
     }
+    let _ = section_at(s, words, texts, fresh(0));
+    Ok(Filled {
+        words: needs.words,
+        bytes: needs.bytes,
+        replaced: needs.replaced,
+    })
 }

@@ -7,6 +7,7 @@ pub mod keys;
 pub mod offset;
 pub mod row;
 pub mod section;
+pub mod table;
 pub mod tally;
 pub mod target;
 pub mod texture;

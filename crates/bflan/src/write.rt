@@ -1,18 +1,15 @@
 // Writing a record as a section.
 ghost use Rattle.std.specs.Prelude.{◌≡◌};
-ghost use Rattle.base.specs.Outcome.{flat, in_order};
-ghost use Rattle.bflan.specs.Writing.{of_writing};
+ghost use Rattle.bflan.specs.Writing.{of_write_error, of_writing, write_error};
 ghost use Rattle.bflan.specs.pai1.Calls.{writing};
 
-use crate::judge::{Verdict, judge_section};
+use crate::judge::{Misfit, judge_section};
 use crate::read::LIMIT;
 use crate::writer::section::put_section;
-use base::outcome::Numbers;
+use base::outcome::{Answer, Numbers};
 
 #[derive(Clone, Copy)]
-pub enum WriteAnswer {
-    // The section's length.
-    Written(usize),
+pub enum WriteError {
     // A word is missing, out of range or over: its index.
     BadWord(usize),
     // A text is missing, ill-formed, with a zero, or over: where the fault stands among the texts.
@@ -23,36 +20,42 @@ pub enum WriteAnswer {
     OutputTooShort(usize),
 }
 
-// Judged and measured, and then written from the output's start on.
-pub fn write(words: &[u32], texts: &[u8], out: &mut [u8]) -> WriteAnswer
-    ensures { (of_writing result, out.new) ≡ writing words.now texts.now out.old }
-{
-    match judge_section(words, texts) {
-        Verdict::BadWord(index) => WriteAnswer::BadWord(index),
-        Verdict::BadText(index) => WriteAnswer::BadText(index),
-        Verdict::Fine(m) => {
-            let size = m.size;
-            if LIMIT < size {
-                return WriteAnswer::OverLimit;
-            }
-            if out.len() < size {
-                return WriteAnswer::OutputTooShort(size);
-            }
-            put_section(words, texts, out);
-            WriteAnswer::Written(size)
+impl From<Misfit> for WriteError {
+    ghost from_gives = { λ misfit error. error ≡ write_error misfit };
+
+    fn from(misfit: Misfit) -> WriteError {
+        match misfit {
+            Misfit::Word(index) => WriteError::BadWord(index),
+            Misfit::Text(index) => WriteError::BadText(index),
         }
     }
 }
 
-// The answer in numbers.
-pub fn of_writing(a: WriteAnswer) -> Numbers
-    ensures { in_order result ≡ flat 5 (of_writing a) }
-{
-    match a {
-        WriteAnswer::Written(len) => Numbers(0, len, 0, 0, 0),
-        WriteAnswer::BadWord(index) => Numbers(6, index, 0, 0, 0),
-        WriteAnswer::BadText(index) => Numbers(7, index, 0, 0, 0),
-        WriteAnswer::OverLimit => Numbers(8, LIMIT, 0, 0, 0),
-        WriteAnswer::OutputTooShort(len) => Numbers(9, len, 0, 0, 0),
+impl Answer for WriteError {
+    ghost outcome = { of_write_error };
+
+    #[tactic(auto, unfolding(base::specs::Outcome::flat))]
+    fn numbers(self) -> Numbers {
+        match self {
+            WriteError::BadWord(index) => Numbers(6, index, 0, 0, 0),
+            WriteError::BadText(index) => Numbers(7, index, 0, 0, 0),
+            WriteError::OverLimit => Numbers(8, LIMIT, 0, 0, 0),
+            WriteError::OutputTooShort(len) => Numbers(9, len, 0, 0, 0),
+        }
     }
+}
+
+// Judged and measured, and then written from the output's start on. The section's length.
+pub fn write(words: &[u32], texts: &[u8], out: &mut [u8]) -> Result<usize, WriteError>
+    ensures { (of_writing result, out.new) ≡ writing words.now texts.now out.old }
+{
+    let size = judge_section(words, texts)?.size;
+    if LIMIT < size {
+        return Err(WriteError::OverLimit);
+    }
+    if out.len() < size {
+        return Err(WriteError::OutputTooShort(size));
+    }
+    put_section(words, texts, out);
+    Ok(size)
 }

@@ -8,20 +8,19 @@ use native.Mathlib.Omega.{arith}
 use borrow.Author.Tests.{leb-true, le-leb, lt-leb, lt-ltb, le-ltb, eq-eqb, ne_eqb}
 use lib.Dec.{leb, eqb}
 use lib.ListN.{length, get_or, take, drop, replicate, length-take, length-drop, length-replicate}
+use Rattle.std.specs.Prelude.{Ok, Err}
 use Rattle.base.specs.Choice.{pick}
 use Rattle.base.specs.Fill.{padding_of}
 use Rattle.base.specs.Text.{first_fault}
 use Rattle.base.specs.Number.{le}
 use Rattle.bflan.specs.declared.judge.Mark.{Mark}
-use Rattle.bflan.specs.declared.judge.Verdict.{Verdict}
-use Rattle.bflan.specs.declared.judge.Verdict.TheVariants.{Fine, BadWord, BadText}
+use Rattle.bflan.specs.declared.judge.Misfit.TheVariants.{Word, Text}
 use Rattle.bflan.specs.Judge.{Judged, fine, bad_word, bad_text, J, and_then, ret, next_word, next_chars, next_text, times, wide, row, ends, whole}
 use Rattle.bflan.specs.pai1.Judge.{target, datum, info, content, pane}
 use Rattle.bflan.specs.pai1.Letters.{fleu}
 use Rattle.bflan.specs.Layout.{zeros, number, size, parts, ended}
 use Rattle.bflan.specs.pai1.Layout.{target_lay, datum_lay, info_head, info_lay, infos_out, table_from, infos_from, content_body, content_lay, names_end, content_table, section_size, section_lay, key_skip, key_lay}
-use Rattle.bflan.specs.inner.Measure.{verdict_of}
-use Rattle.bflan.specs.inner.Measure.{fits, grown, filled_up, padded}
+use Rattle.bflan.specs.inner.Measure.{verdict_of, fits, grown, filled_up, padded}
 use Rattle.bflan.specs.inner.JudgeParts.{ValuesAndKey, values_and_key, after_name, after_head}
 use Rattle.bflan.specs.pai1.Places.{total, stride}
 use Rattle.bflan.specs.pai1.Record.{AnimTarget, Standard, AnimInfo, AnimContent, PaneAnimInfo, key_widths}
@@ -29,12 +28,12 @@ use Rattle.bflan.specs.inner.Walk.{sat}
 use Rattle.bflan.proofs.Layouts.{size-key, stride_three, size-table, user-size, section_size_lem}
 use Rattle.bflan.proofs.judge.Laws.{text_at}
 use Rattle.bflan.proofs.judge.Inversion.{times-length, target_tests, target_then, datum_tests, datum_then, info_tests, info_then, named_tests, named_then, pane_tests, pane_then}
-use Rattle.bflan.proofs.judge.Measures.{tests_then, Tested, Fitting, tests_fine, bad_at, marked, measured_padded, sat-filled, grown-sat, was_then, measured_by, measured_grown, measured_made, then_grown, word-fine, word_bad, times_none, times-turn, steps_as, steps_word, steps_row, steps_times, ran, steps_measured, size-parts, size-numbers}
+use Rattle.bflan.proofs.judge.Measures.{Verdict, tests_then, Tested, Fitting, tests_fine, bad_at, marked, measured_padded, sat-filled, grown-sat, was_then, measured_by, measured_grown, measured_made, then_grown, word-fine, word_bad, times_none, times-turn, steps_as, steps_word, steps_row, steps_times, ran, steps_measured, size-parts, size-numbers}
 
 -- ---- texts
 
 module _ (n : ℕ) (w x : List ℕ) (i j : ℕ) where
-  pub chars-missing : length x < j + n → BadText (length x) ≡ verdict_of (λ (t : List ℕ). length t) (next_chars n w x i j)
+  pub chars-missing : length x < j + n → Err (Text (length x)) ≡ verdict_of (λ (t : List ℕ). length t) (next_chars n w x i j)
   unfolding next_chars verdict_of
   chars-missing h = rw (lt-leb (j + n) (length x) h)
 
@@ -42,7 +41,7 @@ module _ (n : ℕ) (w x : List ℕ) (i j : ℕ) where
     fault_is : first_fault (take n (drop j x)) ≡ f
     fault_is = let m : j + n - j ≡ n = omega arith in sym (rw m at e)
 
-    pub chars_fault : f < n → BadText (j + f) ≡ verdict_of (λ (t : List ℕ). length t) (next_chars n w x i j)
+    pub chars_fault : f < n → Err (Text (j + f)) ≡ verdict_of (λ (t : List ℕ). length t) (next_chars n w x i j)
     unfolding next_chars verdict_of
     chars_fault l = rw (le-leb (j + n) (length x) h, fault_is, lt-ltb f n l)
 
@@ -53,7 +52,7 @@ module _ (n : ℕ) (w x : List ℕ) (i j : ℕ) where
         rw (le-leb (j + n) (length x) h, fault_is, le-ltb f n l) (ap (marked i (j + n)) (sym q))
 
 module _ (test : ℕ → Bool) (w x : List ℕ) (i j : ℕ) where
-  pub text_bad : (s : List ℕ → ℕ) → fits test w i ≡ false → BadWord i ≡ verdict_of s (next_text test w x i j)
+  pub text_bad : (s : List ℕ → ℕ) → fits test w i ≡ false → Err (Word i) ≡ verdict_of s (next_text test w x i j)
   unfolding next_text verdict_of
   text_bad s e = rw (word_bad test w x i j e)
 
@@ -81,8 +80,8 @@ module _ (w : List ℕ) (small : (k : ℕ) → get_or w k 0 < 4294967296) (x : L
   pub run_there : n ≤ length w - i → n ≤ 17179869184 → marked (i + n) j (4 * n) ≡ verdict_of (λ vs. size (parts (number 4) vs)) (times n (next_word (wide 4)) w x i j)
   run_there h b = rw (run_is, le-leb n (length w - i) h) (ap (marked (i + n) j) (omega arith))
 
-  pub run_short : length w - i < n → (u : ℕ) → u ≡ max i (length w) → BadWord u ≡ verdict_of (λ vs. size (parts (number 4) vs)) (times n (next_word (wide 4)) w x i j)
-  run_short h u e = rw (run_is, lt-leb n (length w - i) h) (ap BadWord e)
+  pub run_short : length w - i < n → (u : ℕ) → u ≡ max i (length w) → Err (Word u) ≡ verdict_of (λ vs. size (parts (number 4) vs)) (times n (next_word (wide 4)) w x i j)
+  run_short h u e = rw (run_is, lt-leb n (length w - i) h) (ap (λ (k : ℕ). Err (Word k)) e)
 
 -- ---- keys
 
@@ -110,10 +109,10 @@ module _ (w x : List ℕ) (left at j c : ℕ) (whole : Verdict) (e : verdict_of 
   pair_turn : 0 < left → whole ≡ verdict_of (λ ks. c) (and_then (row (key_widths 1) w x at j) (λ a w x i j. and_then (times (left - 1) (row (key_widths 1)) w x i j) (λ ps. ret (a ∷ ps)) w x) w x)
   pair_turn l = sym e ∙ ap (verdict_of (λ ks. c)) (times-turn (row (key_widths 1)) w x left at j l)
 
-  pub pair_first : 0 < left → fits (wide 4) w at ≡ false → BadWord at ≡ whole
+  pub pair_first : 0 < left → fits (wide 4) w at ≡ false → Err (Word at) ≡ whole
   pair_first l f = rw (pair_turn l) (unfold key_widths row verdict_of in rw (word_bad (wide 4) w x at j f))
 
-  pub pair_second : 0 < left → fits (wide 4) w at ≡ true → fits (wide 2) w (at + 1) ≡ false → BadWord (at + 1) ≡ whole
+  pub pair_second : 0 < left → fits (wide 4) w at ≡ true → fits (wide 2) w (at + 1) ≡ false → Err (Word (at + 1)) ≡ whole
   pair_second l f g = rw (pair_turn l) (unfold key_widths row verdict_of in rw (word-fine (wide 4) w x at j f, word_bad (wide 2) w x (at + 1) j g))
 
   pub pair_on : 0 < left → fits (wide 4) w at ≡ true → fits (wide 2) w (at + 1) ≡ true → verdict_of (λ ks. c) (times (left - 1) (row (key_widths 1)) w x (at + 1 + 1) j) ≡ whole
@@ -141,7 +140,7 @@ keys_step w x i j curve n e = rw e
 -- ---- a target: refused at its first word, .., at its fourth, or measured with its keys
 
 module _ (letters : ℕ) (w x : List ℕ) (i j : ℕ) where
-  pub target_bad : {k : ℕ} → Tested (target_tests letters) target_then w x i j (bad_word k) → BadWord k ≡ verdict_of (λ t. size (target_lay t)) (target letters w x i j)
+  pub target_bad : {k : ℕ} → Tested (target_tests letters) target_then w x i j (bad_word k) → Err (Word k) ≡ verdict_of (λ t. size (target_lay t)) (target letters w x i j)
   unfolding target tests_then
   target_bad h = bad_at (λ t. size (target_lay t)) h.gives
 
@@ -169,16 +168,16 @@ abbrev pub behind_size : ValuesAndKey → ℕ
 behind_size b = size (parts (number 4) b.values) + size (ended b.key)
 
 module _ (n : ℕ) (w x : List ℕ) (i j : ℕ) where
-  pub behind-fine : (m : Mark) (v : Verdict) → verdict_of (λ vs. size (parts (number 4) vs)) (times n (next_word (wide 4)) w x i j) ≡ Fine m
-      → v ≡ verdict_of (λ t. size (ended t)) (next_text (wide 4) w x m.word m.byte) → grown m.size v ≡ verdict_of behind_size (values_and_key n w x i j)
+  pub behind-fine : (m : Mark) (v : Verdict) → verdict_of (λ vs. size (parts (number 4) vs)) (times n (next_word (wide 4)) w x i j) ≡ Ok m
+      → v ≡ verdict_of (λ t. size (ended t)) (next_text (wide 4) w x m.at.word m.at.byte) → grown m.size v ≡ verdict_of behind_size (values_and_key n w x i j)
   unfolding values_and_key
   behind-fine m v e ev =
       was_then (λ vs. size (parts (number 4) vs)) (times n (next_word (wide 4)) w x i j) m e λ vs is sized.
       ap (λ (k : ℕ). grown k v) sized ∙ grown-sat (size (parts (number 4) vs)) v
-      ∙ rw is (then_grown behind_size (λ t. size (ended t)) (next_text (wide 4) w x m.word m.byte) w x (size (parts (number 4) vs)) v _ ev (λ t u u' d. refl))
+      ∙ rw is (then_grown behind_size (λ t. size (ended t)) (next_text (wide 4) w x m.at.word m.at.byte) w x (size (parts (number 4) vs)) v _ ev (λ t u u' d. refl))
 
 module _ (w x : List ℕ) (i j : ℕ) where
-  pub datum_bad : {k : ℕ} → Tested datum_tests datum_then w x i j (bad_word k) → BadWord k ≡ verdict_of (λ d. size (datum_lay d)) (datum w x i j)
+  pub datum_bad : {k : ℕ} → Tested datum_tests datum_then w x i j (bad_word k) → Err (Word k) ≡ verdict_of (λ d. size (datum_lay d)) (datum w x i j)
   unfolding datum tests_then
   datum_bad h = bad_at (λ d. size (datum_lay d)) h.gives
 
@@ -197,7 +196,7 @@ unfolding info_lay info_head size le
 targets-size letters n ts l = let t = size-table target_lay (8 + 4 * length ts) ts in omega (arith, l, t)
 
 module _ (w x : List ℕ) (i j : ℕ) where
-  pub info_bad : {k : ℕ} → Tested info_tests info_then w x i j (bad_word k) → BadWord k ≡ verdict_of (λ a. size (info_lay a)) (info w x i j)
+  pub info_bad : {k : ℕ} → Tested info_tests info_then w x i j (bad_word k) → Err (Word k) ≡ verdict_of (λ a. size (info_lay a)) (info w x i j)
   unfolding info tests_then
   info_bad h = bad_at (λ a. size (info_lay a)) h.gives
 
@@ -245,7 +244,7 @@ unfolding content_lay size filled_up
 content-size c h = rw (← body-size c h) (ap (λ (n : ℕ). size (content_body c) + n) (sym (zeros-size (padding_of (size (content_body c))))))
 
 module _ (name w x : List ℕ) (i j : ℕ) where
-  pub named_bad : {k : ℕ} → Tested named_tests (named_then name) w x i j (bad_word k) → BadWord k ≡ verdict_of (λ c. size (content_lay c)) (after_name name w x i j)
+  pub named_bad : {k : ℕ} → Tested named_tests (named_then name) w x i j (bad_word k) → Err (Word k) ≡ verdict_of (λ c. size (content_lay c)) (after_name name w x i j)
   unfolding after_name tests_then
   named_bad h = bad_at (λ c. size (content_lay c)) h.gives
 
@@ -266,8 +265,8 @@ module _ (name w x : List ℕ) (i j : ℕ) where
       (named_made head n type eh h (times n info w x (i + 1 + 1) j) (λ ps u v e. times-length info w x n (i + 1 + 1) j e))
 
 module _ (w x : List ℕ) (i j : ℕ) where
-  pub content-fine : (m : Mark) (v : Verdict) → verdict_of (λ (t : List ℕ). length t) (next_text (λ n. leb n 28) w x i j) ≡ Fine m
-      → ((name : List ℕ) → length name ≤ 28 → v ≡ verdict_of (λ c. size (content_lay c)) (after_name name w x m.word m.byte)) → v ≡ verdict_of (λ c. size (content_lay c)) (content w x i j)
+  pub content-fine : (m : Mark) (v : Verdict) → verdict_of (λ (t : List ℕ). length t) (next_text (λ n. leb n 28) w x i j) ≡ Ok m
+      → ((name : List ℕ) → length name ≤ 28 → v ≡ verdict_of (λ c. size (content_lay c)) (after_name name w x m.at.word m.at.byte)) → v ≡ verdict_of (λ c. size (content_lay c)) (content w x i j)
   unfolding content after_name
   content-fine m v e f =
       was_then (λ (t : List ℕ). length t) (next_text (λ n. leb n 28) w x i j) m e λ name is sized.
@@ -277,11 +276,11 @@ module _ (w x : List ℕ) (i j : ℕ) where
 -- ---- the end
 
 module _ (w x : List ℕ) (i j : ℕ) where
-  pub ends-word : i < length w → BadWord i ≡ verdict_of (λ z. 0) (ends w x i j)
+  pub ends-word : i < length w → Err (Word i) ≡ verdict_of (λ z. 0) (ends w x i j)
   unfolding ends verdict_of
   ends-word h = rw (lt-ltb i (length w) h)
 
-  pub ends-text : length w ≤ i → j < length x → BadText j ≡ verdict_of (λ z. 0) (ends w x i j)
+  pub ends-text : length w ≤ i → j < length x → Err (Text j) ≡ verdict_of (λ z. 0) (ends w x i j)
   unfolding ends verdict_of
   ends-text h k = rw (le-ltb i (length w) h, lt-ltb j (length x) k)
 
@@ -291,13 +290,13 @@ module _ (w x : List ℕ) (i j : ℕ) where
 
 -- a value that is all there is has the value's size
 module _ {A : Type 0} (s : A → ℕ) (p : J A) (w x : List ℕ) (i j : ℕ) where
-  pub whole-fine : (m : Mark) (v : Verdict) → verdict_of s (p w x i j) ≡ Fine m → v ≡ verdict_of (λ z. 0) (ends w x m.word m.byte)
+  pub whole-fine : (m : Mark) (v : Verdict) → verdict_of s (p w x i j) ≡ Ok m → v ≡ verdict_of (λ z. 0) (ends w x m.at.word m.at.byte)
       → grown m.size v ≡ verdict_of s (whole p w x i j)
   unfolding whole
   whole-fine m v e ev =
       was_then s (p w x i j) m e λ a is sized.
       ap (λ (k : ℕ). grown k v) sized ∙ grown-sat (s a) v
-      ∙ rw is (then_grown s (λ z. 0) (ends w x m.word m.byte) w x (s a) v (λ z. a) ev (λ z u u' d. omega arith))
+      ∙ rw is (then_grown s (λ z. 0) (ends w x m.at.word m.at.byte) w x (s a) v (λ z. a) ev (λ z u u' d. omega arith))
 
 -- ---- a section
 
@@ -310,8 +309,8 @@ unfolding section_size content_table names_end filled_up
 filled-size r = omega (arith, section_size_lem r)
 
 module _ (frames looping nt nc : ℕ) (w x : List ℕ) (i j : ℕ) where
-  pub headed_fine : (m : Mark) (t k : ℕ) (v : Verdict) → verdict_of (λ ts. size (parts ended ts)) (times nt (next_text (wide 4)) w x i j) ≡ Fine m → t ≡ sat (filled_up (20 + (4 * nt + m.size)))
-      → k ≡ sat (t + 4 * nc) → v ≡ verdict_of (λ cs. size (parts content_lay cs)) (times nc content w x m.word m.byte)
+  pub headed_fine : (m : Mark) (t k : ℕ) (v : Verdict) → verdict_of (λ ts. size (parts ended ts)) (times nt (next_text (wide 4)) w x i j) ≡ Ok m → t ≡ sat (filled_up (20 + (4 * nt + m.size)))
+      → k ≡ sat (t + 4 * nc) → v ≡ verdict_of (λ cs. size (parts content_lay cs)) (times nc content w x m.at.word m.at.byte)
       → grown k v ≡ verdict_of (λ (a : PaneAnimInfo). size (section_lay a)) (after_head frames looping nt nc w x i j)
   unfolding after_head
   headed_fine m t k v e et ek ev =
@@ -325,11 +324,11 @@ module _ (frames looping nt nc : ℕ) (w x : List ℕ) (i j : ℕ) where
       let d : k ≡ sat (f + 4 * nc) = omega (arith, ek, q) in
       ap (λ (k : ℕ). grown k v) d ∙ grown-sat (f + 4 * nc) v
       ∙ rw is
-      (then_grown (λ (a : PaneAnimInfo). size (section_lay a)) (λ cs. size (parts content_lay cs)) (times nc content w x m.word m.byte) w x (f + 4 * nc) v (made frames looping ts) ev
-      (λ cs u u' d. ap (λ (k : ℕ). f + 4 * k + size (parts content_lay cs)) (sym (times-length content w x nc m.word m.byte d)) ∙ filled-size (made frames looping ts cs)))
+      (then_grown (λ (a : PaneAnimInfo). size (section_lay a)) (λ cs. size (parts content_lay cs)) (times nc content w x m.at.word m.at.byte) w x (f + 4 * nc) v (made frames looping ts) ev
+      (λ cs u u' d. ap (λ (k : ℕ). f + 4 * k + size (parts content_lay cs)) (sym (times-length content w x nc m.at.word m.at.byte d)) ∙ filled-size (made frames looping ts cs)))
 
 module _ (w x : List ℕ) (i j : ℕ) where
-  pub pane_bad : {k : ℕ} → Tested pane_tests pane_then w x i j (bad_word k) → BadWord k ≡ verdict_of (λ (a : PaneAnimInfo). size (section_lay a)) (pane w x i j)
+  pub pane_bad : {k : ℕ} → Tested pane_tests pane_then w x i j (bad_word k) → Err (Word k) ≡ verdict_of (λ (a : PaneAnimInfo). size (section_lay a)) (pane w x i j)
   unfolding pane after_head tests_then
   pane_bad h = bad_at (λ (a : PaneAnimInfo). size (section_lay a)) h.gives
 

@@ -2,22 +2,24 @@
 -- Assumes nothing.
 use Prim.Native.Nat.{ℕ, zero, suc, max, ◌+◌, ◌-◌, ◌*◌, ◌<◌, ◌≤◌}
 use mathlib.Core.Path.{◌≡◌, refl, ap, sym, subst, ◌∙◌}
-use mathlib.Core.Bool.{Bool, true, false, not, ◌&&◌}
+use mathlib.Core.Bool.{Bool, true, false, ◌&&◌}
 use mathlib.Core.List.{List, [], ◌∷◌}
 use native.Mathlib.Omega.{arith}
-use borrow.Author.Tests.{ltb-true, leb-true, leb-false, lt-ltb, le-ltb, not-true, not-false}
+use borrow.Author.Tests.{ltb-true, leb-true, leb-false, lt-ltb, le-ltb}
 use lib.Dec.{ltb, leb, leb-suc-suc}
 use lib.ListN.{length, get_or, replicate}
+use Rattle.std.specs.Prelude.{Result, Ok, Err}
+use Rattle.std.specs.Result.{IsErrAnd}
+use Rattle.std.proofs.lemmas.Result.{err_from_is_err_and}
 use Rattle.base.specs.Choice.{pick}
 use Rattle.base.specs.Fill.{padding_of}
 use Rattle.base.proofs.utf8.Laws.{both_true}
 use Rattle.bflan.specs.declared.judge.Mark.{Mark}
-use Rattle.bflan.specs.declared.judge.Verdict.{Verdict}
-use Rattle.bflan.specs.declared.judge.Verdict.TheVariants.{Fine, BadWord, BadText}
+use Rattle.bflan.specs.declared.judge.Misfit.{Misfit}
+use Rattle.bflan.specs.declared.judge.Misfit.TheVariants.{Word}
 use Rattle.bflan.specs.Judge.{Judged, fine, bad_word, bad_text, J, and_then, ret, next_word, times, wide, row}
 use Rattle.bflan.specs.Layout.{Layout, number, size, parts}
-use Rattle.bflan.specs.inner.Measure.{verdict_of}
-use Rattle.bflan.specs.inner.Measure.{fits, grown, filled_up, padded}
+use Rattle.bflan.specs.inner.Measure.{verdict_of, fits, word_if, mark_grown, grown, filled_up, mark_padded, padded, onward, each}
 use Rattle.bflan.specs.inner.Walk.{sat}
 
 -- ---- sums as a usize
@@ -44,8 +46,24 @@ sat-filled n = go (leb n 18446744073709551615) refl
         let l : ℕ = padding_of n in
         omega arith
 
+abbrev pub Verdict : Type 0
+Verdict = Result Mark Misfit
+
 abbrev pub marked : ℕ → ℕ → ℕ → Verdict
-marked i j n = Fine (record { word = i; byte = j; size = n })
+marked i j n = Ok (record { at = record { word = i; byte = j }; size = n })
+
+-- and with zeros up to a multiple of 4
+pub filled : {v : Verdict} {m o : Mark} → v ≡ Ok m → o ≡ mark_padded m → Ok o ≡ padded v
+unfolding padded
+filled d e = rw (d, e)
+
+pub none_filled : {v : Verdict} {e : Misfit} → v ≡ Err e → Err e ≡ padded v
+unfolding padded
+none_filled d = rw d
+
+-- a refusal that `?` hands on
+pub handed_on : {T : Type 0} {r : Result T Misfit} {e : Misfit} → IsErrAnd r (λ d. d ≡ e) → r ≡ Err e
+handed_on {r} i = let p = err_from_is_err_and r i in p.1 ∙ ap Err p.2
 
 -- ---- one part
 
@@ -70,71 +88,52 @@ module _ {A : Type 0} where
 
 pub grown-sat : (n : ℕ) (v : Verdict) → grown (sat n) v ≡ grown n v
 unfolding grown
-grown-sat n (Fine m) = ap (marked m.word m.byte) (sat_left n m.size)
-grown-sat n (BadWord i) = refl
-grown-sat n (BadText j) = refl
+grown-sat n (Ok m) = ap (marked m.at.word m.at.byte) (sat_left n m.size)
+grown-sat n (Err e) = refl
 
 pub grown-grown : (n k : ℕ) (v : Verdict) → grown n (grown k v) ≡ grown (n + k) v
 unfolding grown
-grown-grown n k (Fine m) = ap (marked m.word m.byte) (let z : ℕ = m.size in let e : sat (n + sat (k + z)) ≡ sat (n + k + z) = omega arith in e)
-grown-grown n k (BadWord i) = refl
-grown-grown n k (BadText j) = refl
+grown-grown n k (Ok m) = ap (marked m.at.word m.at.byte) (let z : ℕ = m.size in let e : sat (n + sat (k + z)) ≡ sat (n + k + z) = omega arith in e)
+grown-grown n k (Err e) = refl
 
--- ---- a part's answer, in the three forms that its caller's arms have
+-- the answer of a part, where the code goes on with more bytes and where it does not
+pub more : (n : ℕ) {v : Verdict} {m o : Mark} → v ≡ Ok m → o ≡ mark_grown n m → Ok o ≡ grown n v
+unfolding grown
+more n d e = rw (d, e)
+
+pub none_more : (n : ℕ) {v : Verdict} {e : Misfit} → v ≡ Err e → Err e ≡ grown n v
+unfolding grown
+none_more n d = rw d
+
+-- ---- a part's answer, in the two forms that its caller's arms have
 
 module _ {A : Type 0} (s : A → ℕ) where
-  pub was_word : (r : Judged A) (k : ℕ) → verdict_of s r ≡ BadWord k → r ≡ bad_word k
-  unfolding verdict_of
-  was_word (fine a i j) k e = cc
-  was_word (bad_word i) k e = cc
-  was_word (bad_text j) k e = cc
-
-  pub was_text : (r : Judged A) (k : ℕ) → verdict_of s r ≡ BadText k → r ≡ bad_text k
-  unfolding verdict_of
-  was_text (fine a i j) k e = cc
-  was_text (bad_word i) k e = cc
-  was_text (bad_text j) k e = cc
-
   pub record Was (r : Judged A) (m : Mark) : Type 0 where
     pub value : A
-    pub is : r ≡ fine value m.word m.byte
+    pub is : r ≡ fine value m.at.word m.at.byte
     pub sized : m.size ≡ sat (s value)
 
-  pub was_fine : (r : Judged A) (m : Mark) → verdict_of s r ≡ Fine m → Was r m
+  pub was_fine : (r : Judged A) (m : Mark) → verdict_of s r ≡ Ok m → Was r m
   unfolding verdict_of
   was_fine (fine a i j) m e =
-      let d : record { word = i; byte = j; size = sat (s a) } ≡ m = cc in
+      let d : record { at = record { word = i; byte = j }; size = sat (s a) } ≡ m = cc in
       record {
         value = a;
-        is = rw (ap (λ (z : Mark). z.word) (sym d), ap (λ (z : Mark). z.byte) (sym d));
+        is = rw (ap (λ (z : Mark). z.at.word) (sym d), ap (λ (z : Mark). z.at.byte) (sym d));
         sized = ap (λ (z : Mark). z.size) (sym d);
       }
   was_fine (bad_word i) m e = let z : ◌≡◌ {A = ℕ} 0 1 = cc in absurd (omega arith)
   was_fine (bad_text j) m e = let z : ◌≡◌ {A = ℕ} 0 1 = cc in absurd (omega arith)
 
-  pub was_then : {C : Type 0} (r : Judged A) (m : Mark) → verdict_of s r ≡ Fine m → ((a : A) → r ≡ fine a m.word m.byte → m.size ≡ sat (s a) → C) → C
+  pub was_then : {C : Type 0} (r : Judged A) (m : Mark) → verdict_of s r ≡ Ok m → ((a : A) → r ≡ fine a m.at.word m.at.byte → m.size ≡ sat (s a) → C) → C
   was_then r m e f = let z = was_fine r m e in f z.value z.is z.sized
 
--- ---- a verdict that refuses
-
-abbrev pub Refused : Verdict → Type 0
-Refused (Fine m) = ⊥
-Refused (BadWord i) = Unit
-Refused (BadText j) = Unit
-
--- it stays what it is with more bytes
-refused-grown : (n : ℕ) (v : Verdict) → Refused v → grown n v ≡ v
-unfolding grown
-refused-grown n (Fine m) h = absurd h
-refused-grown n (BadWord i) h = refl
-refused-grown n (BadText j) h = refl
-
--- and with what is judged behind the part that it refuses
-pub refused_first : {A B : Type 0} (s : A → ℕ) (all : B → ℕ) (r : Judged A) (q : A → J B) (w x : List ℕ) {v : Verdict} → Refused v → verdict_of s r ≡ v → v ≡ verdict_of all (and_then r q w x)
+-- a part that is refused is so with what is judged behind it
+pub refused_first : {A B : Type 0} (s : A → ℕ) (all : B → ℕ) (r : Judged A) (q : A → J B) (w x : List ℕ) {e : Misfit} → verdict_of s r ≡ Err e → Err e ≡ verdict_of all (and_then r q w x)
 unfolding verdict_of
-refused_first s all r q w x {v = Fine m} h e = absurd h
-refused_first s all r q w x {v = BadWord k} h e = rw (was_word s r k e)
-refused_first s all r q w x {v = BadText k} h e = rw (was_text s r k e)
+refused_first s all (fine a i j) q w x h = cc
+refused_first s all (bad_word k) q w x h = sym h
+refused_first s all (bad_text k) q w x h = sym h
 
 -- ---- what is made of a part's value
 
@@ -151,13 +150,6 @@ module _ {A B : Type 0} (all : B → ℕ) where
   then_grown s r w x n v f e h = ap (grown n) e ∙ measured_grown n s r ∙ measured_by (λ a. n + s a) (λ a. all (f a)) r h ∙ measured_made r w x f
 
 -- ---- a word
-
--- the answer of a test, where the code goes on and where it does not
-pub held : (a b : Bool) → a ≡ b → not a ≡ false → b ≡ true
-held a b e h = sym e ∙ not-false a h
-
-pub failed : (a b : Bool) → a ≡ b → not a ≡ true → b ≡ false
-failed a b e h = sym e ∙ not-true a h
 
 pub fits_there : (test : ℕ → Bool) (w : List ℕ) (i : ℕ) → fits test w i ≡ true → i < length w
 unfolding fits
@@ -187,6 +179,63 @@ word-fine test w x i j e = rw e
 pub word_bad : (test : ℕ → Bool) (w x : List ℕ) (i j : ℕ) → fits test w i ≡ false → next_word test w x i j ≡ bad_word i
 unfolding next_word fits
 word_bad test w x i j e = rw e
+
+-- what is answered of a word
+pub word_if_in : (test : ℕ → Bool) (w : List ℕ) (i : ℕ) → i < length w → test (get_or w i 0) ≡ true → Ok (get_or w i 0) ≡ word_if test w i
+unfolding word_if
+word_if_in test w i h e = rw (sym (fits_in test w i h) ∙ e)
+
+pub word_if_unfit : (test : ℕ → Bool) (w : List ℕ) (i : ℕ) → i < length w → test (get_or w i 0) ≡ false → Err (Word i) ≡ word_if test w i
+unfolding word_if
+word_if_unfit test w i h e = rw (sym (fits_in test w i h) ∙ e)
+
+pub word_if_out : (test : ℕ → Bool) (w : List ℕ) (i : ℕ) → length w ≤ i → Err (Word i) ≡ word_if test w i
+unfolding word_if
+word_if_out test w i h = rw (sym (fits_out test w i h))
+
+-- and what that says, where the code goes on and where it does not, the place being one that equals the code's
+module _ (test : ℕ → Bool) (w : List ℕ) where
+  choice : (i : ℕ) (b : Bool) → fits test w i ≡ b → word_if test w i ≡ pick b (Ok (get_or w i 0)) (Err (Word i))
+  unfolding word_if
+  choice i b e = rw e
+
+  held_at : (i : ℕ) {r : Result ℕ Misfit} {v : ℕ} → r ≡ word_if test w i → r ≡ Ok v → fits test w i ≡ true
+  held_at i {r} {v} e d = go (fits test w i) refl
+    where
+      go : (b : Bool) → fits test w i ≡ b → fits test w i ≡ true
+      go true q = q
+      go false q = let c = choice i false q in cc
+
+  failed_at : (i : ℕ) {r : Result ℕ Misfit} {m : Misfit} → r ≡ word_if test w i → r ≡ Err m → fits test w i ≡ false
+  failed_at i {r} {m} e d = go (fits test w i) refl
+    where
+      go : (b : Bool) → fits test w i ≡ b → fits test w i ≡ false
+      go true q = let c = choice i true q in cc
+      go false q = q
+
+  word_at : (i : ℕ) {r : Result ℕ Misfit} {v : ℕ} → r ≡ word_if test w i → r ≡ Ok v → v ≡ get_or w i 0
+  word_at i e d = let c = choice i true (held_at i e d) in cc
+
+  misfit_at : (i : ℕ) {r : Result ℕ Misfit} {m : Misfit} → r ≡ word_if test w i → r ≡ Err m → m ≡ Word i
+  misfit_at i e d = let c = choice i false (failed_at i e d) in cc
+
+module _ (test : ℕ → Bool) (w : List ℕ) {i : ℕ} {r : Result ℕ Misfit} where
+  pub there : {v : ℕ} → r ≡ word_if test w i → r ≡ Ok v → i < length w
+  there e d = fits_there test w i (held_at test w i e d)
+
+  module _ {j : ℕ} where
+    pub held : {v : ℕ} → r ≡ word_if test w i → r ≡ Ok v → i ≡ j → fits test w j ≡ true
+    held e d q = ap (fits test w) (sym q) ∙ held_at test w i e d
+
+    pub word_is : {v : ℕ} → r ≡ word_if test w i → r ≡ Ok v → i ≡ j → v ≡ get_or w j 0
+    word_is e d q = word_at test w i e d ∙ ap (λ (k : ℕ). get_or w k 0) q
+
+    pub failed : {m : Misfit} → r ≡ word_if test w i → r ≡ Err m → i ≡ j → fits test w j ≡ false
+    failed e d q = ap (fits test w) (sym q) ∙ failed_at test w i e d
+
+    -- a word's refusal, which `?` hands on
+    pub refused_word : {T : Type 0} {o : Result T Misfit} {m : Misfit} → r ≡ word_if test w i → IsErrAnd o (λ d. d ≡ m) → r ≡ Err m → i ≡ j → o ≡ Err (Word j)
+    refused_word e h d q = handed_on h ∙ ap Err (misfit_at test w i e d) ∙ ap (λ (k : ℕ). Err (Word k)) q
 
 -- ---- words with a test each, and what is judged behind them: a do-block that begins with such words is this, by computation
 
@@ -227,7 +276,7 @@ tests_fine [] c w x i j f = refl
 tests_fine (t ∷ ts) c w x i j f = rw (word-fine t w x i j f.0) (tests_fine ts (λ vs. c (get_or w i 0 ∷ vs)) w x (i + 1) j f.1)
 
 -- a word that is refused, as the code answers it
-pub bad_at : {A : Type 0} (s : A → ℕ) {r : Judged A} {k : ℕ} → r ≡ bad_word k → BadWord k ≡ verdict_of s r
+pub bad_at : {A : Type 0} (s : A → ℕ) {r : Judged A} {k : ℕ} → r ≡ bad_word k → Err (Word k) ≡ verdict_of s r
 unfolding verdict_of
 bad_at s e = rw e
 
@@ -244,54 +293,70 @@ module _ {A : Type 0} (p : J A) (w x : List ℕ) where
   times-turn zero i j h = absurd (omega arith)
   times-turn (suc n) i j h = let e : suc n - 1 ≡ n = omega arith in rw e
 
--- ---- a loop over n parts from i₀ and j₀ on, which stands at i and j, with `left` parts to come and k bytes behind it: what is left, with
--- these bytes, is the whole
+-- ---- n parts, by what is answered of each
 
 module _ {A : Type 0} (p : J A) (lay : A → Layout) (w x : List ℕ) where
-  abbrev pub measured : ℕ → ℕ → ℕ → Verdict
-  measured n i j = verdict_of (λ ps. size (parts lay ps)) (times n p w x i j)
+  abbrev part_of : ℕ → ℕ → Verdict
+  part_of i j = verdict_of (λ a. size (lay a)) (p w x i j)
 
-  pub record Measuring (n i₀ j₀ left i j k : ℕ) : Type 0 where
-    pub small : k ≤ 18446744073709551615
-    pub same : grown k (measured left i j) ≡ measured n i₀ j₀
+  pub each_measured : (n i j : ℕ) → each part_of n i j ≡ verdict_of (λ ps. size (parts lay ps)) (times n p w x i j)
+  unfolding each onward times verdict_of parts size
+  each_measured zero i j = refl
+  each_measured (suc n) i j = go (p w x i j) (each_measured n)
+    where
+      go : (r : Judged A) → ((k l : ℕ) → each part_of n k l ≡ verdict_of (λ ps. size (parts lay ps)) (times n p w x k l)) → onward (verdict_of (λ a. size (lay a)) r) (λ m. each part_of n m.at.word m.at.byte) ≡ verdict_of (λ ps. size (parts lay ps)) (and_then r (λ a w x i j. and_then (times n p w x i j) (λ ps. ret (a ∷ ps)) w x) w x)
+      go (fine a k l) h =
+          ap (grown (sat (size (lay a)))) (h k l) ∙ grown-sat (size (lay a)) _
+          ∙ then_grown (λ ps. size (parts lay ps)) (λ ps. size (parts lay ps)) (times n p w x k l) w x (size (lay a)) _ (λ ps. a ∷ ps) refl (λ ps u v z. refl)
+      go (bad_word k) h = refl
+      go (bad_text k) h = refl
 
-grown-none : {A : Type 0} (s : A → ℕ) (r : Judged A) → grown 0 (verdict_of s r) ≡ verdict_of s r
-unfolding verdict_of grown
-grown-none s (fine a i j) = ap (marked i j) (omega arith)
-grown-none s (bad_word i) = refl
-grown-none s (bad_text j) = refl
+-- a loop over such parts from i₀ and j₀ on, with `left` parts to come and the mark m behind it: what is left, with m's bytes, is the whole
+pub record Repeating (f : ℕ → ℕ → Verdict) (n i₀ j₀ left : ℕ) (m : Mark) : Type 0 where
+  pub small : m.size ≤ 18446744073709551615
+  pub same : grown m.size (each f left m.at.word m.at.byte) ≡ each f n i₀ j₀
 
-module _ {A : Type 0} {p : J A} {lay : A → Layout} {w x : List ℕ} {n i₀ j₀ : ℕ} where
-  pub measuring_start : Measuring p lay w x n i₀ j₀ n i₀ j₀ 0
-  measuring_start = record { small = omega arith; same = grown-none (λ ps. size (parts lay ps)) (times n p w x i₀ j₀) }
+each-none : (f : ℕ → ℕ → Verdict) (n i j : ℕ) → grown 0 (each f n i j) ≡ each f n i j
+unfolding each onward grown
+each-none f zero i j = refl
+each-none f (suc n) i j = go (f i j)
+  where
+    go : (r : Verdict) → grown 0 (onward r (λ m. each f n m.at.word m.at.byte)) ≡ onward r (λ m. each f n m.at.word m.at.byte)
+    go (Ok m) = grown-grown 0 m.size (each f n m.at.word m.at.byte) ∙ ap (λ (k : ℕ). grown k (each f n m.at.word m.at.byte)) (omega arith)
+    go (Err e) = refl
 
-  module _ {left i j k : ℕ} (h : Measuring p lay w x n i₀ j₀ left i j k) where
-    -- by what the judge of the next part said
-    module _ (l : 0 < left) {v : Verdict} (e : v ≡ verdict_of (λ a. size (lay a)) (p w x i j)) where
-      turn : measured p lay w x n i₀ j₀ ≡ grown k (verdict_of (λ ps. size (parts lay ps)) (and_then (p w x i j) (λ a w x i j. and_then (times (left - 1) p w x i j) (λ ps. ret (a ∷ ps)) w x) w x))
-      turn = sym h.same ∙ ap (λ (r : Judged (List A)). grown k (verdict_of (λ ps. size (parts lay ps)) r)) (times-turn p w x left i j l)
+module _ {f : ℕ → ℕ → Verdict} {n i₀ j₀ : ℕ} where
+  pub repeating_start : Repeating f n i₀ j₀ n (record { at = record { word = i₀; byte = j₀ }; size = 0 })
+  repeating_start = record { small = omega arith; same = each-none f n i₀ j₀ }
 
-      pub measuring_bad : {u : Verdict} → Refused u → v ≡ u → u ≡ measured p lay w x n i₀ j₀
-      measuring_bad {u} b d = sym (refused-grown k u b) ∙ ap (grown k) (refused_first (λ a. size (lay a)) (λ ps. size (parts lay ps)) (p w x i j) _ w x b (sym e ∙ d)) ∙ sym turn
+  module _ {left : ℕ} {m : Mark} (h : Repeating f n i₀ j₀ left m) where
+    step : 0 < left → each f left m.at.word m.at.byte ≡ onward (f m.at.word m.at.byte) (λ o. each f (left - 1) o.at.word o.at.byte)
+    unfolding each
+    step l = go left l
+      where
+        go : (k : ℕ) → 0 < k → each f k m.at.word m.at.byte ≡ onward (f m.at.word m.at.byte) (λ o. each f (k - 1) o.at.word o.at.byte)
+        go zero l = absurd (omega arith)
+        go (suc k) l = let e : suc k - 1 ≡ k = omega arith in rw e
 
-      pub measuring_turn : {m : Mark} → v ≡ Fine m → {k' : ℕ} → k' ≡ sat (k + m.size) → Measuring p lay w x n i₀ j₀ (left - 1) m.word m.byte k'
-      measuring_turn {m} d {k'} ek =
-          let b = was_fine (λ a. size (lay a)) (p w x i j) m (sym e ∙ d) in
-          let a : A = b.value in
-          let rest : Judged (List A) = times (left - 1) p w x m.word m.byte in
-          let g : grown (size (lay a)) (verdict_of (λ ps. size (parts lay ps)) rest) ≡ verdict_of (λ ps. size (parts lay ps)) (and_then rest (λ ps. ret (a ∷ ps)) w x) =
-          then_grown (λ ps. size (parts lay ps)) (λ ps. size (parts lay ps)) rest w x (size (lay a)) _ (λ ps. a ∷ ps) refl (λ ps u v z. unfold parts size in refl) in
-          let z : ℕ = size (lay a) in
-          let ez : k' ≡ sat (k + z) = ek ∙ ap (λ (q : ℕ). sat (k + q)) b.sized ∙ sat_right k z in
-          record {
-            small = omega (arith, ek);
-            same = ap (λ (q : ℕ). grown q (verdict_of (λ ps. size (parts lay ps)) rest)) ez ∙ grown-sat (k + z) _ ∙ sym (grown-grown k z _) ∙ ap (grown k) g
-                ∙ ap (λ (r : Judged A). grown k (verdict_of (λ ps. size (parts lay ps)) (and_then r (λ a w x i j. and_then (times (left - 1) p w x i j) (λ ps. ret (a ∷ ps)) w x) w x))) (sym b.is)
-                ∙ sym turn;
-          }
+    pub repeating_bad : 0 < left → {e : Misfit} → f m.at.word m.at.byte ≡ Err e → Err e ≡ each f n i₀ j₀
+    unfolding onward grown
+    repeating_bad l d = rw (step l, d) at h.same
 
-    pub measuring_end : left ≤ 0 → marked i j k ≡ measured p lay w x n i₀ j₀
-    measuring_end l = rw (sym h.same, times_none p w x left i j l) (unfold verdict_of grown parts size in ap (marked i j) (omega (arith, h.small)))
+    pub repeating_turn : 0 < left → {p o : Mark} → f m.at.word m.at.byte ≡ Ok p → o ≡ mark_grown m.size p → Repeating f n i₀ j₀ (left - 1) o
+    unfolding onward
+    repeating_turn l {p} {o} d e =
+        record {
+          small = rw e (omega arith);
+          same = rw e (grown-sat (m.size + p.size) _ ∙ sym (grown-grown m.size p.size _) ∙ (rw (step l, d) at h.same));
+        }
+
+    pub repeating_end : left ≤ 0 → Ok m ≡ each f n i₀ j₀
+    unfolding each grown
+    repeating_end l = go left l h.same
+      where
+        go : (k : ℕ) → k ≤ 0 → grown m.size (each f k m.at.word m.at.byte) ≡ each f n i₀ j₀ → Ok m ≡ each f n i₀ j₀
+        go zero l e = ap (marked m.at.word m.at.byte) (omega (arith, h.small)) ∙ e
+        go (suc k) l e = absurd (omega arith)
 
 -- ---- parts of k words that are fine wherever their words are there, and else bad where the words end
 
@@ -359,14 +424,14 @@ steps_times p w x k s (suc n) = steps_as _ w x (k + n * k) (suc n * k) (steps_bo
 
 -- the measure of such parts that all have c bytes
 abbrev pub ran : ℕ → ℕ → ℕ → ℕ → ℕ → Verdict
-ran k c len i j = pick (leb k (len - i)) (marked (i + k) j (sat c)) (BadWord (max i len))
+ran k c len i j = pick (leb k (len - i)) (marked (i + k) j (sat c)) (Err (Word (max i len)))
 
 pub steps_measured : {A : Type 0} (p : J A) (w x : List ℕ) (k : ℕ) → Steps p w x k → (s : A → ℕ) (c i j : ℕ) → ((a : A) (u v : ℕ) → p w x i j ≡ fine a u v → s a ≡ c)
     → verdict_of s (p w x i j) ≡ ran k c (length w) i j
 unfolding verdict_of
 steps_measured p w x k st s c i j h = go (leb k (length w - i)) refl
   where
-    go : (b : Bool) → leb k (length w - i) ≡ b → verdict_of s (p w x i j) ≡ pick b (marked (i + k) j (sat c)) (BadWord (max i (length w)))
+    go : (b : Bool) → leb k (length w - i) ≡ b → verdict_of s (p w x i j) ≡ pick b (marked (i + k) j (sat c)) (Err (Word (max i (length w))))
     go true e = let a = st.there i j (leb-true k (length w - i) e) in let d = a.is in rw d (ap (λ (n : ℕ). marked (i + k) j (sat n)) (h a.value _ _ d))
     go false e = rw (st.short i j (leb-false k (length w - i) e))
 

@@ -3,6 +3,10 @@ use Prim.Native.Nat.{ℕ, zero, suc, ◌+◌, ◌*◌, ◌<◌, ◌≤◌}
 use mathlib.Core.Path.{◌≡◌, refl, ap, sym, subst, ◌∙◌}
 use mathlib.Core.Bool.{Bool, true, false, ◌&&◌}
 use mathlib.Core.List.{List, [], ◌∷◌, map}
+use Rattle.std.specs.Prelude.{Option, Some, None, Result, Ok, Err}
+use Rattle.std.specs.Option.{ok_or}
+use Rattle.std.specs.Result.{result_ok}
+use Rattle.std.proofs.lemmas.Option.{none-some}
 use native.Mathlib.Nat.{zero-add, suc-mul, mul-le-mul_right}
 use native.Mathlib.Omega.{arith}
 use borrow.Author.Tests.{leb-true, le-leb, lt-leb, lt-ltb, le-ltb, ltb-true, eqb-true, eqb-false, eq-eqb, ne_eqb}
@@ -17,25 +21,22 @@ use Rattle.bflan.specs.declared.place.Field.TheVariants.{FrameCount as frames, L
 use Rattle.bflan.specs.declared.place.Place.{Place}
 use Rattle.bflan.specs.declared.place.Track.{Track}
 use Rattle.bflan.specs.declared.place.Place.TheVariants.{FrameCount, Looping, Layer, Target, Key, Value}
-use Rattle.bflan.specs.declared.place.Located.{Located}
-use Rattle.bflan.specs.declared.place.Located.TheVariants.{TooLong, Refused, NoSuchPlace, At}
-use Rattle.bflan.specs.declared.place.Base.{Base}
-use Rattle.bflan.specs.declared.place.Base.TheVariants.{From, Missing}
+use Rattle.bflan.specs.declared.place.FieldSpot.{FieldSpot}
+use Rattle.bflan.specs.declared.place.LocateError.TheVariants.{TooLong, Fault as Unread, NoSuchPlace}
 use Rattle.bflan.specs.pai1.FieldValues.{numbers_in}
 use Rattle.bflan.specs.pai1.Layout.{key_skip}
 use Rattle.base.specs.Choice.{pick}
 use Rattle.bflan.specs.pai1.Letters.{fleu, letters_of}
 use Rattle.bflan.specs.Limits.{limit}
 use Rattle.bflan.specs.pai1.Locating.{of_spot, locating_in, locating}
-use Rattle.bflan.specs.inner.Path.{layer_under, number_under, key_under, value_under, content_base, info_base, info_under, target_base, after_base, datum_base, TargetAt, DatumAt, InfoAt, ContentAt, SectionAt}
+use Rattle.bflan.specs.inner.Path.{spot_of, content_base, info_base, info_under, target_base, after_base, datum_base, TargetAt, DatumAt, InfoAt, ContentAt, SectionAt}
 use Rattle.bflan.specs.pai1.Places.{Spot, nowhere, spot, after as behind, widths, total, stride, track_at, key_in, value_in, target_in, datum_in, info_table_in, info_in, content_in, locate}
 use Rattle.bflan.specs.Reader.{Res, ok, stop, ◌>>=◌, ret, given, fail, Item, word, text, skip, numbers, many, visit}
 use Rattle.bflan.specs.pai1.Reading.{key_of, curve_of, count_of, keys, target, datum, info, type_of, info_table, content, texture, own_letters, contents, body, section}
 use Rattle.bflan.specs.pai1.Record.{key_widths}
-use Rattle.bflan.specs.inner.Walk.{empty_tally, walk_of, walked}
+use Rattle.bflan.specs.inner.Walk.{Walk, empty_tally, walk_of, walked}
 use Rattle.bflan.specs.declared.reader.tally.Tally.{Tally}
-use Rattle.bflan.specs.declared.reader.tally.Walk.{Walk}
-use Rattle.bflan.specs.declared.reader.tally.Walk.TheVariants.{Went, Stopped}
+use Rattle.std.specs.Prelude.{Ok, Err}
 use Rattle.bflan.proofs.Layouts.{stride_three}
 use Rattle.bflan.proofs.read.Answers.{told_answer, stopped, whole}
 use Rattle.bflan.specs.pai1.RecordAt.{name_size}
@@ -182,11 +183,11 @@ module _ (s : List ℕ) where
 
 -- ---- a path by its steps
 
-abbrev under : Base → (ℕ → Spot) → Spot
-under (From b) f = f b
-under Missing f = nowhere
+abbrev under : Option ℕ → (ℕ → Spot) → Spot
+under (Some b) f = f b
+under None f = nowhere
 
-pick_under : (t : Bool) (b : ℕ) (f : ℕ → Spot) → pick t (f b) nowhere ≡ under (pick t (From b) Missing) f
+pick_under : (t : Bool) (b : ℕ) (f : ℕ → Spot) → pick t (f b) nowhere ≡ under (pick t (Some b) None) f
 pick_under true b f = refl
 pick_under false b f = refl
 
@@ -203,7 +204,7 @@ module _ (s : List ℕ) where
   unfolding target_in target_base
   target_under_lem b t f = go (eqb (get 4 s b) fleu) (ltb t (get 1 s (b + 4)))
     where
-      go : (x y : Bool) → pick x nowhere (pick y (f (b + get 4 s (b + 8 + 4 * t))) nowhere) ≡ under (pick x Missing (pick y (From (b + get 4 s (b + 8 + 4 * t))) Missing)) f
+      go : (x y : Bool) → pick x nowhere (pick y (f (b + get 4 s (b + 8 + 4 * t))) nowhere) ≡ under (pick x None (pick y (Some (b + get 4 s (b + 8 + 4 * t))) None)) f
       go true y = refl
       go false y = pick_under y (b + get 4 s (b + 8 + 4 * t)) f
 
@@ -211,7 +212,7 @@ module _ (s : List ℕ) where
   unfolding datum_in datum_base after_base
   datum_under b d f = go (eqb (get 4 s b) fleu) (ltb d (get 1 s (b + 4))) (many d datum s (b + 8))
     where
-      go : (x y : Bool) (r : Res (List Item)) → pick x (pick y (behind r f) nowhere) nowhere ≡ under (pick x (pick y (after_base r) Missing) Missing) f
+      go : (x y : Bool) (r : Res (List Item)) → pick x (pick y (behind r f) nowhere) nowhere ≡ under (pick x (pick y (after_base r) None) None) f
       go true true (ok is q) = refl
       go true true (stop g) = refl
       go true false r = refl
@@ -222,56 +223,56 @@ module _ (s : List ℕ) where
   unfolding info_under
   path_under c i f = content_under c (λ b. info_in s b i f) ∙ go (content_base s c)
     where
-      go : (x : Base) → under x (λ b. info_in s b i f) ≡ under (info_under s x i) f
-      go (From b) = info_under_lem b i f
-      go Missing = refl
+      go : (x : Option ℕ) → under x (λ b. info_in s b i f) ≡ under (info_under s x i) f
+      go (Some b) = info_under_lem b i f
+      go None = refl
 
 -- ---- what stands where it leads
 
-from_missing : (b : ℕ) → Missing ≡ From b → ⊥
+from_missing : (b : ℕ) → None ≡ Some b → ⊥
 from_missing b e = let z : ◌≡◌ {A = ℕ} 0 1 = cc in omega arith
 
-from_from : (a b : ℕ) → From a ≡ From b → a ≡ b
+from_from : (a b : ℕ) → Some a ≡ Some b → a ≡ b
 from_from a b e = cc
 
-picked : (Good : ℕ → Type 0) (n k : ℕ) (a b : ℕ) → pick (ltb k n) (From a) Missing ≡ From b → (k < n → Good a) → Good b
+picked : (Good : ℕ → Type 0) (n k : ℕ) (a b : ℕ) → pick (ltb k n) (Some a) None ≡ Some b → (k < n → Good a) → Good b
 picked Good n k a b e f = go (ltb k n) refl e
   where
-    go : (t : Bool) → ltb k n ≡ t → pick t (From a) Missing ≡ From b → Good b
+    go : (t : Bool) → ltb k n ≡ t → pick t (Some a) None ≡ Some b → Good b
     go true u d = subst Good (from_from a b d) (f (ltb-true k n u))
     go false u d = absurd (from_missing b d)
 
 module _ (s : List ℕ) where
-  pub content_from : (c b : ℕ) → SectionAt s → content_base s c ≡ From b → ContentAt s b
+  pub content_from : (c b : ℕ) → SectionAt s → content_base s c ≡ Some b → ContentAt s b
   unfolding content_base
   content_from c b h e = picked (ContentAt s) (get 2 s 14) c (get 4 s (get 4 s 16 + 4 * c)) b e (h.contents c)
 
-  info_from : (a i b : ℕ) → ContentAt s a → info_base s a i ≡ From b → InfoAt s b
+  info_from : (a i b : ℕ) → ContentAt s a → info_base s a i ≡ Some b → InfoAt s b
   unfolding info_base
   info_from a i b h e = picked (InfoAt s) (get 1 s (a + 28)) i (a + get 4 s (info_table_in s a + 4 * i)) b e (h.infos i)
 
-  pub path_from : (c i b : ℕ) → SectionAt s → info_under s (content_base s c) i ≡ From b → InfoAt s b
+  pub path_from : (c i b : ℕ) → SectionAt s → info_under s (content_base s c) i ≡ Some b → InfoAt s b
   unfolding info_under
   path_from c i b h = go (content_base s c) refl
     where
-      go : (x : Base) → content_base s c ≡ x → info_under s x i ≡ From b → InfoAt s b
-      go (From a) d e = info_from a i b (content_from c a h d) e
-      go Missing d e = absurd (from_missing b e)
+      go : (x : Option ℕ) → content_base s c ≡ x → info_under s x i ≡ Some b → InfoAt s b
+      go (Some a) d e = info_from a i b (content_from c a h d) e
+      go None d e = absurd (from_missing b e)
 
-  pub target_from : (a t b : ℕ) → InfoAt s a → target_base s a t ≡ From b → TargetAt s b
+  pub target_from : (a t b : ℕ) → InfoAt s a → target_base s a t ≡ Some b → TargetAt s b
   unfolding target_base
   target_from a t b h = go (eqb (get 4 s a) fleu) refl
     where
-      go : (x : Bool) → eqb (get 4 s a) fleu ≡ x → pick x Missing (pick (ltb t (get 1 s (a + 4))) (From (a + get 4 s (a + 8 + 4 * t))) Missing) ≡ From b → TargetAt s b
+      go : (x : Bool) → eqb (get 4 s a) fleu ≡ x → pick x None (pick (ltb t (get 1 s (a + 4))) (Some (a + get 4 s (a + 8 + 4 * t))) None) ≡ Some b → TargetAt s b
       go true d e = absurd (from_missing b e)
       go false d e = picked (TargetAt s) (get 1 s (a + 4)) t (a + get 4 s (a + 8 + 4 * t)) b e (h.targets (eqb-false (get 4 s a) fleu d) t)
 
-  pub datum_from : (a d b : ℕ) → InfoAt s a → datum_base s a d ≡ From b → DatumAt s b
+  pub datum_from : (a d b : ℕ) → InfoAt s a → datum_base s a d ≡ Some b → DatumAt s b
   unfolding datum_base after_base
   datum_from a d b h = go (eqb (get 4 s a) fleu) refl (ltb d (get 1 s (a + 4))) refl (many d datum s (a + 8)) refl
     where
       go : (x : Bool) → eqb (get 4 s a) fleu ≡ x → (y : Bool) → ltb d (get 1 s (a + 4)) ≡ y → (r : Res (List Item)) → many d datum s (a + 8) ≡ r
-          → pick x (pick y (after_base r) Missing) Missing ≡ From b → DatumAt s b
+          → pick x (pick y (after_base r) None) None ≡ Some b → DatumAt s b
       go true u true v (ok is q) w e = subst (DatumAt s) (from_from q b e) (h.extended (eqb-true (get 4 s a) fleu u) d (ltb-true d (get 1 s (a + 4)) v) is q w)
       go true u true v (stop g) w e = absurd (from_missing b e)
       go true u false v r w e = absurd (from_missing b e)
@@ -287,9 +288,9 @@ module _ (s : List ℕ) (b l v : ℕ) (x : DatumAt s b) (hl : l < 3) where
   pub value-fits : v < get 4 s (b + 8) → b + 16 + 4 * (l * get 4 s (b + 8) + v) + 4 ≤ length s
   value-fits hv = omega (arith, x.lists, lists-most, hv)
 
-under_at : (x : Base) (f : ℕ → Spot) {at : ℕ} {g : Field} {X : Type 0} → under x f ≡ spot at g → ((b : ℕ) → x ≡ From b → f b ≡ spot at g → X) → X
-under_at (From b) f e k = k b refl e
-under_at Missing f e k = absurd (let z : ◌≡◌ {A = ℕ} 0 1 = cc in omega arith)
+under_at : (x : Option ℕ) (f : ℕ → Spot) {at : ℕ} {g : Field} {X : Type 0} → under x f ≡ spot at g → ((b : ℕ) → x ≡ Some b → f b ≡ spot at g → X) → X
+under_at (Some b) f e k = k b refl e
+under_at None f e k = absurd (let z : ◌≡◌ {A = ℕ} 0 1 = cc in omega arith)
 
 spot_place : {a b : ℕ} {f g : Field} → spot a f ≡ spot b g → a ≡ b
 spot_place e = cc
@@ -344,16 +345,24 @@ module _ (s : List ℕ) (h : SectionAt s) (at : ℕ) (f : Field) where
 
 -- ---- the steps and the fields as the code has them
 
+ok_some : {A E : Type 0} (r : Result A E) (v : A) → result_ok r ≡ Some v → r ≡ Ok v
+ok_some (Ok x) v e = cc
+ok_some (Err f) v e = absurd (none-some v e)
+
+ok_none : {A E : Type 0} (r : Result A E) → result_ok r ≡ None → (f : E) × (r ≡ Err f)
+ok_none (Ok x) e = absurd (none-some x (sym e))
+ok_none (Err f) e = (f, refl)
+
 module _ (s : List ℕ) where
-  pub content_yes : (c : ℕ) {n table off : ℕ} → n ≡ get 2 s 14 → c < n → table ≡ get 4 s 16 → off ≡ get 4 s (table + 4 * c) → From off ≡ content_base s c
+  pub content_yes : (c : ℕ) {n table off : ℕ} → n ≡ get 2 s 14 → c < n → table ≡ get 4 s 16 → off ≡ get 4 s (table + 4 * c) → Some off ≡ content_base s c
   unfolding content_base
   content_yes c en h et eo = let e : ltb c (get 2 s 14) ≡ true = lt-ltb c (get 2 s 14) (rw en at h) in rw (e, eo, et)
 
-  pub content_no : (c : ℕ) {n : ℕ} → n ≡ get 2 s 14 → n ≤ c → Missing ≡ content_base s c
+  pub content_no : (c : ℕ) {n : ℕ} → n ≡ get 2 s 14 → n ≤ c → None ≡ content_base s c
   unfolding content_base
   content_no c en h = let e : ltb c (get 2 s 14) ≡ false = le-ltb c (get 2 s 14) (rw en at h) in rw e
 
-  pub info_off : (c i : ℕ) → content_base s c ≡ Missing → Missing ≡ info_under s (content_base s c) i
+  pub info_off : (c i : ℕ) → content_base s c ≡ None → None ≡ info_under s (content_base s c) i
   unfolding info_under
   info_off c i e = rw e
 
@@ -366,55 +375,61 @@ module _ (s : List ℕ) where
     unfolding info_table_in
     table-plain et e = rw (ne_eqb (get 1 s (b + 29)) 2 (λ z. e (et ∙ z)))
 
-    pub info_yes : (i : ℕ) {n table off : ℕ} → n ≡ get 1 s (b + 28) → i < n → table ≡ info_table_in s b → off ≡ get 4 s (table + 4 * i) → From (b + off) ≡ info_base s b i
+    pub info_yes : (i : ℕ) {n table off : ℕ} → n ≡ get 1 s (b + 28) → i < n → table ≡ info_table_in s b → off ≡ get 4 s (table + 4 * i) → Some (b + off) ≡ info_base s b i
     unfolding info_base
     info_yes i en h et eo = let e : ltb i (get 1 s (b + 28)) ≡ true = lt-ltb i (get 1 s (b + 28)) (rw en at h) in rw (e, eo, et)
 
-    pub info_no : (i : ℕ) {n : ℕ} → n ≡ get 1 s (b + 28) → n ≤ i → Missing ≡ info_base s b i
+    pub info_no : (i : ℕ) {n : ℕ} → n ≡ get 1 s (b + 28) → n ≤ i → None ≡ info_base s b i
     unfolding info_base
     info_no i en h = let e : ltb i (get 1 s (b + 28)) ≡ false = le-ltb i (get 1 s (b + 28)) (rw en at h) in rw e
 
-    pub info_on : (c i : ℕ) (r : Base) → content_base s c ≡ From b → r ≡ info_base s b i → r ≡ info_under s (content_base s c) i
+    pub info_on : (c i : ℕ) (r : Option ℕ) → content_base s c ≡ Some b → r ≡ info_base s b i → r ≡ info_under s (content_base s c) i
     unfolding info_under
     info_on c i r e d = rw e d
 
     module _ {letters : ℕ} (el : letters ≡ get 4 s b) where
-      pub target-fleu : (t : ℕ) → letters ≡ fleu → Missing ≡ target_base s b t
+      pub target-fleu : (t : ℕ) → letters ≡ fleu → None ≡ target_base s b t
       unfolding target_base
       target-fleu t e = rw (eq-eqb (get 4 s b) fleu (sym el ∙ e))
 
-      pub datum_other : (d : ℕ) → (letters ≡ fleu → ⊥) → Missing ≡ datum_base s b d
+      pub datum_other : (d : ℕ) → (letters ≡ fleu → ⊥) → None ≡ datum_base s b d
       unfolding datum_base
       datum_other d e = rw (ne_eqb (get 4 s b) fleu (λ z. e (el ∙ z)))
 
       module _ {n : ℕ} (en : n ≡ get 1 s (b + 4)) where
-        pub target_yes : (t : ℕ) {off : ℕ} → (letters ≡ fleu → ⊥) → t < n → off ≡ get 4 s (b + 8 + 4 * t) → From (b + off) ≡ target_base s b t
+        pub target_yes : (t : ℕ) {off : ℕ} → (letters ≡ fleu → ⊥) → t < n → off ≡ get 4 s (b + 8 + 4 * t) → Some (b + off) ≡ target_base s b t
         unfolding target_base
         target_yes t e h eo = let u : ltb t (get 1 s (b + 4)) ≡ true = lt-ltb t (get 1 s (b + 4)) (rw en at h) in rw (ne_eqb (get 4 s b) fleu (λ z. e (el ∙ z)), u, eo)
 
-        pub target_no : (t : ℕ) → (letters ≡ fleu → ⊥) → n ≤ t → Missing ≡ target_base s b t
+        pub target_no : (t : ℕ) → (letters ≡ fleu → ⊥) → n ≤ t → None ≡ target_base s b t
         unfolding target_base
         target_no t e h = let u : ltb t (get 1 s (b + 4)) ≡ false = le-ltb t (get 1 s (b + 4)) (rw en at h) in rw (ne_eqb (get 4 s b) fleu (λ z. e (el ∙ z)), u)
 
-        pub datum_yes : (d : ℕ) (r : Base) → letters ≡ fleu → d < n → r ≡ after_base (many d datum s (b + 8)) → r ≡ datum_base s b d
+        pub datum_yes : (d : ℕ) (r : Option ℕ) → letters ≡ fleu → d < n → r ≡ after_base (many d datum s (b + 8)) → r ≡ datum_base s b d
         unfolding datum_base
         datum_yes d r e h er = let u : ltb d (get 1 s (b + 4)) ≡ true = lt-ltb d (get 1 s (b + 4)) (rw en at h) in rw (eq-eqb (get 4 s b) fleu (sym el ∙ e), u, er)
 
-        pub datum_no : (d : ℕ) → letters ≡ fleu → n ≤ d → Missing ≡ datum_base s b d
+        pub datum_no : (d : ℕ) → letters ≡ fleu → n ≤ d → None ≡ datum_base s b d
         unfolding datum_base
         datum_no d e h = let u : ltb d (get 1 s (b + 4)) ≡ false = le-ltb d (get 1 s (b + 4)) (rw en at h) in rw (eq-eqb (get 4 s b) fleu (sym el ∙ e), u)
 
   -- where a walk over data stands
   module _ (t : Tally) (w x w' x' : List ℕ) (r : Walk) where
-    pub after_on : (u : Tally) (p : ℕ) (res : Res (List Item)) → walked r w' x' ≡ walk_of s t w x res → r ≡ Went u p → From p ≡ after_base res
+    after_ok : (u : Tally) (p : ℕ) (res : Res (List Item)) → walked r w' x' ≡ walk_of s t w x res → r ≡ Ok (u, p) → Some p ≡ after_base res
     unfolding walk_of after_base
-    after_on u p (ok is q) e d = ap From (on_place _ _ _ _ (sym d ∙ sym (told_answer r w' x') ∙ ap (λ (z : Walk × List ℕ × List ℕ). z.0) e))
-    after_on u p (stop g) e d = absurd (on_no _ _ _ (sym d ∙ sym (told_answer r w' x') ∙ ap (λ (z : Walk × List ℕ × List ℕ). z.0) e))
+    after_ok u p (ok is q) e d = ap Some (on_place _ _ _ _ (sym d ∙ sym (told_answer r w' x') ∙ ap (λ (z : Walk × List ℕ × List ℕ). z.0) e))
+    after_ok u p (stop g) e d = absurd (on_no _ _ _ (sym d ∙ sym (told_answer r w' x') ∙ ap (λ (z : Walk × List ℕ × List ℕ). z.0) e))
 
-    pub after_no : (f : Fault) (res : Res (List Item)) → walked r w' x' ≡ walk_of s t w x res → r ≡ Stopped f → Missing ≡ after_base res
+    after_err : (f : Fault) (res : Res (List Item)) → walked r w' x' ≡ walk_of s t w x res → r ≡ Err f → None ≡ after_base res
     unfolding walk_of after_base
-    after_no f (ok is q) e d = absurd (on_no _ _ _ (sym (sym d ∙ sym (told_answer r w' x') ∙ ap (λ (z : Walk × List ℕ × List ℕ). z.0) e)))
-    after_no f (stop g) e d = refl
+    after_err f (ok is q) e d = absurd (on_no _ _ _ (sym (sym d ∙ sym (told_answer r w' x') ∙ ap (λ (z : Walk × List ℕ × List ℕ). z.0) e)))
+    after_err f (stop g) e d = refl
+
+    pub after_on : (u : Tally) (p : ℕ) (res : Res (List Item)) → walked r w' x' ≡ walk_of s t w x res → result_ok r ≡ Some (u, p) → Some p ≡ after_base res
+    after_on u p res e d = after_ok u p res e (ok_some r (u, p) d)
+
+    pub after_no : (res : Res (List Item)) → walked r w' x' ≡ walk_of s t w x res → result_ok r ≡ None → None ≡ after_base res
+    after_no res e d = let f = ok_none r d in after_err f.0 res e f.1
 
   -- the bytes from one key to the next
   pub stride_rest : (c : ℕ) → (c ≡ 0 → ⊥) → (c ≡ 1 → ⊥) → 12 ≡ stride c
@@ -433,12 +448,12 @@ module _ (s : List ℕ) where
     track_low h = rw (le-leb (get 1 s (b + 2)) 2 (rw ec at h), eo, ec, en)
 
   module _ (b k : ℕ) {t : Track} (e : t ≡ track_at s b) where
-    pub key-none : t.count ≤ k → NoSuchPlace ≡ of_spot (key_in s b k)
-    unfolding key_in of_spot
+    pub key-none : t.count ≤ k → None ≡ spot_of (key_in s b k)
+    unfolding key_in spot_of
     key-none l = rw (le-ltb k (track_at s b).count (rw e at l))
 
-    pub key_there : k < t.count → {gap : ℕ} → gap ≡ stride t.curve → At (t.keys + k * gap) (key t.curve) ≡ of_spot (key_in s b k)
-    unfolding key_in of_spot
+    pub key_there : k < t.count → {gap : ℕ} → gap ≡ stride t.curve → Some (record { at = t.keys + k * gap; field = key t.curve }) ≡ spot_of (key_in s b k)
+    unfolding key_in spot_of
     key_there l eg = rw (lt-ltb k (track_at s b).count (rw e at l), eg, e)
 
     -- it lies in the section, so that its place is a number
@@ -449,124 +464,77 @@ module _ (s : List ℕ) where
         omega (arith, f, d)
 
   module _ (b l v : ℕ) {n : ℕ} (en : n ≡ get 4 s (b + 8)) where
-    pub value_list : 3 ≤ l → NoSuchPlace ≡ of_spot (value_in s b l v)
-    unfolding value_in of_spot
+    pub value_list : 3 ≤ l → None ≡ spot_of (value_in s b l v)
+    unfolding value_in spot_of
     value_list h = rw (le-ltb l 3 h)
 
     module _ (h : l < 3) where
-      pub value_none : n ≤ v → NoSuchPlace ≡ of_spot (value_in s b l v)
-      unfolding value_in of_spot
+      pub value_none : n ≤ v → None ≡ spot_of (value_in s b l v)
+      unfolding value_in spot_of
       value_none k = let e : ltb v (get 4 s (b + 8)) ≡ false = le-ltb v (get 4 s (b + 8)) (rw en at k) in rw (lt-ltb l 3 h, e)
 
-      pub value_there : v < n → At (b + 16 + 4 * (l * n + v)) value ≡ of_spot (value_in s b l v)
-      unfolding value_in of_spot
+      pub value_there : v < n → Some (record { at = b + 16 + 4 * (l * n + v); field = value }) ≡ spot_of (value_in s b l v)
+      unfolding value_in spot_of
       value_there k = let e : ltb v (get 4 s (b + 8)) ≡ true = lt-ltb v (get 4 s (b + 8)) (rw en at k) in rw (lt-ltb l 3 h, e, en)
 
       pub value-most : DatumAt s b → l * n ≤ 2 * n
       value-most x = rw en (lists-most s b l v x h)
 
-  -- the fields under an info
-  module _ (b t : ℕ) where
-    target_to : (q : ℕ) (f : ℕ → Spot) → target_base s b t ≡ From q → target_in s b t f ≡ f q
-    target_to q f e = target_under_lem s b t f ∙ rw e
-
-    target_none : (f : ℕ → Spot) → target_base s b t ≡ Missing → target_in s b t f ≡ nowhere
-    target_none f e = target_under_lem s b t f ∙ rw e
-
-    pub layer_to : (q : ℕ) → target_base s b t ≡ From q → At q layer ≡ of_spot (layer_under s b t)
-    unfolding layer_under of_spot
-    layer_to q e = sym (ap of_spot (target_to q (λ b. spot b layer) e))
-
-    pub layer-none : target_base s b t ≡ Missing → NoSuchPlace ≡ of_spot (layer_under s b t)
-    unfolding layer_under of_spot
-    layer-none e = sym (ap of_spot (target_none (λ b. spot b layer) e))
-
-    pub number_to : (q : ℕ) {w letters : ℕ} → target_base s b t ≡ From q → w ≡ get 4 s b → letters ≡ letters_of w → At (q + 1) (number' letters) ≡ of_spot (number_under s b t)
-    unfolding number_under of_spot
-    number_to q e ew el = sym (ap of_spot (target_to q (λ a. spot (a + 1) (number' (letters_of (get 4 s b)))) e) ∙ rw (el, ew))
-
-    pub number-none : target_base s b t ≡ Missing → NoSuchPlace ≡ of_spot (number_under s b t)
-    unfolding number_under of_spot
-    number-none e = sym (ap of_spot (target_none (λ a. spot (a + 1) (number' (letters_of (get 4 s b)))) e))
-
-    pub key_to : (k q : ℕ) (r : Located) → target_base s b t ≡ From q → r ≡ of_spot (key_in s q k) → r ≡ of_spot (key_under s b t k)
-    unfolding key_under
-    key_to k q r e d = d ∙ sym (ap of_spot (target_to q (λ b. key_in s b k) e))
-
-    pub key-missing : (k : ℕ) → target_base s b t ≡ Missing → NoSuchPlace ≡ of_spot (key_under s b t k)
-    unfolding key_under of_spot
-    key-missing k e = sym (ap of_spot (target_none (λ b. key_in s b k) e))
-
-  pub value_to : (b d l v q : ℕ) (r : Located) → datum_base s b d ≡ From q → r ≡ of_spot (value_in s q l v) → r ≡ of_spot (value_under s b d l v)
-  unfolding value_under
-  value_to b d l v q r e h = h ∙ sym (ap of_spot (datum_under s b d (λ b. value_in s b l v) ∙ rw e))
-
-  pub value-missing : (b d l v : ℕ) → datum_base s b d ≡ Missing → NoSuchPlace ≡ of_spot (value_under s b d l v)
-  unfolding value_under of_spot
-  value-missing b d l v e =
-      let z : datum_in s b d (λ b. value_in s b l v) ≡ nowhere = datum_under s b d (λ b. value_in s b l v) ∙ rw e in
-      sym (ap of_spot z)
-
-  -- the place of a record's field
+  -- the field of a place, by the steps of its path
   module _ (c i : ℕ) where
-    path_to : (f : ℕ → Spot) (b : ℕ) (r : Located) → info_under s (content_base s c) i ≡ From b → r ≡ of_spot (f b) → r ≡ of_spot (content_in s c (λ b. info_in s b i f))
-    path_to f b r e d = d ∙ sym (ap of_spot (path_under s c i f ∙ rw e))
-
-    path_none : (f : ℕ → Spot) → info_under s (content_base s c) i ≡ Missing → NoSuchPlace ≡ of_spot (content_in s c (λ b. info_in s b i f))
-    unfolding of_spot
-    path_none f e =
+    pub no_info : (f : ℕ → Spot) → info_under s (content_base s c) i ≡ None → None ≡ spot_of (content_in s c (λ b. info_in s b i f))
+    unfolding spot_of
+    no_info f e =
         let z : content_in s c (λ b. info_in s b i f) ≡ nowhere = path_under s c i f ∙ rw e in
-        sym (ap of_spot z)
+        sym (ap spot_of z)
 
-    pub at_layer : (t b : ℕ) (r : Located) → info_under s (content_base s c) i ≡ From b → r ≡ of_spot (layer_under s b t) → r ≡ of_spot (locate s (Layer c i t))
-    unfolding locate layer_under
-    at_layer t b r e d = path_to _ b r e d
+    module _ (b : ℕ) (e : info_under s (content_base s c) i ≡ Some b) where
+      info_to : (f : ℕ → Spot) → content_in s c (λ b. info_in s b i f) ≡ f b
+      info_to f = path_under s c i f ∙ rw e
 
-    pub no_layer : (t : ℕ) → info_under s (content_base s c) i ≡ Missing → NoSuchPlace ≡ of_spot (locate s (Layer c i t))
-    unfolding locate
-    no_layer t e = path_none _ e
+      pub no_target : (t : ℕ) (f : ℕ → ℕ → Spot) → target_base s b t ≡ None → None ≡ spot_of (content_in s c (λ b. info_in s b i (λ a. target_in s a t (f a))))
+      unfolding spot_of
+      no_target t f d =
+          let z : content_in s c (λ b. info_in s b i (λ a. target_in s a t (f a))) ≡ nowhere = info_to (λ a. target_in s a t (f a)) ∙ target_under_lem s b t (f b) ∙ rw d in
+          sym (ap spot_of z)
 
-    pub at_number : (t b : ℕ) (r : Located) → info_under s (content_base s c) i ≡ From b → r ≡ of_spot (number_under s b t) → r ≡ of_spot (locate s (Target c i t))
-    unfolding locate number_under
-    at_number t b r e d = path_to (λ a. target_in s a t (λ b. spot (b + 1) (number' (letters_of (get 4 s a))))) b r e d
+      pub target_to : (t q : ℕ) (f : ℕ → ℕ → Spot) {r : Option FieldSpot} → target_base s b t ≡ Some q → r ≡ spot_of (f b q)
+          → r ≡ spot_of (content_in s c (λ b. info_in s b i (λ a. target_in s a t (f a))))
+      target_to t q f d x = x ∙ sym (ap spot_of (info_to (λ a. target_in s a t (f a)) ∙ target_under_lem s b t (f b) ∙ rw d))
 
-    pub no_number : (t : ℕ) → info_under s (content_base s c) i ≡ Missing → NoSuchPlace ≡ of_spot (locate s (Target c i t))
-    unfolding locate
-    no_number t e = path_none _ e
+      pub no_datum : (d : ℕ) (f : ℕ → Spot) → datum_base s b d ≡ None → None ≡ spot_of (content_in s c (λ b. info_in s b i (λ a. datum_in s a d f)))
+      unfolding spot_of
+      no_datum d f x =
+          let z : content_in s c (λ b. info_in s b i (λ a. datum_in s a d f)) ≡ nowhere = info_to (λ a. datum_in s a d f) ∙ datum_under s b d f ∙ rw x in
+          sym (ap spot_of z)
 
-    pub at_key : (t k b : ℕ) (r : Located) → info_under s (content_base s c) i ≡ From b → r ≡ of_spot (key_under s b t k) → r ≡ of_spot (locate s (Key c i t k))
-    unfolding locate key_under
-    at_key t k b r e d = path_to (λ b. target_in s b t (λ b. key_in s b k)) b r e d
-
-    pub no_key : (t k : ℕ) → info_under s (content_base s c) i ≡ Missing → NoSuchPlace ≡ of_spot (locate s (Key c i t k))
-    unfolding locate
-    no_key t k e = path_none _ e
-
-    pub at_value : (d l v b : ℕ) (r : Located) → info_under s (content_base s c) i ≡ From b → r ≡ of_spot (value_under s b d l v) → r ≡ of_spot (locate s (Value c i d l v))
-    unfolding locate value_under
-    at_value d l v b r e h = path_to (λ b. datum_in s b d (λ b. value_in s b l v)) b r e h
-
-    pub no_value : (d l v : ℕ) → info_under s (content_base s c) i ≡ Missing → NoSuchPlace ≡ of_spot (locate s (Value c i d l v))
-    unfolding locate
-    no_value d l v e = path_none _ e
+      pub datum_to : (d q : ℕ) (f : ℕ → Spot) {r : Option FieldSpot} → datum_base s b d ≡ Some q → r ≡ spot_of (f q)
+          → r ≡ spot_of (content_in s c (λ b. info_in s b i (λ a. datum_in s a d f)))
+      datum_to d q f x y = y ∙ sym (ap spot_of (info_to (λ a. datum_in s a d f) ∙ datum_under s b d f ∙ rw x))
 
   -- ---- the call
 
+  -- a field that has to be there
+  required : (x : Spot) → ok_or (spot_of x) NoSuchPlace ≡ of_spot x
+  unfolding spot_of of_spot
+  required nowhere = refl
+  required (spot at f) = refl
+
   module _ (p : Place) where
-    pub locating-long : 16777216 < length s → TooLong (length s) ≡ locating s p
+    pub locating-long : 16777216 < length s → Err (TooLong (length s)) ≡ locating s p
     unfolding locating
     locating-long h = rw (lt-leb (length s) limit h)
 
     module _ (h : length s ≤ 16777216) (r : Walk) (em : r ≡ (walk_of s (empty_tally 0) [] [] (section s 0)).0) where
-      pub locating-stop : (f : Fault) → r ≡ Stopped f → Refused f ≡ locating s p
+      pub locating-stop : (f : Fault) → r ≡ Err f → Err (Unread f) ≡ locating s p
       unfolding locating locating_in
       locating-stop f e = rw (le-leb (length s) limit h, stopped s (empty_tally 0) (section s 0) f (sym em ∙ e))
 
-      pub locating_on : (t : Tally) (q : ℕ) (l : Located) → r ≡ Went t q → l ≡ of_spot (locate s p) → l ≡ locating s p
+      pub locating_on : (t : Tally) (q : ℕ) (x : Option FieldSpot) → r ≡ Ok (t, q) → x ≡ spot_of (locate s p) → ok_or x NoSuchPlace ≡ locating s p
       unfolding locating locating_in
-      locating_on t q l e d = rw (le-leb (length s) limit h, (whole section s 0 t q (sym em ∙ e)).reads) d
+      locating_on t q x e d = rw (le-leb (length s) limit h, (whole section s 0 t q (sym em ∙ e)).reads, d) (required (locate s p))
 
-      pub locating-section : (t : Tally) (q : ℕ) → r ≡ Went t q → SectionAt s
+      pub locating-section : (t : Tally) (q : ℕ) → r ≡ Ok (t, q) → SectionAt s
       locating-section t q e = let w = whole section s 0 t q (sym em ∙ e) in section_at s w.items w.last w.reads
 
     -- what an answer says
@@ -578,15 +546,15 @@ module _ (s : List ℕ) where
       pub found : locate s p ≡ spot at f
       pub inside : at + total (widths f) ≤ length s
 
-    pub spotted : (at : ℕ) (f : Field) → locating s p ≡ At at f → Spotted at f
+    pub spotted : (x : FieldSpot) → locating s p ≡ Ok x → Spotted x.at x.field
     unfolding locating locating_in of_spot
-    spotted at f = go (leb (length s) limit) refl (section s 0) refl
+    spotted y = go (leb (length s) limit) refl (section s 0) refl
       where
-        found : (x : Spot) → of_spot x ≡ At at f → x ≡ spot at f
+        found : (x : Spot) → of_spot x ≡ Ok y → x ≡ spot y.at y.field
         found nowhere e = absurd (let z : ◌≡◌ {A = ℕ} 0 1 = cc in omega arith)
-        found (spot a g) e = cc
+        found (spot a g) e = let d : y ≡ record { at = a; field = g } = cc in rw d
 
-        go : (b : Bool) → leb (length s) limit ≡ b → (r : Res (List Item)) → section s 0 ≡ r → pick b (locating_in s p r) (TooLong (length s)) ≡ At at f → Spotted at f
+        go : (b : Bool) → leb (length s) limit ≡ b → (r : Res (List Item)) → section s 0 ≡ r → pick b (locating_in s p r) (Err (TooLong (length s))) ≡ Ok y → Spotted y.at y.field
         go true d (ok is q) u e =
             let z = found (locate s p) e in
             record {
@@ -595,7 +563,7 @@ module _ (s : List ℕ) where
               end = q;
               reads = u;
               found = z;
-              inside = located_inside s (section_at s is q u) at f p z;
+              inside = located_inside s (section_at s is q u) y.at y.field p z;
             }
         go true d (stop g) u e = absurd (let z : ◌≡◌ {A = ℕ} 0 1 = cc in omega arith)
         go false d r u e = absurd (let z : ◌≡◌ {A = ℕ} 0 1 = cc in omega arith)

@@ -18,13 +18,12 @@ use Rattle.base.specs.Utf8.{decode, replacements, well_formed}
 use Rattle.bflan.specs.declared.fault.Fault.{Fault}
 use Rattle.bflan.specs.declared.fault.Fault.TheVariants.{PastEnd, NoZero, OtherLetters}
 use Rattle.bflan.specs.declared.reader.tally.Tally.{Tally}
-use Rattle.bflan.specs.declared.reader.tally.Walk.{Walk}
-use Rattle.bflan.specs.declared.reader.tally.Walk.TheVariants.{Went, Stopped}
-use Rattle.bflan.specs.declared.read.ReadAnswer.TheVariants.{Accepted, Refused, TooLong, TooShort}
-use Rattle.bflan.specs.declared.find.FindAnswer.TheVariants.{Found, Refused as FindRefused, TooLong as FindTooLong, NoSuchText, ScratchTooShort}
+use Rattle.std.specs.Prelude.{Ok, Err}
+use Rattle.bflan.specs.declared.read.ReadError.TheVariants.{Fault as ReadFault, TooLong, TooShort}
+use Rattle.bflan.specs.declared.find.FindError.TheVariants.{Fault as FindFault, TooLong as FindTooLong, NoSuchText, ScratchTooShort}
 use Rattle.bflan.specs.Reader.{Res, ok, stop, P, Item}
 use Rattle.bflan.specs.Items.{words_of, texts_of, replacements_of}
-use Rattle.bflan.specs.inner.Walk.{empty_tally, tallied, walk_of, walked}
+use Rattle.bflan.specs.inner.Walk.{Walk, empty_tally, tallied, walk_of, walked}
 use Rattle.bflan.specs.Limits.{limit}
 use Rattle.bflan.specs.Answer.{too_long, too_short, of_fault, of_reading, of_finding, shown, shown_in, filled, found, text_part, text_ptr, finding_by, reading_by}
 use Rattle.bflan.specs.Items.{texts_in}
@@ -36,8 +35,8 @@ use Rattle.bflan.proofs.reader.Counts.{Fresh, whole_words, whole-bytes, whole-re
 
 pub told_answer : (r : Walk) (w x : List ℕ) → (walked r w x).0 ≡ r
 unfolding walked
-told_answer (Went t p) w x = refl
-told_answer (Stopped f) w x = refl
+told_answer (Ok on) w x = refl
+told_answer (Err f) w x = refl
 
 pub measured : (r : Walk) (s : List ℕ) (k : ℕ) (t : Tally) (w x : List ℕ) (res : Res (List Item)) → t ≡ empty_tally k → walked r w x ≡ walk_of s t [] [] res → r ≡ (walk_of s (empty_tally k) [] [] res).0
 measured r s k t w x res et e = sym (told_answer r w x) ∙ ap (λ (z : Walk × List ℕ × List ℕ). z.0) (e ∙ ap (λ (u : Tally). walk_of s u [] [] res) et)
@@ -46,21 +45,21 @@ measured r s k t w x res et e = sym (told_answer r w x) ∙ ap (λ (z : Walk × 
 pub tables : (r : Walk) (s : List ℕ) (t : Tally) (w x w' x' : List ℕ) (is : List Item) (p : ℕ) → walked r w' x' ≡ walk_of s t w x (ok is p)
     → (w' ≡ sets w t.words (words_of s is)) × (x' ≡ sets x t.bytes (texts_of s is))
 unfolding walked walk_of
-tables (Went u q) s t w x w' x' is p e = (ap (λ (z : Walk × List ℕ × List ℕ). z.1) e, ap (λ (z : Walk × List ℕ × List ℕ). z.2) e)
-tables (Stopped f) s t w x w' x' is p e = absurd (on_no _ _ _ (sym (ap (λ (z : Walk × List ℕ × List ℕ). z.0) e)))
+tables (Ok (u, q)) s t w x w' x' is p e = (ap (λ (z : Walk × List ℕ × List ℕ). z.1) e, ap (λ (z : Walk × List ℕ × List ℕ). z.2) e)
+tables (Err f) s t w x w' x' is p e = absurd (on_no _ _ _ (sym (ap (λ (z : Walk × List ℕ × List ℕ). z.0) e)))
 
 -- ---- a section that was measured
 
-pub stopped : (s : List ℕ) (t : Tally) (res : Res (List Item)) (f : Fault) → (walk_of s t [] [] res).0 ≡ Stopped f → res ≡ stop f
+pub stopped : (s : List ℕ) (t : Tally) (res : Res (List Item)) (f : Fault) → (walk_of s t [] [] res).0 ≡ Err f → res ≡ stop f
 unfolding walk_of
 stopped s t (ok is p) f e = absurd (on_no _ _ _ e)
 stopped s t (stop g) f e = ap (λ (z : Fault). stop z) (no_fault g f e)
 
-went : (s : List ℕ) (u t : Tally) (is : List Item) (q p : ℕ) → (walk_of s u [] [] (ok is q)).0 ≡ Went t p → t ≡ tallied s u is
+went : (s : List ℕ) (u t : Tally) (is : List Item) (q p : ℕ) → (walk_of s u [] [] (ok is q)).0 ≡ Ok (t, p) → t ≡ tallied s u is
 unfolding walk_of
 went s u t is q p e = sym (on_tally _ _ _ _ e)
 
-went_not : (s : List ℕ) (u t : Tally) (f : Fault) (p : ℕ) → (walk_of s u [] [] (stop f)).0 ≡ Went t p → ⊥
+went_not : (s : List ℕ) (u t : Tally) (f : Fault) (p : ℕ) → (walk_of s u [] [] (stop f)).0 ≡ Ok (t, p) → ⊥
 unfolding walk_of
 went_not s u t f p e = on_no _ _ _ (sym e)
 
@@ -76,10 +75,10 @@ module _ (p : P (List Item)) where
     pub reads : p s 0 ≡ ok items last
     pub counts : t ≡ tallied s (empty_tally k) items
 
-  pub whole : (s : List ℕ) (k : ℕ) (t : Tally) (q : ℕ) → (walk_of s (empty_tally k) [] [] (p s 0)).0 ≡ Went t q → Whole s k t
+  pub whole : (s : List ℕ) (k : ℕ) (t : Tally) (q : ℕ) → (walk_of s (empty_tally k) [] [] (p s 0)).0 ≡ Ok (t, q) → Whole s k t
   whole s k t q e = go (p s 0) refl e
     where
-      go : (res : Res (List Item)) → p s 0 ≡ res → (walk_of s (empty_tally k) [] [] res).0 ≡ Went t q → Whole s k t
+      go : (res : Res (List Item)) → p s 0 ≡ res → (walk_of s (empty_tally k) [] [] res).0 ≡ Ok (t, q) → Whole s k t
       go (ok is l) er em = record { items = is; last = l; reads = er; counts = went s (empty_tally k) t is l q em }
       go (stop f) er em = absurd (went_not s (empty_tally k) t f q em)
 
@@ -115,22 +114,22 @@ module _ (p : P (List Item)) where
 -- ---- reading
 
 filled_both : (s w x : List ℕ) (is : List Item) (p a b c : ℕ) → a ≡ length (words_of s is) → b ≡ length (texts_of s is) → c ≡ replacements_of s is → a ≤ length w → b ≤ length x
-    → (of_reading (Accepted a b c), sets w 0 (words_of s is), sets x 0 (texts_of s is)) ≡ filled s w x (ok is p)
-unfolding of_reading filled
+    → (of_reading (Ok (record { words = a; bytes = b; replaced = c })), sets w 0 (words_of s is), sets x 0 (texts_of s is)) ≡ filled s w x (ok is p)
+unfolding filled
 filled_both s w x is p a b c ea eb ec ha hb = rw (sym ea, sym eb, sym ec, le-leb _ _ ha, le-leb _ _ hb)
 
-filled-words : (s w x : List ℕ) (is : List Item) (p a b : ℕ) → a ≡ length (words_of s is) → b ≡ length (texts_of s is) → length w < a → (of_reading (TooShort a b), w, x) ≡ filled s w x (ok is p)
-unfolding of_reading filled
+filled-words : (s w x : List ℕ) (is : List Item) (p a b : ℕ) → a ≡ length (words_of s is) → b ≡ length (texts_of s is) → length w < a → (of_reading (Err (TooShort a b)), w, x) ≡ filled s w x (ok is p)
+unfolding filled
 filled-words s w x is p a b ea eb ha = rw (sym ea, sym eb, lt-leb _ _ ha)
 
 filled-texts : (s w x : List ℕ) (is : List Item) (p a b : ℕ) → a ≡ length (words_of s is) → b ≡ length (texts_of s is) → a ≤ length w → length x < b
-    → (of_reading (TooShort a b), w, x) ≡ filled s w x (ok is p)
-unfolding of_reading filled
+    → (of_reading (Err (TooShort a b)), w, x) ≡ filled s w x (ok is p)
+unfolding filled
 filled-texts s w x is p a b ea eb ha hb = rw (sym ea, sym eb, le-leb _ _ ha, lt-leb _ _ hb)
 
 module _ (p : P (List Item)) (s w x : List ℕ) where
-  pub reading-long : 16777216 < length s → (of_reading (TooLong (length s)), w, x) ≡ reading_by p s w x
-  unfolding of_reading reading_by
+  pub reading-long : 16777216 < length s → (of_reading (Err (TooLong (length s))), w, x) ≡ reading_by p s w x
+  unfolding reading_by
   reading-long h = rw (lt-leb _ _ h)
 
   module _ (h : length s ≤ 16777216) where
@@ -138,11 +137,11 @@ module _ (p : P (List Item)) (s w x : List ℕ) where
     unfolding reading_by
     by_result = rw (le-leb _ _ h)
 
-    pub reading-stop : (t : Tally) (f : Fault) → (walk_of s t [] [] (p s 0)).0 ≡ Stopped f → (of_reading (Refused f), w, x) ≡ reading_by p s w x
-    unfolding of_reading filled
+    pub reading-stop : (t : Tally) (f : Fault) → (walk_of s t [] [] (p s 0)).0 ≡ Err f → (of_reading (Err (ReadFault f)), w, x) ≡ reading_by p s w x
+    unfolding filled
     reading-stop t f e = rw (by_result, stopped s t (p s 0) f e)
 
-    module _ (g : Gives s (Countable s) p) (k : ℕ) (t : Tally) (q : ℕ) (e : (walk_of s (empty_tally k) [] [] (p s 0)).0 ≡ Went t q) where
+    module _ (g : Gives s (Countable s) p) (k : ℕ) (t : Tally) (q : ℕ) (e : (walk_of s (empty_tally k) [] [] (p s 0)).0 ≡ Ok (t, q)) where
       m : Whole p s k t
       m = whole p s k t q e
 
@@ -150,16 +149,16 @@ module _ (p : P (List Item)) (s w x : List ℕ) where
       by_items = by_result ∙ ap (filled s w x) m.reads
 
       pub reading_on : (r : Walk) (u : Tally) (w' x' : List ℕ) → t.words ≤ length w → t.bytes ≤ length x → u ≡ empty_tally k → walked r w' x' ≡ walk_of s u w x (p s 0)
-          → (of_reading (Accepted t.words t.bytes t.replaced), w', x') ≡ reading_by p s w x
+          → (of_reading (Ok (record { words = t.words; bytes = t.bytes; replaced = t.replaced })), w', x') ≡ reading_by p s w x
       reading_on r u w' x' ha hb eu er =
           let e' : walked r w' x' ≡ walk_of s (empty_tally k) w x (ok m.items m.last) = er ∙ ap (λ (z : Tally). walk_of s z w x (p s 0)) eu ∙ ap (walk_of s (empty_tally k) w x) m.reads in
           let z = tables r s (empty_tally k) w x w' x' m.items m.last e' in
           rw (by_items, z.0, z.1) (filled_both s w x m.items m.last _ _ _ (whole_w p s h g k t m) (whole_b p s h g k t m) (whole_r p s h g k t m) ha hb)
 
-      pub reading-words : length w < t.words → (of_reading (TooShort t.words t.bytes), w, x) ≡ reading_by p s w x
+      pub reading-words : length w < t.words → (of_reading (Err (TooShort t.words t.bytes)), w, x) ≡ reading_by p s w x
       reading-words ha = filled-words s w x m.items m.last _ _ (whole_w p s h g k t m) (whole_b p s h g k t m) ha ∙ sym by_items
 
-      pub reading-texts : t.words ≤ length w → length x < t.bytes → (of_reading (TooShort t.words t.bytes), w, x) ≡ reading_by p s w x
+      pub reading-texts : t.words ≤ length w → length x < t.bytes → (of_reading (Err (TooShort t.words t.bytes)), w, x) ≡ reading_by p s w x
       reading-texts ha hb = filled-texts s w x m.items m.last _ _ (whole_w p s h g k t m) (whole_b p s h g k t m) ha hb ∙ sym by_items
 
 -- ---- a call of reading that is accepted
@@ -218,8 +217,8 @@ module _ (p : P (List Item)) (s w x : List ℕ) where
 
 -- ---- finding a text
 
-found_none : (s : List ℕ) (k : ℕ) (x : List ℕ) (is : List Item) (p : ℕ) → length (texts_in is) ≤ k → (of_finding NoSuchText, x) ≡ found s k x (ok is p)
-unfolding of_finding found
+found_none : (s : List ℕ) (k : ℕ) (x : List ℕ) (is : List Item) (p : ℕ) → length (texts_in is) ≤ k → (of_finding (Err NoSuchText), x) ≡ found s k x (ok is p)
+unfolding found
 found_none s k x is p h = rw (le-ltb _ _ h)
 
 found_there : (s : List ℕ) (k : ℕ) (x : List ℕ) (is : List Item) (p : ℕ) → k < length (texts_in is) → found s k x (ok is p) ≡ shown_in s x (get_or (texts_in is) k (0, 0))
@@ -231,12 +230,12 @@ shown_place s x p a len ea el = rw (sym ea, sym el)
 
 -- it lies in the section
 pub finding-inside : (p : P (List Item)) (s : List ℕ) (k : ℕ) (h : length s ≤ 16777216) (g : Gives s (Countable s) p) (t : Tally) (q : ℕ)
-    → (walk_of s (empty_tally k) [] [] (p s 0)).0 ≡ Went t q → k < t.left → t.start + t.len ≤ length s
+    → (walk_of s (empty_tally k) [] [] (p s 0)).0 ≡ Ok (t, q) → k < t.left → t.start + t.len ≤ length s
 finding-inside p s k h g t q e l = let m = whole p s k t q e in whole_i p s h g k t m (met p s h g k t m l)
 
 module _ (p : P (List Item)) (s : List ℕ) (k : ℕ) (x : List ℕ) where
-  pub finding-long : 16777216 < length s → (of_finding (FindTooLong (length s)), x) ≡ finding_by p s k x
-  unfolding of_finding finding_by
+  pub finding-long : 16777216 < length s → (of_finding (Err (FindTooLong (length s))), x) ≡ finding_by p s k x
+  unfolding finding_by
   finding-long h = rw (lt-leb _ _ h)
 
   module _ (h : length s ≤ 16777216) where
@@ -244,18 +243,18 @@ module _ (p : P (List Item)) (s : List ℕ) (k : ℕ) (x : List ℕ) where
     unfolding finding_by
     in_result = rw (le-leb _ _ h)
 
-    pub finding-stop : (f : Fault) → (walk_of s (empty_tally k) [] [] (p s 0)).0 ≡ Stopped f → (of_finding (FindRefused f), x) ≡ finding_by p s k x
-    unfolding of_finding found
+    pub finding-stop : (f : Fault) → (walk_of s (empty_tally k) [] [] (p s 0)).0 ≡ Err f → (of_finding (Err (FindFault f)), x) ≡ finding_by p s k x
+    unfolding found
     finding-stop f e = rw (in_result, stopped s (empty_tally k) (p s 0) f e)
 
-    module _ (g : Gives s (Countable s) p) (t : Tally) (q : ℕ) (e : (walk_of s (empty_tally k) [] [] (p s 0)).0 ≡ Went t q) where
+    module _ (g : Gives s (Countable s) p) (t : Tally) (q : ℕ) (e : (walk_of s (empty_tally k) [] [] (p s 0)).0 ≡ Ok (t, q)) where
       n : Whole p s k t
       n = whole p s k t q e
 
       in_items : finding_by p s k x ≡ found s k x (ok n.items n.last)
       in_items = in_result ∙ ap (found s k x) n.reads
 
-      pub finding-none : t.left ≤ k → (of_finding NoSuchText, x) ≡ finding_by p s k x
+      pub finding-none : t.left ≤ k → (of_finding (Err NoSuchText), x) ≡ finding_by p s k x
       finding-none l = found_none s k x n.items n.last (none p s h g k t n l) ∙ sym in_items
 
       pub finding_there : k < t.left → finding_by p s k x ≡ shown t.start (slice t.start (t.start + t.len) s) x
@@ -265,17 +264,17 @@ module _ (p : P (List Item)) (s : List ℕ) (k : ℕ) (x : List ℕ) where
 
 -- a text of these bytes that starts at a
 module _ (a : ℕ) (bytes x : List ℕ) where
-  pub shown_well : (len : ℕ) → well_formed bytes ≡ true → len ≡ length bytes → (of_finding (Found 0 a len 0), x) ≡ shown a bytes x
-  unfolding of_finding shown
+  pub shown_well : (len : ℕ) → well_formed bytes ≡ true → len ≡ length bytes → (of_finding (Ok (record { source = 0; start = a; len = len; replaced = 0 })), x) ≡ shown a bytes x
+  unfolding shown
   shown_well len e l = rw (e, sym l)
 
-  pub shown-short : (size : ℕ) → well_formed bytes ≡ false → size ≡ length (decode bytes) → length x < size → (of_finding (ScratchTooShort size), x) ≡ shown a bytes x
-  unfolding of_finding shown
+  pub shown-short : (size : ℕ) → well_formed bytes ≡ false → size ≡ length (decode bytes) → length x < size → (of_finding (Err (ScratchTooShort size)), x) ≡ shown a bytes x
+  unfolding shown
   shown-short size e l h = rw (e, sym l, lt-leb _ _ h)
 
-  pub shown-decoded : (size count : ℕ) (x' : List ℕ) → well_formed bytes ≡ false → size ≡ length (decode bytes) → count ≡ replacements bytes → size ≤ length x → x' ≡ sets x 0 (decode bytes) → (of_finding (Found 1 0 size count), x') ≡ shown a bytes x
-  unfolding of_finding shown
-  shown-decoded size count x' e l n h d = ap (λ (y : List ℕ). (of_finding (Found 1 0 size count), y)) d ∙ rw (e, sym l, sym n, le-leb _ _ h)
+  pub shown-decoded : (size count : ℕ) (x' : List ℕ) → well_formed bytes ≡ false → size ≡ length (decode bytes) → count ≡ replacements bytes → size ≤ length x → x' ≡ sets x 0 (decode bytes) → (of_finding (Ok (record { source = 1; start = 0; len = size; replaced = count })), x') ≡ shown a bytes x
+  unfolding shown
+  shown-decoded size count x' e l n h d = ap (λ (y : List ℕ). (of_finding (Ok (record { source = 1; start = 0; len = size; replaced = count })), y)) d ∙ rw (e, sym l, sym n, le-leb _ _ h)
 
 -- ---- the part that three numbers say
 

@@ -1,5 +1,9 @@
 -- How much a reading of a section can give: so many items and texts at most, and each text lies in the section. Of any format.
 -- Assumes nothing.
+use Rattle.base.specs.declared.error.PastEnd.{PastEnd as Past}
+use Rattle.base.specs.declared.error.TextError.{TextError}
+use Rattle.base.specs.declared.error.TextError.TheVariants.{PastEnd as TextPast, NoZero as TextNoZero}
+use Rattle.std.specs.Prelude.{Result, Ok, Err}
 use Prim.Native.Nat.{ℕ, zero, suc, ◌+◌, ◌*◌, ◌<◌, ◌≤◌}
 use mathlib.Core.Path.{◌≡◌, refl, ap}
 use mathlib.Core.Bool.{Bool, true, false}
@@ -8,10 +12,6 @@ use native.Mathlib.Omega.{arith}
 use lib.ListN.{length, get_or, length-append, length-map}
 use Rattle.base.specs.Run.{numbers_of, numbers_at}
 use Rattle.base.specs.Text.{fixed_of}
-use Rattle.base.specs.declared.run.Run.{Run}
-use Rattle.base.specs.declared.run.Run.TheVariants.{Next, Cut}
-use Rattle.base.specs.declared.text.TextAt.{TextAt}
-use Rattle.base.specs.declared.text.TextAt.TheVariants.{Text, Past as TextPast, Unended}
 use Rattle.base.proofs.Runs.{length-numbers, numbers_next}
 use Rattle.base.proofs.Zeros.{fixed_text_lem}
 use Rattle.bflan.specs.declared.fault.Fault.{Fault}
@@ -132,17 +132,17 @@ module _ (s : List ℕ) where
   unfolding fixed_text
   fixed_small n = record { from = λ i. go i (fixed_of n s i) refl }
     where
-      go : (i : ℕ) (r : TextAt) → fixed_of n s i ≡ r → If (λ t j. Small s 1 1 (t ∷ [])) (as_text i r)
-      go i (Text m q) e = let f = fixed_text_lem n s i m q e in yes (small-text i m (omega (arith, f.within, f.fits)))
-      go i (TextPast o k) e = no _
-      go i (Unended a) e = no _
+      go : (i : ℕ) (r : Result (ℕ × ℕ) TextError) → fixed_of n s i ≡ r → If (λ t j. Small s 1 1 (t ∷ [])) (as_text i r)
+      go i (Ok (m, q)) e = let f = fixed_text_lem n s i m q e in yes (small-text i m (omega (arith, f.within, f.fits)))
+      go i (Err (TextPast o)) e = no _
+      go i (Err (TextNoZero a)) e = no _
 
   pub numbers_fit : (n : ℕ) → Gives s (λ vs. (length vs ≡ n) × (4 * n ≤ length s)) (numbers n)
   numbers_fit n = record { from = λ i. rw (numbers_run n s i) (go i (numbers_of n s i) refl) }
     where
-      go : (i : ℕ) (r : Run) → numbers_of n s i ≡ r → If (λ vs j. (length vs ≡ n) × (4 * n ≤ length s)) (as_numbers r (numbers_at n s i))
-      go i (Next q) e = yes (length-numbers n s i, omega (arith, (numbers_next n s i q e).0))
-      go i (Cut o k) e = no _
+      go : (i : ℕ) (r : Result ℕ Past) → numbers_of n s i ≡ r → If (λ vs j. (length vs ≡ n) × (4 * n ≤ length s)) (as_numbers r (numbers_at n s i))
+      go i (Ok q) e = yes (length-numbers n s i, omega (arith, (numbers_next n s i q e).0))
+      go i (Err x) e = no _
 
 -- ---- the counts
 

@@ -1,5 +1,8 @@
 -- A content by its thirty-two bytes: the reads of its head, and what follows it.
 -- Assumes nothing.
+use Rattle.base.specs.declared.error.PastEnd.{PastEnd as Past}
+use Rattle.base.specs.declared.error.TextError.{TextError}
+use Rattle.std.specs.Prelude.{Ok, Err}
 use Prim.Native.Nat.{ℕ, min, ◌+◌, ◌-◌, ◌<◌, ◌≤◌}
 use mathlib.Core.Path.{◌≡◌, refl, ap, sym, ◌∙◌}
 use mathlib.Core.Bool.{Bool, true, false}
@@ -12,16 +15,13 @@ use lib.Seq.{sets, length-sets}
 use Rattle.base.specs.Choice.{pick}
 use Rattle.base.specs.Number.{get}
 use Rattle.base.specs.Seek.{seek_of}
-use Rattle.base.specs.Text.{before_zero, fixed_of}
+use Rattle.base.specs.Text.{fixed_of}
 use Rattle.base.specs.Run.{numbers_at, numbers_of}
-use Rattle.base.specs.declared.run.Run.TheVariants.{Next, Cut}
-use Rattle.base.specs.declared.seek.Sought.TheVariants.{At, Past as SoughtPast}
-use Rattle.base.specs.declared.text.TextAt.TheVariants.{Text, Past as TextPast, Unended}
 use Rattle.base.proofs.Zeros.{before-le}
 use Rattle.bflan.specs.declared.fault.Fault.{Fault}
-use Rattle.bflan.specs.declared.fault.Fault.TheVariants.{PastEnd, NoZero}
+use Rattle.bflan.specs.declared.fault.Fault.TheVariants.{PastEnd}
 use Rattle.bflan.specs.declared.reader.tally.Tally.{Tally}
-use Rattle.bflan.specs.Reader.{Res, ok, stop, P, and_then, ◌>>=◌, ret, given, here, Item, word, text, num, seek_to, fixed_text, numbers, visit}
+use Rattle.bflan.specs.Reader.{past_fault, text_fault, Res, ok, stop, P, and_then, ◌>>=◌, ret, given, here, Item, word, text, num, seek_to, fixed_text, numbers, visit}
 use Rattle.bflan.specs.pai1.Reading.{info, type_of, info_table, content}
 use Rattle.bflan.specs.pai1.RecordAt.{name_size}
 use Rattle.bflan.specs.Items.{shown_at}
@@ -52,9 +52,6 @@ name-within s base h =
     let b = before-le (take 28 (drop base s)) in
     let l = field_size_lem s base (omega arith) in
     omega (arith, b, l, h)
-
-pub name_part : (s : List ℕ) (base r : ℕ) → r ≡ before_zero (take (base + 28 - base) (drop base s)) → r ≡ name_size s base
-name_part s base r e = let m : base + 28 - base ≡ 28 = omega arith in rw m at e
 
 module _ (s : List ℕ) {B : Type 0} {Q : B → ℕ → Type 0} where
   -- a name and a head behind it: where the section's end cuts the name, the head is refused
@@ -89,21 +86,16 @@ module _ (base : ℕ) (s : List ℕ) (i : ℕ) where
 
   -- ---- the reads of its head, by core's answers
 
-  pub content_past : (o k : ℕ) → seek_of s base ≡ SoughtPast o k → content base s i ≡ stop (PastEnd o k)
+  pub content_past : (past : Past) → seek_of s base ≡ Err past → content base s i ≡ stop (past_fault past)
   unfolding content
-  content_past o k e = rw (sought_past s base i o k e)
+  content_past past e = rw (sought_past s base i past e)
 
-  module _ {p : ℕ} (e : seek_of s base ≡ At p) where
-    pub content-none : (o k : ℕ) → fixed_of 28 s p ≡ TextPast o k → content base s i ≡ stop (PastEnd o k)
+  module _ {p : ℕ} (e : seek_of s base ≡ Ok p) where
+    pub content-none : (f : TextError) → fixed_of 28 s p ≡ Err f → content base s i ≡ stop (text_fault f)
     unfolding content fixed_text
-    content-none o k f = rw (sought_on s base i p e, f)
+    content-none f d = rw (sought_on s base i p e, d)
 
-    pub content_unended : (a : ℕ) → fixed_of 28 s p ≡ Unended a → content base s i ≡ stop (NoZero a)
-    unfolding content fixed_text
-    content_unended a f = rw (sought_on s base i p e, f)
-
-    -- its three numbers are a row
-    pub content-short : {len q : ℕ} {a : Fault} → fixed_of 28 s p ≡ Text len q → length s < q + 4 → a ≡ cut_in content_widths s q → content base s i ≡ stop a
+    pub content-short : {len q : ℕ} {a : Fault} → fixed_of 28 s p ≡ Ok (len, q) → length s < q + 4 → a ≡ cut_in content_widths s q → content base s i ≡ stop a
     unfolding content fixed_text row_then total
     content-short {len} {q} f h d = rw (d, sought_on s base i p e, f) (row_cut s content_widths (content_after base (text p len)) q (omega arith) h)
 
@@ -127,14 +119,14 @@ module _ (base : ℕ) (s : List ℕ) (i : ℕ) where
   pub rest_stop : (n type : ℕ) (f : Fault) → info_table base type s (base + 32) ≡ stop f → content_rest n type ≡ stop f
   rest_stop n type f e = rw e
 
-  pub table_on : (n type q p : ℕ) → numbers_of n s q ≡ Next p
+  pub table_on : (n type q p : ℕ) → numbers_of n s q ≡ Ok p
       → content_table n type q ≡ before (text base (name_size s base) ∷ word (type_of type) ∷ word n ∷ []) (visit base info (numbers_at n s q) s p)
   table_on n type q p t =
       let r : numbers n s q ≡ ok (numbers_at n s q) p = numbers_run n s q ∙ rw t in
       rw r (put-before (text base (name_size s base) ∷ word (type_of type) ∷ word n ∷ []) (visit base info (numbers_at n s q) s p) s)
 
-  pub table_cut : (n type q o k : ℕ) → numbers_of n s q ≡ Cut o k → content_table n type q ≡ stop (PastEnd o k)
-  table_cut n type q o k t = let r : numbers n s q ≡ stop (PastEnd o k) = numbers_run n s q ∙ rw t in rw r
+  pub table_cut : (n type q : ℕ) (past : Past) → numbers_of n s q ≡ Err past → content_table n type q ≡ stop (past_fault past)
+  table_cut n type q past t = let r : numbers n s q ≡ stop (past_fault past) = numbers_run n s q ∙ rw t in rw r
 
 -- ---- where the info table stands
 
@@ -143,13 +135,13 @@ module _ (base type : ℕ) (s : List ℕ) (p : ℕ) where
   unfolding info_table
   table-plain e = rw (ne_eqb type 2 e)
 
-  pub table-user : type ≡ 2 → p + 4 ≤ length s → (q : ℕ) → seek_of s (base + get 4 s p) ≡ At q → info_table base type s p ≡ ok q q
+  pub table-user : type ≡ 2 → p + 4 ≤ length s → (q : ℕ) → seek_of s (base + get 4 s p) ≡ Ok q → info_table base type s p ≡ ok q q
   unfolding info_table
   table-user e h q k = rw (eq-eqb type 2 e, num_there 4 s p h, sought_on s (base + get 4 s p) (p + 4) q k)
 
-  pub table_past : type ≡ 2 → p + 4 ≤ length s → (o k : ℕ) → seek_of s (base + get 4 s p) ≡ SoughtPast o k → info_table base type s p ≡ stop (PastEnd o k)
+  pub table_past : type ≡ 2 → p + 4 ≤ length s → (past : Past) → seek_of s (base + get 4 s p) ≡ Err past → info_table base type s p ≡ stop (past_fault past)
   unfolding info_table
-  table_past e h o k d = rw (eq-eqb type 2 e, num_there 4 s p h, sought_past s (base + get 4 s p) (p + 4) o k d)
+  table_past e h past d = rw (eq-eqb type 2 e, num_there 4 s p h, sought_past s (base + get 4 s p) (p + 4) past d)
 
   pub table-short : type ≡ 2 → length s < p + 4 → info_table base type s p ≡ stop (PastEnd p 4)
   unfolding info_table
@@ -182,10 +174,10 @@ module _ (base : ℕ) (s : List ℕ) (i : ℕ) (h : base + 32 ≤ length s) {n t
       let d : info_table base (get 1 s (base + 29)) s (base + 32) ≡ ok q q = rw et at e in
       rw (en, et) (content_there base s i h ∙ rest_at base s i (get 1 s (base + 28)) (get 1 s (base + 29)) q d)
 
-  pub content_cut : (q o k : ℕ) → info_table base type s (base + 32) ≡ ok q q → numbers_of n s q ≡ Cut o k → content base s i ≡ stop (PastEnd o k)
-  content_cut q o k e d = content_on q e ∙ table_cut base s i n type q o k d
+  pub content_cut : (q : ℕ) (past : Past) → info_table base type s (base + 32) ≡ ok q q → numbers_of n s q ≡ Err past → content base s i ≡ stop (past_fault past)
+  content_cut q past e d = content_on q e ∙ table_cut base s i n type q past d
 
-  pub content_rest_lem : (q p : ℕ) → info_table base type s (base + 32) ≡ ok q q → numbers_of n s q ≡ Next p
+  pub content_rest_lem : (q p : ℕ) → info_table base type s (base + 32) ≡ ok q q → numbers_of n s q ≡ Ok p
       → content base s i ≡ and_then (visit base info (numbers_at n s q) s p) (λ is. ret (text base (name_size s base) ∷ word (type_of type) ∷ word n ∷ is)) s
   content_rest_lem q p e d =
       content_on q e ∙ table_on base s i n type q p d ∙ sym (put-before (text base (name_size s base) ∷ word (type_of type) ∷ word n ∷ []) (visit base info (numbers_at n s q) s p) s)
@@ -204,13 +196,3 @@ run_content s t w x base kind n r {len} {type} {u} {v} {w₁} {w₂} {x₁} hw h
     let last : walk_of s t w x (before (text base len ∷ word type ∷ word n ∷ []) r) ≡ walk_of s t w x (and_then r (λ is. ret (text base (name_size s base) ∷ word (type_of kind) ∷ word n ∷ is)) s) =
     rw (el, et) (ap (walk_of s t w x) (sym (put-before (text base (name_size s base) ∷ word (type_of kind) ∷ word n ∷ []) r s))) in
     two ∙ one ∙ ap (walk_of s t w x) all ∙ last
-
--- ---- the type's word
-
-pub type_low : (type : ℕ) → type ≤ 4 → type ≡ type_of type
-unfolding type_of
-type_low type h = rw (le-leb type 4 h)
-
-pub type_high : (type : ℕ) → 4 < type → 0 ≡ type_of type
-unfolding type_of
-type_high type h = rw (lt-leb type 4 h)

@@ -1,25 +1,25 @@
 -- A datum by its parts: the arms of the reads, and what a head's words leave.
 -- Assumes nothing.
+use Rattle.std.specs.Prelude.{Err}
 use Prim.Native.Nat.{ℕ, ◌<◌, ◌+◌, ◌*◌, ◌≤◌}
 use mathlib.Core.Path.{◌≡◌, refl, ap, sym, ◌∙◌}
 use mathlib.Core.List.{List, [], ◌∷◌, ◌++◌, map}
 use native.Mathlib.Omega.{arith}
 use lib.ListN.{length, get_or, set}
 use lib.Seq.{sets, length-sets}
+use Rattle.base.specs.declared.error.PastEnd.{PastEnd as Past}
 use Rattle.base.specs.Number.{get, read_of}
-use Rattle.base.specs.declared.number.Read.TheVariants.{Value, Past as ReadPast}
 use Rattle.base.proofs.Stores.{sets-append}
 use Rattle.bflan.specs.declared.reader.datum.Fields.{Fields}
 use Rattle.bflan.specs.declared.fault.Fault.{Fault}
-use Rattle.bflan.specs.declared.fault.Fault.TheVariants.{PastEnd}
 use Rattle.bflan.specs.declared.reader.tally.Tally.{Tally}
 use Rattle.bflan.specs.inner.DatumParts.{head, fields_of, key_text, values_and_key_text}
-use Rattle.bflan.specs.Reader.{Res, ok, stop, P, and_then, ◌>>=◌, ret, here, Item, word, num, seek_to, one_ended, numbers}
+use Rattle.bflan.specs.Reader.{past_fault, Res, ok, stop, P, and_then, ◌>>=◌, ret, here, Item, word, num, seek_to, one_ended, numbers}
 use Rattle.bflan.specs.pai1.Reading.{texture, datum}
 use Rattle.bflan.specs.pai1.Places.{total}
 use Rattle.bflan.specs.inner.Row.{cut_in}
 use Rattle.bflan.specs.inner.Walk.{as_items, sat, with_words, walk_of}
-use Rattle.bflan.proofs.reader.Emits.{num_on, num_past}
+use Rattle.bflan.proofs.reader.Emits.{num_past}
 use Rattle.bflan.proofs.reader.KeyRuns.{words-words, texts-words, tallied-words, moved_more}
 use Rattle.bflan.proofs.reader.Rows.{row_then, row_bind, fields_at, row_there, row_cut}
 use Rattle.bflan.proofs.reader.Walks.{before, joined, put-before, sets-sat, run_before}
@@ -48,13 +48,9 @@ module _ (s : List ℕ) (p : ℕ) where
 
 -- ---- the key text, by core's answer
 
-pub key_on : (s : List ℕ) (p offset q : ℕ) → read_of 4 s p ≡ Value offset q → key_text s p ≡ texture (p + offset) s q
+pub key_past : (s : List ℕ) (p : ℕ) (past : Past) → read_of 4 s p ≡ Err past → key_text s p ≡ stop (past_fault past)
 unfolding key_text
-key_on s p offset q e = rw (num_on 4 s p offset q e)
-
-pub key_past : (s : List ℕ) (p o k : ℕ) → read_of 4 s p ≡ ReadPast o k → key_text s p ≡ stop (PastEnd o k)
-unfolding key_text
-key_past s p o k e = rw (num_past 4 s p o k e)
+key_past s p past e = rw (num_past 4 s p past e)
 
 -- ---- the values, then the key text
 

@@ -1,7 +1,8 @@
 -- What the stores of a walk are in terms of `run`.
 -- Assumes nothing.
+use Rattle.base.specs.declared.error.PastEnd.{PastEnd as Past}
 use Prim.Native.Nat.{ℕ, min, ◌+◌, ◌-◌, ◌<◌, ◌≤◌}
-use mathlib.Core.Path.{◌≡◌, refl, ap, subst, sym, ◌∙◌}
+use mathlib.Core.Path.{◌≡◌, refl, ap, sym, ◌∙◌}
 use mathlib.Core.Bool.{Bool, true, false}
 use mathlib.Core.List.{List, [], ◌∷◌, append-nil}
 use native.Mathlib.Numerals.{add-one}
@@ -15,23 +16,16 @@ use Rattle.base.proofs.Stores.{sets-append}
 use Rattle.base.proofs.utf8.Laws.{decode_bound, well_from, well_none}
 use Rattle.base.proofs.utf8.Turns.{part_is}
 use Rattle.bflan.specs.declared.reader.tally.Tally.{Tally}
-use Rattle.bflan.specs.declared.reader.tally.Walk.TheVariants.{Went, Stopped}
-use Rattle.bflan.specs.declared.reader.texture.Name.{Name}
-use Rattle.bflan.specs.declared.reader.texture.Name.TheVariants.{Found, Missing}
-use Rattle.bflan.specs.declared.fault.Fault.{Fault}
+use Rattle.std.specs.Prelude.{Ok, Err}
 use Rattle.base.specs.Number.{read_of}
 use Rattle.base.specs.Seek.{seek_of}
 use Rattle.base.specs.Text.{ended_of}
-use Rattle.base.specs.declared.number.Read.TheVariants.{Value, Past as ReadPast}
-use Rattle.base.specs.declared.seek.Sought.TheVariants.{At, Past as SoughtPast}
-use Rattle.base.specs.declared.text.TextAt.TheVariants.{Text, Past as TextPast, Unended}
-use Rattle.bflan.specs.declared.fault.Fault.TheVariants.{PastEnd, NoZero}
-use Rattle.bflan.specs.Reader.{Res, ok, stop, Item, word, text, num, seek_to, ended_text, one_ended}
+use Rattle.bflan.specs.declared.fault.Fault.TheVariants.{PastEnd}
+use Rattle.bflan.specs.Reader.{past_fault, Res, ok, stop, Item, word, text, num, seek_to, ended_text, one_ended}
 use Rattle.bflan.specs.pai1.Reading.{texture}
 use Rattle.bflan.proofs.reader.KeyRuns.{moved_more}
-use Rattle.bflan.proofs.reader.Walks.{before, run_before, sets-sat, told_stop}
+use Rattle.bflan.proofs.reader.Walks.{before, run_before, sets-sat}
 use Rattle.bflan.specs.Items.{shown_at, words_of, texts_of}
-use Rattle.bflan.specs.inner.Sought.{as_name, name_end, AsIs}
 use Rattle.bflan.specs.inner.Walk.{sat, with_words, with_text_of, tallied, walk_of, walked}
 
 -- the decoded length of a part of a section
@@ -64,82 +58,65 @@ four_stores w t u a b c d h eu e₁ e₂ =
 
 -- a single text, as `run` has it
 pub run_text : (s : List ℕ) (t : Tally) (w x : List ℕ) (a n q : ℕ) (t' : Tally) (w' x' : List ℕ) → t' ≡ with_text_of s t a n → w' ≡ set w t.words (length (shown_at s a n))
-    → x' ≡ sets x t.bytes (shown_at s a n) → walked (Went t' q) w' x' ≡ walk_of s t w x (ok (text a n ∷ []) q)
+    → x' ≡ sets x t.bytes (shown_at s a n) → walked (Ok (t', q)) w' x' ≡ walk_of s t w x (ok (text a n ∷ []) q)
 unfolding walked walk_of tallied words_of texts_of
 run_text s t w x a n q t' w' x' et ew ex = rw (et, ew, ex, append-nil)
 
 -- ---- a text that ends at a zero, by core's answer
 
 module _ (s : List ℕ) (p : ℕ) where
-  pub ended_on : (len next : ℕ) → ended_of s p ≡ Text len next → one_ended s p ≡ ok (text p len ∷ []) next
+  pub ended_on : (len next : ℕ) → ended_of s p ≡ Ok (len, next) → one_ended s p ≡ ok (text p len ∷ []) next
   unfolding one_ended ended_text
   ended_on len next e = rw e
-
-  pub ended_past : (offset requested : ℕ) → ended_of s p ≡ TextPast offset requested → one_ended s p ≡ stop (PastEnd offset requested)
-  unfolding one_ended ended_text
-  ended_past offset requested e = rw e
-
-  pub ended-none : (start : ℕ) → ended_of s p ≡ Unended start → one_ended s p ≡ stop (NoZero start)
-  unfolding one_ended ended_text
-  ended-none start e = rw e
 
 -- ---- a seek, by core's answer
 
 module _ (s : List ℕ) (to i : ℕ) where
-  pub sought_on : (q : ℕ) → seek_of s to ≡ At q → seek_to to s i ≡ ok q q
+  pub sought_on : (q : ℕ) → seek_of s to ≡ Ok q → seek_to to s i ≡ ok q q
   unfolding seek_to
   sought_on q e = rw e
 
-  pub sought_past : (offset requested : ℕ) → seek_of s to ≡ SoughtPast offset requested → seek_to to s i ≡ stop (PastEnd offset requested)
+  pub sought_past : (f : Past) → seek_of s to ≡ Err f → seek_to to s i ≡ stop (past_fault f)
   unfolding seek_to
-  sought_past offset requested e = rw e
+  sought_past f e = rw e
 
   -- within the section, and beyond it
   pub sought_there : to ≤ length s → seek_to to s i ≡ ok to to
   sought_there h = sought_on to (seek_there s to h)
 
   pub sought_over : length s < to → seek_to to s i ≡ stop (PastEnd (length s) (to - length s))
-  sought_over h = sought_past _ _ (seek_over s to h)
+  sought_over h = sought_past _ (seek_over s to h)
 
 -- ---- a number, by core's answer
 
 module _ (k : ℕ) (s : List ℕ) (i : ℕ) where
-  pub num_on : (v q : ℕ) → read_of k s i ≡ Value v q → num k s i ≡ ok v q
+  pub num_on : (v q : ℕ) → read_of k s i ≡ Ok (v, q) → num k s i ≡ ok v q
   unfolding num
   num_on v q e = rw e
 
-  pub num_past : (offset requested : ℕ) → read_of k s i ≡ ReadPast offset requested → num k s i ≡ stop (PastEnd offset requested)
+  pub num_past : (f : Past) → read_of k s i ≡ Err f → num k s i ≡ stop (past_fault f)
   unfolding num
-  num_past offset requested e = rw e
+  num_past f e = rw e
 
 -- ---- a texture, by its seek
 
 module _ (s : List ℕ) (base i : ℕ) where
-  pub texture_on : (q : ℕ) → seek_of s base ≡ At q → texture base s i ≡ one_ended s q
+  pub texture_on : (q : ℕ) → seek_of s base ≡ Ok q → texture base s i ≡ one_ended s q
   unfolding texture
   texture_on q e = rw (sought_on s base i q e)
 
-  pub texture_past : (offset requested : ℕ) → seek_of s base ≡ SoughtPast offset requested → texture base s i ≡ stop (PastEnd offset requested)
+  pub texture_past : (f : Past) → seek_of s base ≡ Err f → texture base s i ≡ stop (past_fault f)
   unfolding texture
-  texture_past offset requested e = rw (sought_past s base i offset requested e)
+  texture_past f e = rw (sought_past s base i f e)
 
 -- ---- a name that was looked for
 
-pub stored_name : (s : List ℕ) (t : Tally) (w x : List ℕ) {r : Name} {g : Res (List Item)} {a n q : ℕ} {plain : Bool} {t' : Tally} {w' x' : List ℕ} → as_name r ≡ g → r ≡ Found a n q plain
-    → (t' ≡ with_text_of s t a n) × (w' ≡ set w t.words (length (shown_at s a n))) × (x' ≡ sets x t.bytes (shown_at s a n)) → walked (Went t' q) w' x' ≡ walk_of s t w x g
-stored_name s t w x eg er e = run_text s t w x _ _ _ _ _ _ e.0 e.1 e.2 ∙ ap (walk_of s t w x) (sym (ap as_name er) ∙ eg)
-
-pub no_name : (s : List ℕ) (t : Tally) (w x : List ℕ) {r : Name} {g : Res (List Item)} {f : Fault} (w' x' : List ℕ) → as_name r ≡ g → r ≡ Missing f → walked (Stopped f) w' x' ≡ walk_of s t w x g
-no_name s t w x w' x' eg er = told_stop s t w x w' x' _ ∙ ap (walk_of s t w x) (sym (ap as_name er) ∙ eg)
-
-pub name-fits : {r : Name} {a n q m : ℕ} {plain : Bool} → name_end r ≤ m → r ≡ Found a n q plain → a + n ≤ m
-name-fits {r} {a} {n} h e = let k : name_end r ≡ a + n = ap name_end e in omega (arith, h, k)
-
-pub name-plain : (s : List ℕ) {r : Name} {a n q : ℕ} {plain : Bool} → AsIs s r → r ≡ Found a n q plain → plain ≡ true → shown_at s a n ≡ slice a (a + n) s
-name-plain s h e = subst (AsIs s) e h
+pub stored_name : (s : List ℕ) (t : Tally) (w x : List ℕ) {g : Res (List Item)} {a n q : ℕ} {t' : Tally} {w' x' : List ℕ} → ok (text a n ∷ []) q ≡ g
+    → (t' ≡ with_text_of s t a n) × (w' ≡ set w t.words (length (shown_at s a n))) × (x' ≡ sets x t.bytes (shown_at s a n)) → walked (Ok (t', q)) w' x' ≡ walk_of s t w x g
+stored_name s t w x eg e = run_text s t w x _ _ _ _ _ _ e.0 e.1 e.2 ∙ ap (walk_of s t w x) eg
 
 -- a name that was guessed
-pub texture-plain : (base : ℕ) (s : List ℕ) (i n : ℕ) → base + n < length s → ended_of s base ≡ Text n (base + n + 1) → texture base s i ≡ ok (text base n ∷ []) (base + n + 1)
+pub texture-plain : (base : ℕ) (s : List ℕ) (i n : ℕ) → base + n < length s → ended_of s base ≡ Ok (n, base + n + 1) → texture base s i ≡ ok (text base n ∷ []) (base + n + 1)
 texture-plain base s i n h e = texture_on s base i base (seek_there s base (omega arith)) ∙ ended_on s base n (base + n + 1) e
 
 -- a text of the section that may be known to be shown as it is: its bytes, its size, and how many U+FFFD are put in

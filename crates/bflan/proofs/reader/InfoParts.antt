@@ -1,19 +1,19 @@
 -- An info by its eight bytes: the reads of its head, and what follows it.
 -- Assumes nothing.
+use Rattle.std.specs.Prelude.{Ok, Err}
 use Prim.Native.Nat.{ℕ, ◌+◌, ◌<◌, ◌≤◌}
 use mathlib.Core.Path.{◌≡◌, refl, ap, sym, ◌∙◌}
 use mathlib.Core.List.{List, [], ◌∷◌}
 use borrow.Author.Tests.{eq-eqb, ne_eqb}
 use lib.Dec.{eqb}
 use lib.ListN.{length, get_or}
+use Rattle.base.specs.declared.error.PastEnd.{PastEnd as Past}
 use Rattle.base.specs.Number.{get}
 use Rattle.base.specs.Run.{numbers_at}
-use Rattle.base.specs.declared.run.Run.TheVariants.{Next, Cut}
 use Rattle.base.specs.Run.{numbers_of}
 use Rattle.bflan.specs.declared.fault.Fault.{Fault}
-use Rattle.bflan.specs.declared.fault.Fault.TheVariants.{PastEnd}
 use Rattle.bflan.specs.pai1.Letters.{fleu, letters_of}
-use Rattle.bflan.specs.Reader.{Res, ok, stop, and_then, ◌>>=◌, ret, given, Item, word, seek_to, numbers, many, visit}
+use Rattle.bflan.specs.Reader.{past_fault, Res, ok, stop, and_then, ◌>>=◌, ret, given, Item, word, seek_to, numbers, many, visit}
 use Rattle.bflan.specs.pai1.Reading.{target, datum, info}
 use Rattle.bflan.specs.pai1.Places.{total}
 use Rattle.bflan.specs.inner.Row.{sought_cut}
@@ -54,27 +54,27 @@ module _ (base : ℕ) (s : List ℕ) (i : ℕ) where
   rest_extended letters n e = rw (eq-eqb letters fleu e) (put-before (word fleu ∷ word n ∷ []) (many n datum s (base + 8)) s)
 
   -- a standard info whose offset table is whole, or is not
-  pub rest_standard : (letters n q : ℕ) → (letters ≡ fleu → ⊥) → numbers_of n s (base + 8) ≡ Next q
+  pub rest_standard : (letters n q : ℕ) → (letters ≡ fleu → ⊥) → numbers_of n s (base + 8) ≡ Ok q
       → info_rest letters n ≡ before (word (letters_of letters) ∷ word n ∷ []) (visit base (target letters) (numbers_at n s (base + 8)) s q)
   rest_standard letters n q e t =
       let r : numbers n s (base + 8) ≡ ok (numbers_at n s (base + 8)) q = numbers_run n s (base + 8) ∙ rw t in
       rw (ne_eqb letters fleu e, r) (put-before (word (letters_of letters) ∷ word n ∷ []) (visit base (target letters) (numbers_at n s (base + 8)) s q) s)
 
-  pub rest_cut : (letters n o k : ℕ) → (letters ≡ fleu → ⊥) → numbers_of n s (base + 8) ≡ Cut o k → info_rest letters n ≡ stop (PastEnd o k)
-  rest_cut letters n o k e t =
-      let r : numbers n s (base + 8) ≡ stop (PastEnd o k) = numbers_run n s (base + 8) ∙ rw t in
+  pub rest_cut : (letters n : ℕ) (past : Past) → (letters ≡ fleu → ⊥) → numbers_of n s (base + 8) ≡ Err past → info_rest letters n ≡ stop (past_fault past)
+  rest_cut letters n past e t =
+      let r : numbers n s (base + 8) ≡ stop (past_fault past) = numbers_run n s (base + 8) ∙ rw t in
       rw (ne_eqb letters fleu e, r)
 
   -- the same with the head's numbers at hand
   pub info-extended : (n : ℕ) → base + 8 ≤ length s → get 4 s base ≡ fleu → n ≡ get 1 s (base + 4) → info base s i ≡ before (word fleu ∷ word n ∷ []) (many n datum s (base + 8))
   info-extended n h e en = info_there h ∙ ap (λ (m : ℕ). info_rest (get 4 s base) m) (sym en) ∙ rest_extended (get 4 s base) n e
 
-  pub info-standard : (letters n q : ℕ) → base + 8 ≤ length s → letters ≡ get 4 s base → (letters ≡ fleu → ⊥) → n ≡ get 1 s (base + 4) → numbers_of n s (base + 8) ≡ Next q
+  pub info-standard : (letters n q : ℕ) → base + 8 ≤ length s → letters ≡ get 4 s base → (letters ≡ fleu → ⊥) → n ≡ get 1 s (base + 4) → numbers_of n s (base + 8) ≡ Ok q
       → info base s i ≡ before (word (letters_of letters) ∷ word n ∷ []) (visit base (target letters) (numbers_at n s (base + 8)) s q)
   info-standard letters n q h el e en t =
       info_there h ∙ ap (λ (m : ℕ). info_rest (get 4 s base) m) (sym en) ∙ ap (λ (m : ℕ). info_rest m n) (sym el) ∙ rest_standard letters n q e t
 
-  pub info_cut : (letters n o k : ℕ) → base + 8 ≤ length s → letters ≡ get 4 s base → (letters ≡ fleu → ⊥) → n ≡ get 1 s (base + 4) → numbers_of n s (base + 8) ≡ Cut o k
-      → info base s i ≡ stop (PastEnd o k)
-  info_cut letters n o k h el e en t =
-      info_there h ∙ ap (λ (m : ℕ). info_rest (get 4 s base) m) (sym en) ∙ ap (λ (m : ℕ). info_rest m n) (sym el) ∙ rest_cut letters n o k e t
+  pub info_cut : (letters n : ℕ) (past : Past) → base + 8 ≤ length s → letters ≡ get 4 s base → (letters ≡ fleu → ⊥) → n ≡ get 1 s (base + 4) → numbers_of n s (base + 8) ≡ Err past
+      → info base s i ≡ stop (past_fault past)
+  info_cut letters n past h el e en t =
+      info_there h ∙ ap (λ (m : ℕ). info_rest (get 4 s base) m) (sym en) ∙ ap (λ (m : ℕ). info_rest m n) (sym el) ∙ rest_cut letters n past e t

@@ -1,5 +1,6 @@
 -- Runs of numbers and of keys: the definitions' reading, number by number, is core's run, tested once; and what such a run leaves.
 -- Assumes nothing.
+use Rattle.base.specs.declared.error.PastEnd.{PastEnd as Past}
 use Prim.Native.Nat.{ℕ, zero, suc, ◌+◌, ◌-◌, ◌*◌, ◌/◌, ◌<◌, ◌≤◌}
 use mathlib.Core.Path.{◌≡◌, refl, ap, sym, ◌∙◌}
 use mathlib.Core.List.{List, [], ◌∷◌, ◌++◌, map}
@@ -8,27 +9,24 @@ use native.Mathlib.Omega.{arith}
 use borrow.Author.Tests.{leb-true, leb-false, le-leb, lt-leb}
 use lib.Dec.{leb}
 use lib.ListN.{length}
-use Rattle.base.specs.Number.{get}
+use Rattle.base.specs.Number.{get, past_end}
 use Rattle.base.specs.Run.{numbers_at, numbers_of, pairs_at, pairs_of, cut_pair, stored_run}
-use Rattle.base.specs.declared.run.Run.{Run}
-use Rattle.base.specs.declared.run.Run.TheVariants.{Next, Cut}
 use Rattle.base.proofs.Numbers.{read_there, read_short}
 use Rattle.base.proofs.Runs.{length-numbers, length_pairs, numbers-whole, numbers_cut, pairs_whole, pairs_cut}
 use Rattle.bflan.specs.declared.fault.Fault.{Fault}
 use Rattle.bflan.specs.declared.fault.Fault.TheVariants.{PastEnd}
 use Rattle.bflan.specs.declared.reader.tally.Tally.{Tally}
-use Rattle.bflan.specs.declared.reader.tally.Walk.{Walk}
-use Rattle.bflan.specs.declared.reader.tally.Walk.TheVariants.{Went, Stopped}
-use Rattle.bflan.specs.Reader.{Res, ok, stop, P, and_then, ret, Item, word, num, skip, numbers, many}
+use Rattle.std.specs.Prelude.{Result, Ok, Err}
+use Rattle.bflan.specs.Reader.{past_fault, Res, ok, stop, P, and_then, ret, Item, word, num, skip, numbers, many}
 use Rattle.bflan.specs.pai1.Reading.{key_of, curve_of, count_of, keys}
-use Rattle.bflan.specs.inner.Walk.{as_items, sat, with_words, tallied, after_run, walk_of, walked}
+use Rattle.bflan.specs.inner.Walk.{Walk, as_items, sat, with_words, tallied, after_run, walk_of, walked}
 use Rattle.bflan.specs.Items.{words_of, texts_of}
 use Rattle.bflan.proofs.reader.Walks.{before, joined, before_nil, put-before, many_suc, told_ok}
 
 -- a run's answer, with its words
-abbrev pub as_numbers : Run → List ℕ → Res (List ℕ)
-as_numbers (Next q) vs = ok vs q
-as_numbers (Cut o k) vs = stop (PastEnd o k)
+abbrev pub as_numbers : Result ℕ Past → List ℕ → Res (List ℕ)
+as_numbers (Ok q) vs = ok vs q
+as_numbers (Err e) vs = stop (past_fault e)
 
 -- ---- one number
 
@@ -42,8 +40,8 @@ num-short k s p h = rw (read_short k s p h)
 
 -- ---- a run of numbers of four bytes: with none, with a first one that is there, with a first one that is not
 
-numbers-none : (s : List ℕ) (p : ℕ) → numbers_of 0 s p ≡ Next p
-numbers-none s p = numbers-whole 0 s p (omega arith) ∙ ap Next (omega arith)
+numbers-none : (s : List ℕ) (p : ℕ) → numbers_of 0 s p ≡ Ok p
+numbers-none s p = numbers-whole 0 s p (omega arith) ∙ ap Ok (omega arith)
 
 numbers_more : (n : ℕ) (s : List ℕ) (p : ℕ) → p + 4 ≤ length s → numbers_of (suc n) s p ≡ numbers_of n s (p + 4)
 numbers_more n s p h = go (leb n ((length s - (p + 4)) / 4)) refl
@@ -52,25 +50,25 @@ numbers_more n s p h = go (leb n ((length s - (p + 4)) / 4)) refl
     go true e =
         let l = leb-true n ((length s - (p + 4)) / 4) e in
         let q : p + 4 * suc n ≡ p + 4 + 4 * n = omega arith in
-        numbers-whole (suc n) s p (omega arith) ∙ ap Next q ∙ sym (numbers-whole n s (p + 4) l)
+        numbers-whole (suc n) s p (omega arith) ∙ ap Ok q ∙ sym (numbers-whole n s (p + 4) l)
     go false e =
         let l = leb-false n ((length s - (p + 4)) / 4) e in
         let q : p + 4 * ((length s - p) / 4) ≡ p + 4 + 4 * ((length s - (p + 4)) / 4) = omega arith in
-        numbers_cut (suc n) s p (omega arith) ∙ ap (λ (x : ℕ). Cut x 4) q ∙ sym (numbers_cut n s (p + 4) l)
+        numbers_cut (suc n) s p (omega arith) ∙ ap (λ (x : ℕ). Err (past_end x 4)) q ∙ sym (numbers_cut n s (p + 4) l)
 
-numbers_no : (n : ℕ) (s : List ℕ) (p : ℕ) → length s < p + 4 → numbers_of (suc n) s p ≡ Cut p 4
+numbers_no : (n : ℕ) (s : List ℕ) (p : ℕ) → length s < p + 4 → numbers_of (suc n) s p ≡ Err (past_end p 4)
 numbers_no n s p h =
     let q : p + 4 * ((length s - p) / 4) ≡ p = omega arith in
-    numbers_cut (suc n) s p (omega arith) ∙ ap (λ (x : ℕ). Cut x 4) q
+    numbers_cut (suc n) s p (omega arith) ∙ ap (λ (x : ℕ). Err (past_end x 4)) q
 
 -- a word in front of a reading
 abbrev front : ℕ → Res (List ℕ) → Res (List ℕ)
 front v (ok vs q) = ok (v ∷ vs) q
 front v (stop f) = stop f
 
-front_run : (v : ℕ) (r : Run) (vs : List ℕ) → front v (as_numbers r vs) ≡ as_numbers r (v ∷ vs)
-front_run v (Next q) vs = refl
-front_run v (Cut o k) vs = refl
+front_run : (v : ℕ) (r : Result ℕ Past) (vs : List ℕ) → front v (as_numbers r vs) ≡ as_numbers r (v ∷ vs)
+front_run v (Ok q) vs = refl
+front_run v (Err x) vs = refl
 
 -- the reading, by its first number
 numbers_first : (n : ℕ) (s : List ℕ) (p : ℕ) → p + 4 ≤ length s → numbers (suc n) s p ≡ front (get 4 s p) (numbers n s (p + 4))
@@ -193,8 +191,8 @@ many_hermites c n s p = many-numbers 3 n (key_of (suc (suc c))) s p (key_three c
 
 -- ---- a run of pairs, as above; a pair has eight bytes, of which the last two are not tested
 
-pairs_none : (s : List ℕ) (p : ℕ) → pairs_of 0 s p ≡ Next p
-pairs_none s p = pairs_whole 0 s p (omega arith) ∙ ap Next (omega arith)
+pairs_none : (s : List ℕ) (p : ℕ) → pairs_of 0 s p ≡ Ok p
+pairs_none s p = pairs_whole 0 s p (omega arith) ∙ ap Ok (omega arith)
 
 pairs_more : (n : ℕ) (s : List ℕ) (p : ℕ) → p + 4 + 2 ≤ length s → pairs_of (suc n) s p ≡ pairs_of n s (p + 8)
 pairs_more n s p h = go (leb n ((length s - (p + 8) + 2) / 8)) refl
@@ -203,7 +201,7 @@ pairs_more n s p h = go (leb n ((length s - (p + 8) + 2) / 8)) refl
     go true e =
         let l = leb-true n ((length s - (p + 8) + 2) / 8) e in
         let q : p + 8 * suc n ≡ p + 8 + 8 * n = omega arith in
-        pairs_whole (suc n) s p (omega arith) ∙ ap Next q ∙ sym (pairs_whole n s (p + 8) l)
+        pairs_whole (suc n) s p (omega arith) ∙ ap Ok q ∙ sym (pairs_whole n s (p + 8) l)
     go false e =
         let l = leb-false n ((length s - (p + 8) + 2) / 8) e in
         let q : p + 8 * ((length s - p + 2) / 8) ≡ p + 8 + 8 * ((length s - (p + 8) + 2) / 8) = omega arith in
@@ -214,11 +212,11 @@ pairs_no n s p h =
     let q : p + 8 * ((length s - p + 2) / 8) ≡ p = omega arith in
     pairs_cut (suc n) s p (omega arith) ∙ ap (cut_pair s) q
 
-cut_second : (s : List ℕ) (p : ℕ) → p + 4 ≤ length s → cut_pair s p ≡ Cut (p + 4) 2
+cut_second : (s : List ℕ) (p : ℕ) → p + 4 ≤ length s → cut_pair s p ≡ Err (past_end (p + 4) 2)
 unfolding cut_pair
 cut_second s p h = rw (le-leb (p + 4) (length s) h)
 
-cut_first : (s : List ℕ) (p : ℕ) → length s < p + 4 → cut_pair s p ≡ Cut p 4
+cut_first : (s : List ℕ) (p : ℕ) → length s < p + 4 → cut_pair s p ≡ Err (past_end p 4)
 unfolding cut_pair
 cut_first s p h = rw (lt-leb (p + 4) (length s) h)
 
@@ -234,9 +232,9 @@ key_second s p h l = rw (num_there 4 s p h, num-short 2 s (p + 4) l)
 key_first : (s : List ℕ) (p : ℕ) → length s < p + 4 → key_of 1 s p ≡ stop (PastEnd p 4)
 key_first s p l = rw (num-short 4 s p l)
 
-before_pair : (a b : ℕ) (r : Run) (vs : List ℕ) → before (word a ∷ word b ∷ []) (as_items (as_numbers r vs)) ≡ as_items (as_numbers r (a ∷ b ∷ vs))
-before_pair a b (Next q) vs = refl
-before_pair a b (Cut o k) vs = refl
+before_pair : (a b : ℕ) (r : Result ℕ Past) (vs : List ℕ) → before (word a ∷ word b ∷ []) (as_items (as_numbers r vs)) ≡ as_items (as_numbers r (a ∷ b ∷ vs))
+before_pair a b (Ok q) vs = refl
+before_pair a b (Err x) vs = refl
 
 pairs_turn : (n : ℕ) (s : List ℕ) (p : ℕ) → many n (key_of 1) s (p + 8) ≡ as_items (as_numbers (pairs_of n s (p + 8)) (pairs_at n s (p + 8)))
     → many (suc n) (key_of 1) s p ≡ as_items (as_numbers (pairs_of (suc n) s p) (get 4 s p ∷ get 2 s (p + 4) ∷ pairs_at n s (p + 8)))
@@ -336,42 +334,39 @@ tallied-words s t (v ∷ vs) h =
 
 -- ---- a run in code: its answer and the words after it, as a walk tells them
 
-pub told_run : (s : List ℕ) (t : Tally) (w x : List ℕ) (r : Run) (vs : List ℕ) → t.words ≤ 18446744073709551615
+pub told_run : (s : List ℕ) (t : Tally) (w x : List ℕ) (r : Result ℕ Past) (vs : List ℕ) → t.words ≤ 18446744073709551615
     → walked (after_run r t (length vs)) (stored_run r w t.words vs) x ≡ walk_of s t w x (as_items (as_numbers r vs))
 unfolding walked walk_of stored_run after_run
-told_run s t w x (Next q) vs h = rw (words-words s vs, texts-words s vs, tallied-words s t vs h)
-told_run s t w x (Cut o k) vs h = refl
+told_run s t w x (Ok q) vs h = rw (words-words s vs, texts-words s vs, tallied-words s t vs h)
+told_run s t w x (Err e) vs h = refl
 
 -- the same, as code has it: each equation is what a call tells
-pub told_values : (s : List ℕ) (t : Tally) (w x : List ℕ) (n p : ℕ) {r : Run} {a : Walk} {out : List ℕ} → t.words ≤ 18446744073709551615
+pub told_values : (s : List ℕ) (t : Tally) (w x : List ℕ) (n p : ℕ) {r : Result ℕ Past} {a : Walk} {out : List ℕ} → t.words ≤ 18446744073709551615
     → r ≡ numbers_of n s p → out ≡ stored_run r w t.words (numbers_at n s p) → a ≡ after_run r t n
     → walked a out x ≡ walk_of s t w x (as_items (numbers n s p))
 told_values s t w x n p h e o d = rw (d, o, e, numbers_run n s p) (rw length-numbers at (told_run s t w x (numbers_of n s p) (numbers_at n s p) h))
 
-pub told_pairs : (s : List ℕ) (t : Tally) (w x : List ℕ) (n p : ℕ) {r : Run} {a : Walk} {out : List ℕ} → t.words ≤ 18446744073709551615
+pub told_pairs : (s : List ℕ) (t : Tally) (w x : List ℕ) (n p : ℕ) {r : Result ℕ Past} {a : Walk} {out : List ℕ} → t.words ≤ 18446744073709551615
     → r ≡ pairs_of n s p → out ≡ stored_run r w t.words (pairs_at n s p) → a ≡ after_run r t (2 * n)
     → walked a out x ≡ walk_of s t w x (keys 1 n s p)
 told_pairs s t w x n p h e o d = rw (d, o, e, keys_step n s p) (rw length_pairs at (told_run s t w x (pairs_of n s p) (pairs_at n s p) h))
 
 -- the arms over a run's answer
-pub after_next : (t : Tally) (n q : ℕ) {r : Run} {u : Tally} → r ≡ Next q → u ≡ with_words t n → Went u q ≡ after_run r t n
+pub after_next : (t : Tally) (n q : ℕ) {u : Tally} → u ≡ with_words t n → Ok (u, q) ≡ after_run (Ok q) t n
 unfolding after_run
-after_next t n q e d = rw (e, d)
+after_next t n q d = rw d
 
-pub after_cut : (t : Tally) (n o k : ℕ) {r : Run} → r ≡ Cut o k → Stopped (PastEnd o k) ≡ after_run r t n
+pub after_cut : (t : Tally) (n : ℕ) (e : Past) {a : Walk} → a ≡ Err (past_fault e) → a ≡ after_run (Err e) t n
 unfolding after_run
-after_cut t n o k e = rw e
+after_cut t n e d = d
 
 -- the arms over a curve
 module _ (s : List ℕ) (t : Tally) (w x : List ℕ) {curve : ℕ} (n p : ℕ) where
   pub run_constant : curve ≡ 0 → walk_of s t w x (as_items (numbers n s p)) ≡ walk_of s t w x (keys curve n s p)
   run_constant e = rw (e, keys_constant n s p)
 
-  pub run_step : curve ≡ 1 → walk_of s t w x (keys 1 n s p) ≡ walk_of s t w x (keys curve n s p)
-  run_step e = rw e
-
   pub run_hermite : curve ≡ 2 → walk_of s t w x (as_items (numbers (3 * n) s p)) ≡ walk_of s t w x (keys curve n s p)
   run_hermite e = rw (e, keys_hermite n s p)
 
-  pub run_above : 2 < curve → walked (Went t p) w x ≡ walk_of s t w x (keys curve n s p)
+  pub run_above : 2 < curve → walked (Ok (t, p)) w x ≡ walk_of s t w x (keys curve n s p)
   run_above h = rw (keys_above curve n s p h) (told_ok s t w x p)

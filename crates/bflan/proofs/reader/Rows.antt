@@ -1,23 +1,24 @@
 -- A row: numbers of given widths, read one after another, and what is read behind them. A head of fixed fields is one, so what a head gives that
 -- is there, and where one is cut, is said once for all heads.
 -- Assumes nothing.
+use Rattle.std.specs.Prelude.{Ok, Err}
 use Prim.Native.Nat.{ℕ, zero, suc, ◌+◌, ◌<◌, ◌≤◌}
 use mathlib.Core.Path.{◌≡◌, refl, ap₂, sym, ◌∙◌}
 use mathlib.Core.Bool.{Bool, true, false}
 use mathlib.Core.List.{List, [], ◌∷◌, map}
 use native.Mathlib.Numerals.{add-one}
 use native.Mathlib.Omega.{arith}
-use borrow.Author.Tests.{leb-true, leb-false, le-leb, lt-leb, eq-eqb, ne_eqb}
+use borrow.Author.Tests.{leb-true, leb-false, le-leb, lt-leb}
 use lib.Dec.{leb}
 use lib.ListN.{length, get_or, drop, drop_of_length-le}
 use lib.Seq.{drop-cons}
+use Rattle.base.specs.declared.error.PastEnd.{PastEnd as Past}
 use Rattle.base.specs.Number.{get, read_of}
-use Rattle.base.specs.declared.number.Read.TheVariants.{Value, Past as ReadPast}
 use Rattle.base.proofs.Numbers.{read_value_lem, read_past}
 use Rattle.base.proofs.Seeks.{seek_there, seek_over}
 use Rattle.bflan.specs.declared.fault.Fault.{Fault}
 use Rattle.bflan.specs.declared.fault.Fault.TheVariants.{PastEnd}
-use Rattle.bflan.specs.Reader.{Res, ok, stop, P, and_then, num, seek_to}
+use Rattle.bflan.specs.Reader.{past_fault, Res, ok, stop, P, and_then, num, seek_to}
 use Rattle.bflan.specs.pai1.FieldValues.{numbers_in}
 use Rattle.bflan.specs.pai1.Places.{total}
 use Rattle.bflan.specs.inner.Row.{width_of, cut_in, sought_cut}
@@ -135,31 +136,16 @@ module _ {A : Type 0} (s : List ℕ) where
         go true e = let l = leb-true base (length s) e in rw (sought_there s base i l, seek_there s base l) (short_from ks c base l h)
         go false e = let l = leb-false base (length s) e in rw (sought_over s base i l, seek_over s base l)
 
--- ---- the width of a number
-
-module _ {k : ℕ} where
-  pub width_one : k ≡ 1 → width_of k ≡ 1
-  unfolding width_of
-  width_one e = rw (eq-eqb k 1 e)
-
-  pub width_two : (k ≡ 1 → ⊥) → k ≡ 2 → width_of k ≡ 2
-  unfolding width_of
-  width_two n e = rw (ne_eqb k 1 n, eq-eqb k 2 e)
-
-  pub width_four : (k ≡ 1 → ⊥) → (k ≡ 2 → ⊥) → width_of k ≡ 4
-  unfolding width_of
-  width_four n m = rw (ne_eqb k 1 n, ne_eqb k 2 m)
-
 -- ---- the loop that looks for the read that is refused: i widths are passed
 
 module _ (s ws : List ℕ) (i p : ℕ) {f : Fault} (e : cut_in (map width_of (drop i ws)) s p ≡ f) where
   left : i < length ws → cut_in (width_of (get_or ws i 0) ∷ map width_of (drop (i + 1) ws)) s p ≡ f
   left h = let d : drop i ws ≡ get_or ws i 0 ∷ drop (i + 1) ws = rw (add-one, drop-cons ws i 0) in rw d at e
 
-  pub cut_next : i < length ws → {v q : ℕ} → read_of (width_of (get_or ws i 0)) s p ≡ Value v q → cut_in (map width_of (drop (i + 1) ws)) s q ≡ f
+  pub cut_next : i < length ws → {v q : ℕ} → read_of (width_of (get_or ws i 0)) s p ≡ Ok (v, q) → cut_in (map width_of (drop (i + 1) ws)) s q ≡ f
   cut_next h r = let g = read_value_lem _ _ _ _ _ r in rw g.next (sym (cut_on s _ _ p g.fits) ∙ left h)
 
-  pub cut_here : i < length ws → {o k : ℕ} → read_of (width_of (get_or ws i 0)) s p ≡ ReadPast o k → PastEnd o k ≡ f
+  pub cut_here : i < length ws → {past : Past} → read_of (width_of (get_or ws i 0)) s p ≡ Err past → past_fault past ≡ f
   cut_here h r = let g = read_past _ _ _ _ _ r in rw (g.place, g.asked) (sym (cut_no s _ _ p g.over) ∙ left h)
 
   pub cut_none : length ws ≤ i → PastEnd p 0 ≡ f

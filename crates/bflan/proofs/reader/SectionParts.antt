@@ -8,27 +8,24 @@ use borrow.Author.Tests.{eq-eqb, ne_eqb}
 use lib.Dec.{eqb}
 use lib.ListN.{length, get_or}
 use lib.Seq.{sets}
+use Rattle.base.specs.declared.error.PastEnd.{PastEnd as Past}
 use Rattle.base.specs.Number.{get, read_of}
 use Rattle.base.specs.Run.{numbers_at, numbers_of}
 use Rattle.base.specs.Seek.{seek_of}
-use Rattle.base.specs.declared.number.Read.TheVariants.{Value, Past as ReadPast}
-use Rattle.base.specs.declared.run.Run.TheVariants.{Next, Cut}
-use Rattle.base.specs.declared.seek.Sought.TheVariants.{At, Past as SoughtPast}
 use Rattle.base.proofs.Numbers.{read_value_lem}
 use Rattle.bflan.specs.declared.fault.Fault.{Fault}
-use Rattle.bflan.specs.declared.fault.Fault.TheVariants.{PastEnd, OtherLetters}
+use Rattle.bflan.specs.declared.fault.Fault.TheVariants.{OtherLetters}
 use Rattle.bflan.specs.declared.reader.section.SectionHead.{SectionHead}
 use Rattle.bflan.specs.declared.reader.section.SectionHeader.{SectionHeader}
 use Rattle.bflan.specs.declared.reader.tally.Tally.{Tally}
-use Rattle.bflan.specs.declared.reader.tally.Walk.{Walk}
-use Rattle.bflan.specs.declared.reader.tally.Walk.TheVariants.{Went, Stopped}
-use Rattle.bflan.specs.Reader.{Res, ok, stop, and_then, ret, given, fail, Item, word, seek_to, numbers, visit}
+use Rattle.std.specs.Prelude.{Ok, Err}
+use Rattle.bflan.specs.Reader.{past_fault, Res, ok, stop, and_then, ret, given, fail, Item, word, seek_to, numbers, visit}
 use Rattle.bflan.specs.pai1.Reading.{content, texture, contents, own_letters, flag_of, body, section}
 use Rattle.bflan.specs.inner.SectionParts.{header, head, head_words, after_head, contents_and_size, textures_and_contents}
-use Rattle.bflan.specs.inner.Walk.{with_words, walk_of, walked}
+use Rattle.bflan.specs.inner.Walk.{Walk, with_words, walk_of, walked}
 use Rattle.bflan.specs.pai1.Places.{total}
 use Rattle.bflan.specs.inner.Row.{cut_in}
-use Rattle.bflan.proofs.reader.Emits.{sought_on, sought_past, num_on, num_past, four_stores}
+use Rattle.bflan.proofs.reader.Emits.{sought_on, sought_past, num_on, four_stores}
 use Rattle.bflan.proofs.reader.KeyRuns.{num_there, numbers_run}
 use Rattle.bflan.proofs.reader.Rows.{row_then, row_bind, fields_at, row_there, row_cut, row_fits}
 use Rattle.bflan.proofs.reader.TargetParts.{run_words}
@@ -67,17 +64,17 @@ module _ (s : List ℕ) where
 -- ---- the contents
 
 module _ (s : List ℕ) (table n i : ℕ) where
-  pub contents_past : (o k : ℕ) → seek_of s table ≡ SoughtPast o k → contents table n s i ≡ stop (PastEnd o k)
+  pub contents_past : (past : Past) → seek_of s table ≡ Err past → contents table n s i ≡ stop (past_fault past)
   unfolding contents
-  contents_past o k e = rw (sought_past s table i o k e)
+  contents_past past e = rw (sought_past s table i past e)
 
-  pub contents_cut : (q o k : ℕ) → seek_of s table ≡ At q → numbers_of n s q ≡ Cut o k → contents table n s i ≡ stop (PastEnd o k)
+  pub contents_cut : (q : ℕ) (past : Past) → seek_of s table ≡ Ok q → numbers_of n s q ≡ Err past → contents table n s i ≡ stop (past_fault past)
   unfolding contents
-  contents_cut q o k e t =
-      let r : numbers n s q ≡ stop (PastEnd o k) = numbers_run n s q ∙ rw t in
+  contents_cut q past e t =
+      let r : numbers n s q ≡ stop (past_fault past) = numbers_run n s q ∙ rw t in
       rw (sought_on s table i q e, r)
 
-  pub contents_on : (q p : ℕ) → seek_of s table ≡ At q → numbers_of n s q ≡ Next p → contents table n s i ≡ visit 0 content (numbers_at n s q) s p
+  pub contents_on : (q p : ℕ) → seek_of s table ≡ Ok q → numbers_of n s q ≡ Ok p → contents table n s i ≡ visit 0 content (numbers_at n s q) s p
   unfolding contents
   contents_on q p e t =
       let r : numbers n s q ≡ ok (numbers_at n s q) p = numbers_run n s q ∙ rw t in
@@ -152,13 +149,13 @@ module _ (s : List ℕ) where
     body_on h e = body-head ∙ ap (λ (r : Res SectionHead). and_then r (after_head size) s) (sym e)
 
     module _ (h : SectionHead) where
-      pub behind_cut : (o k : ℕ) → numbers_of h.textures s 20 ≡ Cut o k → after_head size h s 20 ≡ stop (PastEnd o k)
+      pub behind_cut : (past : Past) → numbers_of h.textures s 20 ≡ Err past → after_head size h s 20 ≡ stop (past_fault past)
       unfolding after_head
-      behind_cut o k t =
-          let r : numbers h.textures s 20 ≡ stop (PastEnd o k) = numbers_run h.textures s 20 ∙ rw t in
+      behind_cut past t =
+          let r : numbers h.textures s 20 ≡ stop (past_fault past) = numbers_run h.textures s 20 ∙ rw t in
           rw r
 
-      behind_chain : (q : ℕ) → numbers_of h.textures s 20 ≡ Next q
+      behind_chain : (q : ℕ) → numbers_of h.textures s 20 ≡ Ok q
           → after_head size h s 20
           ≡ before (map word (head_words h)) (joined (visit 20 texture (numbers_at h.textures s 20) s q) (λ j. joined (contents h.table h.contents s j) (λ k. end_at (seek_to size s k))))
       unfolding after_head
@@ -167,7 +164,7 @@ module _ (s : List ℕ) where
           let r : numbers h.textures s 20 ≡ ok os q = numbers_run h.textures s 20 ∙ rw t in
           rw r (chain (map word (head_words h)) s size h.table h.contents (visit 20 texture os s q))
 
-      pub behind-parts : (q : ℕ) → numbers_of h.textures s 20 ≡ Next q
+      pub behind-parts : (q : ℕ) → numbers_of h.textures s 20 ≡ Ok q
           → after_head size h s 20 ≡ before (map word (head_words h)) (textures_and_contents size (numbers_at h.textures s 20) h.table h.contents s q)
       behind-parts q t =
           let os = numbers_at h.textures s 20 in
@@ -178,7 +175,7 @@ module _ (s : List ℕ) where
     abbrev pub head_items : List Item
     head_items = word (get 2 s 8) ∷ word (flag_of (get 1 s 10)) ∷ word (get 2 s 12) ∷ word (get 2 s 14) ∷ []
 
-    pub body_there : 20 ≤ length s → (q : ℕ) → numbers_of (get 2 s 12) s 20 ≡ Next q
+    pub body_there : 20 ≤ length s → (q : ℕ) → numbers_of (get 2 s 12) s 20 ≡ Ok q
         → body size s 8 ≡ before head_items (joined (visit 20 texture (numbers_at (get 2 s 12) s 20) s q) (λ j. joined (contents (get 4 s 16) (get 2 s 14) s j) (λ k. end_at (seek_to size s k))))
     unfolding total fields_at
     body_there h q t = body-row ∙ row_there s head_widths (λ vs. after_head size (head_of vs)) 8 0 h ∙ behind_chain (head_of (fields_at head_widths s 8 0)) q t
@@ -193,16 +190,8 @@ module _ (s : List ℕ) where
   unfolding header row_then
   header_row = refl
 
-  pub header_first : {o k : ℕ} → read_of 4 s 0 ≡ ReadPast o k → stop (PastEnd o k) ≡ header s 0
-  unfolding header
-  header_first e = rw (num_past 4 s 0 _ _ e)
-
-  module _ {v p : ℕ} (e : read_of 4 s 0 ≡ Value v p) where
-    pub header_second : {o k : ℕ} → read_of 4 s p ≡ ReadPast o k → stop (PastEnd o k) ≡ header s 0
-    unfolding header
-    header_second d = rw (num_on 4 s 0 v p e, num_past 4 s p _ _ d)
-
-    pub header-whole : {n q : ℕ} → read_of 4 s p ≡ Value n q → ok (record { magic = v; size = n }) 8 ≡ header s 0
+  module _ {v p : ℕ} (e : read_of 4 s 0 ≡ Ok (v, p)) where
+    pub header-whole : {n q : ℕ} → read_of 4 s p ≡ Ok (n, q) → ok (record { magic = v; size = n }) 8 ≡ header s 0
     unfolding header
     header-whole {n} {q} d =
         let z : q ≡ 8 = omega (arith, (read_value_lem 4 s 0 v p e).next, (read_value_lem 4 s p n q d).next) in
@@ -247,32 +236,22 @@ run_section s t u w v x h r hw ht eu ev = rw (eu, ev) (sym (run_words s t w x (h
 
 module _ (s : List ℕ) (t : Tally) (w x : List ℕ) (size table n i : ℕ) (hw : length w ≤ 18446744073709551615) (hx : length x ≤ 18446744073709551615) (r : Walk) (w' x' : List ℕ) where
   module _ (e : walked r w' x' ≡ walk_of s t w x (contents table n s i)) where
-    pub ending_no : (f : Fault) (u v : List ℕ) → r ≡ Stopped f → walked (Stopped f) u v ≡ walk_of s t w x (contents_and_size size table n s i)
+    pub ending_no : (f : Fault) (u v : List ℕ) → r ≡ Err f → walked (Err f) u v ≡ walk_of s t w x (contents_and_size size table n s i)
     ending_no f u v d = rw (ending_is s size table n i) (turn_no s t w x (contents table n s i) hw hx r f w' x' u v (λ k. end_at (seek_to size s k)) e d)
 
-    sought : (u : Tally) (q : ℕ) → r ≡ Went u q → walk_of s u w' x' (end_at (seek_to size s q)) ≡ walk_of s t w x (contents_and_size size table n s i)
+    sought : (u : Tally) (q : ℕ) → r ≡ Ok (u, q) → walk_of s u w' x' (end_at (seek_to size s q)) ≡ walk_of s t w x (contents_and_size size table n s i)
     sought u q d = rw (ending_is s size table n i) (turn_on s t w x (contents table n s i) hw hx r u q w' x' (λ k. end_at (seek_to size s k)) e d)
 
-    pub ending_past : (u : Tally) (q o k : ℕ) (v y : List ℕ) → r ≡ Went u q → seek_of s size ≡ SoughtPast o k → walked (Stopped (PastEnd o k)) v y ≡ walk_of s t w x (contents_and_size size table n s i)
-    ending_past u q o k v y d z =
-        told_stop s u w' x' v y (PastEnd o k) ∙ ap (λ (a : Res ℕ). walk_of s u w' x' (end_at a)) (sym (sought_past s size q o k z)) ∙ sought u q d
+    pub ending_past : (u : Tally) (q : ℕ) (past : Past) (v y : List ℕ) → r ≡ Ok (u, q) → seek_of s size ≡ Err past → walked (Err (past_fault past)) v y ≡ walk_of s t w x (contents_and_size size table n s i)
+    ending_past u q past v y d z =
+        told_stop s u w' x' v y (past_fault past) ∙ ap (λ (a : Res ℕ). walk_of s u w' x' (end_at a)) (sym (sought_past s size q past z)) ∙ sought u q d
 
-    pub ending_on : (u : Tally) (q p : ℕ) → r ≡ Went u q → seek_of s size ≡ At p → walked (Went u p) w' x' ≡ walk_of s t w x (contents_and_size size table n s i)
+    pub ending_on : (u : Tally) (q p : ℕ) → r ≡ Ok (u, q) → seek_of s size ≡ Ok p → walked (Ok (u, p)) w' x' ≡ walk_of s t w x (contents_and_size size table n s i)
     ending_on u q p d z = told_ok s u w' x' p ∙ ap (λ (a : Res ℕ). walk_of s u w' x' (end_at a)) (sym (sought_on s size q p z)) ∙ sought u q d
 
   module _ (os : List ℕ) (e : walked r w' x' ≡ walk_of s t w x (visit 20 texture os s i)) where
-    pub parts_no : (f : Fault) (u v : List ℕ) → r ≡ Stopped f → walked (Stopped f) u v ≡ walk_of s t w x (textures_and_contents size os table n s i)
+    pub parts_no : (f : Fault) (u v : List ℕ) → r ≡ Err f → walked (Err f) u v ≡ walk_of s t w x (textures_and_contents size os table n s i)
     parts_no f u v d = rw (parts_is s size table n os i) (turn_no s t w x (visit 20 texture os s i) hw hx r f w' x' u v (λ j. contents_and_size size table n s j) e d)
 
-    pub parts_on : (u : Tally) (q : ℕ) → r ≡ Went u q → walk_of s u w' x' (contents_and_size size table n s q) ≡ walk_of s t w x (textures_and_contents size os table n s i)
+    pub parts_on : (u : Tally) (q : ℕ) → r ≡ Ok (u, q) → walk_of s u w' x' (contents_and_size size table n s q) ≡ walk_of s t w x (textures_and_contents size os table n s i)
     parts_on u q d = rw (parts_is s size table n os i) (turn_on s t w x (visit 20 texture os s i) hw hx r u q w' x' (λ j. contents_and_size size table n s j) e d)
-
--- ---- the flag's word
-
-pub flag_zero : (b : ℕ) → b ≡ 0 → 0 ≡ flag_of b
-unfolding flag_of
-flag_zero b e = rw (eq-eqb b 0 e)
-
-pub flag_other : (b : ℕ) → (b ≡ 0 → ⊥) → 1 ≡ flag_of b
-unfolding flag_of
-flag_other b e = rw (ne_eqb b 0 e)

@@ -1,5 +1,9 @@
 -- What holds of a reading that is not stopped, of any format: of single reads, heads and tables, and of readings one after another.
 -- Assumes nothing.
+use Rattle.base.specs.declared.error.PastEnd.{PastEnd as Past}
+use Rattle.base.specs.declared.error.TextError.{TextError}
+use Rattle.base.specs.declared.error.TextError.TheVariants.{PastEnd as TextPast, NoZero as TextNoZero}
+use Rattle.std.specs.Prelude.{Result, Ok, Err}
 use Prim.Native.Nat.{ℕ, zero, suc, ◌+◌, ◌*◌, ◌<◌, ◌≤◌}
 use mathlib.Core.Path.{◌≡◌, refl, ◌∙◌}
 use mathlib.Core.Bool.{Bool, true, false}
@@ -12,10 +16,6 @@ use Rattle.base.specs.Choice.{pick}
 use Rattle.base.specs.Number.{get}
 use Rattle.base.specs.Run.{numbers_at, numbers_of}
 use Rattle.base.specs.Text.{before_zero, ended_of}
-use Rattle.base.specs.declared.run.Run.{Run}
-use Rattle.base.specs.declared.run.Run.TheVariants.{Next, Cut}
-use Rattle.base.specs.declared.text.TextAt.{TextAt}
-use Rattle.base.specs.declared.text.TextAt.TheVariants.{Text, Past as TextPast, Unended}
 use Rattle.base.proofs.Runs.{table_fits, numbers_next}
 use Rattle.base.proofs.Zeros.{ended_text_lem}
 use Rattle.bflan.specs.declared.fault.Fault.{Fault}
@@ -104,11 +104,11 @@ module _ (s : List ℕ) {B : Type 0} {Q : B → ℕ → Type 0} where
   pub table : (n i : ℕ) (q : List ℕ → P B) → i ≤ length s → (i + 4 * n ≤ length s → If Q (q (numbers_at n s i) s (i + 4 * n))) → If Q (and_then (numbers n s i) q s)
   table n i q h f = go (numbers_of n s i) refl
     where
-      go : (r : Run) → numbers_of n s i ≡ r → If Q (and_then (numbers n s i) q s)
-      go (Next p) e =
+      go : (r : Result ℕ Past) → numbers_of n s i ≡ r → If Q (and_then (numbers n s i) q s)
+      go (Ok p) e =
           let d : numbers n s i ≡ ok (numbers_at n s i) (i + 4 * n) = numbers_run n s i ∙ rw (e, (numbers_next n s i p e).1) in
           rw d (f (table_fits n s i p h e))
-      go (Cut o k) e = let d : numbers n s i ≡ as_numbers (Cut o k) (numbers_at n s i) = numbers_run n s i ∙ rw e in rw d (no _)
+      go (Err x) e = let d : numbers n s i ≡ as_numbers (Err x) (numbers_at n s i) = numbers_run n s i ∙ rw e in rw d (no _)
 
   -- a table of offsets, and the parts at them
   pub listed : (base : ℕ) (p : ℕ → P (List Item)) (n i : ℕ) (q : List Item → P B) {R : List Item → ℕ → Type 0} → i ≤ length s → ((j : ℕ) → If R (visit base p (numbers_at n s i) s j))
@@ -120,10 +120,10 @@ pub ended : (s : List ℕ) {Q : List Item → ℕ → Type 0} (i : ℕ) → (i +
 unfolding one_ended ended_text
 ended s {Q} i f = go (ended_of s i) refl
   where
-    go : (r : TextAt) → ended_of s i ≡ r → If Q (and_then (as_text i r) (λ t. ret (t ∷ [])) s)
-    go (Text n j) e = let t = ended_text_lem s i n j e in yes (rw t.text (f (omega (arith, t.text, t.after, t.fits)) j))
-    go (TextPast o k) e = no _
-    go (Unended a) e = no _
+    go : (r : Result (ℕ × ℕ) TextError) → ended_of s i ≡ r → If Q (and_then (as_text i r) (λ t. ret (t ∷ [])) s)
+    go (Ok (n, j)) e = let t = ended_text_lem s i n j e in yes (rw t.text (f (omega (arith, t.text, t.after, t.fits)) j))
+    go (Err (TextPast o)) e = no _
+    go (Err (TextNoZero a)) e = no _
 
 -- ---- parts at the offsets of a table
 

@@ -1,6 +1,6 @@
 -- Walks one after another: what `walk_of` makes of readings that are joined, and of loops over them.
 -- Assumes nothing.
-use Prim.Native.Nat.{ℕ, zero, suc, ◌+◌, ◌-◌, ◌<◌, ◌≤◌}
+use Prim.Native.Nat.{ℕ, suc, ◌+◌, ◌-◌, ◌*◌, ◌<◌, ◌≤◌}
 use mathlib.Core.Path.{◌≡◌, refl, ap, sym, ◌∙◌}
 use mathlib.Core.Bool.{Bool, true, false}
 use mathlib.Core.List.{List, [], ◌∷◌, ◌++◌, append_assoc}
@@ -15,11 +15,10 @@ use Rattle.base.specs.Run.{numbers_at}
 use Rattle.base.proofs.Stores.{sets-append, sets_at_end}
 use Rattle.bflan.specs.declared.fault.Fault.{Fault}
 use Rattle.bflan.specs.declared.reader.tally.Tally.{Tally}
-use Rattle.bflan.specs.declared.reader.tally.Walk.{Walk}
-use Rattle.bflan.specs.declared.reader.tally.Walk.TheVariants.{Went, Stopped}
+use Rattle.std.specs.Prelude.{Result, Ok, Err, IsErrAnd}
 use Rattle.bflan.specs.Reader.{Res, ok, stop, P, and_then, Item, word, text, many, visit}
 use Rattle.bflan.specs.Items.{shown_at, words_of, texts_of}
-use Rattle.bflan.specs.inner.Walk.{sat, with_words, with_text, with_text_of, tallied, walk_of, walked}
+use Rattle.bflan.specs.inner.Walk.{Walk, sat, with_words, with_text, with_text_of, tallied, walk_of, walked}
 
 -- ---- readings one after another
 
@@ -69,27 +68,30 @@ visit_nil base p s i = refl
 pub record Next (whole one : Res (List Item)) (rest : ℕ → Res (List Item)) : Type 0 where
   pub is : whole ≡ joined one rest
 
--- of `left` in a row
-pub many_next : (p : P (List Item)) (s : List ℕ) (left i : ℕ) → 0 < left → Next (many left p s i) (p s i) (λ j. many (left - 1) p s j)
-many_next p s zero i h = absurd (omega arith)
-many_next p s (suc n) i h = let e : suc n - 1 ≡ n = omega arith in record { is = rw e (many_suc n p s i) }
+-- of n in a row, those from number k on
+module _ (p : P (List Item)) (s : List ℕ) (n : ℕ) where
+  pub many_next : (k i : ℕ) → k < n → Next (many (n - k) p s i) (p s i) (λ j. many (n - (k + 1)) p s j)
+  many_next k i h = let e : n - k ≡ suc (n - (k + 1)) = omega arith in record { is = rw e (many_suc (n - (k + 1)) p s i) }
 
-pub many_end : (p : P (List Item)) (s : List ℕ) (left i : ℕ) → left ≤ 0 → many left p s i ≡ ok [] i
-unfolding many
-many_end p s zero i h = refl
-many_end p s (suc n) i h = absurd (omega arith)
+  pub many_end : (k i : ℕ) → n ≤ k → many (n - k) p s i ≡ ok [] i
+  unfolding many
+  many_end k i h = let e : n - k ≡ 0 = omega arith in rw e
 
--- of those at `left` offsets from `at` on
-pub visit_next : (base : ℕ) (p : ℕ → P (List Item)) (s : List ℕ) (at left i : ℕ) → 0 < left → {to : ℕ} → to ≡ base + get 4 s at
-    → Next (visit base p (numbers_at left s at) s i) (p to s i) (λ j. visit base p (numbers_at (left - 1) s (at + 4)) s j)
-unfolding numbers_at
-visit_next base p s at zero i h e = absurd (omega arith)
-visit_next base p s at (suc n) i h eo = let e : suc n - 1 ≡ n = omega arith in record { is = rw (e, eo) (visit_cons base p (get 4 s at) (numbers_at n s (at + 4)) s i) }
+-- of those at n offsets from `table` on, those from number k on
+module _ (base : ℕ) (p : ℕ → P (List Item)) (s : List ℕ) (table n : ℕ) where
+  abbrev pub visit_from : ℕ → ℕ → Res (List Item)
+  visit_from k i = visit base p (numbers_at (n - k) s (table + 4 * k)) s i
 
-pub visit_end : (base : ℕ) (p : ℕ → P (List Item)) (s : List ℕ) (at left i : ℕ) → left ≤ 0 → visit base p (numbers_at left s at) s i ≡ ok [] i
-unfolding numbers_at
-visit_end base p s at zero i h = visit_nil base p s i
-visit_end base p s at (suc n) i h = absurd (omega arith)
+  pub visit_next : (k i : ℕ) → k < n → {to : ℕ} → to ≡ base + get 4 s (table + 4 * k) → Next (visit_from k i) (p to s i) (visit_from (k + 1))
+  unfolding numbers_at
+  visit_next k i h eo =
+      let e : n - k ≡ suc (n - (k + 1)) = omega arith in
+      let o : table + 4 * (k + 1) ≡ table + 4 * k + 4 = omega arith in
+      record { is = rw (e, eo, ← o) (visit_cons base p (get 4 s (table + 4 * k)) (numbers_at (n - (k + 1)) s (table + 4 * (k + 1))) s i) }
+
+  pub visit_end : (k i : ℕ) → n ≤ k → visit_from k i ≡ ok [] i
+  unfolding numbers_at
+  visit_end k i h = let e : n - k ≡ 0 = omega arith in rw e (visit_nil base p s i)
 
 -- ---- items one after another
 
@@ -163,6 +165,11 @@ run_before s t w x is (ok js q) h k =
     rw (texts-append s is js, sets-append x t.bytes (texts_of s is) (texts_of s js)) (sets-sat x' (t.bytes + length (texts_of s is)) u.bytes (texts_of s js) hx (sym (tallied-bytes s t is))) in
     rw (tallied-append s t is js, ew, ex)
 
+-- what a `?` hands on
+pub handed_on : {T E : Type 0} {r : Result T E} {f : E} → IsErrAnd r (λ e. e ≡ f) → r ≡ Err f
+handed_on {r = Ok x} h = absurd h
+handed_on {r = Err e} h = ap Err h
+
 -- the answer of a callee, in the two forms that its caller's arms have
 
 abbrev pub Three : Type 0
@@ -177,48 +184,58 @@ second a b e = ap (λ (z : Three). z.1) e
 third : (a b : Three) → a ≡ b → a.2 ≡ b.2
 third a b e = ap (λ (z : Three). z.2) e
 
-pub on_no : (t : Tally) (q : ℕ) (f : Fault) → Went t q ≡ Stopped f → ⊥
+went_on : Tally × ℕ → Walk → Tally × ℕ
+went_on z (Ok on) = on
+went_on z (Err f) = z
+
+pub on_no : (t : Tally) (q : ℕ) (f : Fault) → ◌≡◌ {A = Walk} (Ok (t, q)) (Err f) → ⊥
 on_no t q f e = let z : ◌≡◌ {A = ℕ} 0 1 = cc in omega arith
 
-pub on_tally : (t u : Tally) (p q : ℕ) → Went t p ≡ Went u q → t ≡ u
-on_tally t u p q e = cc
+pub on_tally : (t u : Tally) (p q : ℕ) → ◌≡◌ {A = Walk} (Ok (t, p)) (Ok (u, q)) → t ≡ u
+unfolding went_on
+on_tally t u p q e = ap (λ (r : Walk). (went_on (t, p) r).0) e
 
-pub on_place : (t u : Tally) (p q : ℕ) → Went t p ≡ Went u q → p ≡ q
-on_place t u p q e = cc
+pub on_place : (t u : Tally) (p q : ℕ) → ◌≡◌ {A = Walk} (Ok (t, p)) (Ok (u, q)) → p ≡ q
+unfolding went_on
+on_place t u p q e = ap (λ (r : Walk). (went_on (t, p) r).1) e
 
-pub no_fault : (f g : Fault) → Stopped f ≡ Stopped g → f ≡ g
+pub no_fault : (f g : Fault) → ◌≡◌ {A = Walk} (Err f) (Err g) → f ≡ g
 no_fault f g e = cc
 
 module _ (s : List ℕ) (t : Tally) (w x : List ℕ) (res : Res (List Item)) (h : length w ≤ 18446744073709551615) (k : length x ≤ 18446744073709551615) where
-  on_case : (r : Res (List Item)) (t' : Tally) (q : ℕ) (w' x' : List ℕ) (g : ℕ → Res (List Item)) → walked (Went t' q) w' x' ≡ walk_of s t w x r → walk_of s t' w' x' (g q) ≡ walk_of s t w x (joined r g)
+  on_case : (r : Res (List Item)) (t' : Tally) (q : ℕ) (w' x' : List ℕ) (g : ℕ → Res (List Item)) → walked (Ok (t', q)) w' x' ≡ walk_of s t w x r → walk_of s t' w' x' (g q) ≡ walk_of s t w x (joined r g)
   unfolding walked
   on_case (ok is p) t' q w' x' g e = same (unfold walk_of in first _ _ e) (unfold walk_of in second _ _ e) (unfold walk_of in third _ _ e)
     where
-      same : Went t' q ≡ Went (tallied s t is) p → w' ≡ sets w t.words (words_of s is) → x' ≡ sets x t.bytes (texts_of s is) → walk_of s t' w' x' (g q) ≡ walk_of s t w x (before is (g p))
+      same : ◌≡◌ {A = Walk} (Ok (t', q)) (Ok (tallied s t is, p)) → w' ≡ sets w t.words (words_of s is) → x' ≡ sets x t.bytes (texts_of s is) → walk_of s t' w' x' (g q) ≡ walk_of s t w x (before is (g p))
       same eo ew ex = rw (on_tally _ _ _ _ eo, on_place _ _ _ _ eo, ew, ex) (sym (run_before s t w x is (g p) h k))
   on_case (stop f) t' q w' x' g e = absurd (on_no t' q f (unfold walk_of in first _ _ e))
 
-  no_case : (r : Res (List Item)) (f : Fault) (w' x' : List ℕ) (g : ℕ → Res (List Item)) → walked (Stopped f) w' x' ≡ walk_of s t w x r → r ≡ stop f
+  no_case : (r : Res (List Item)) (f : Fault) (w' x' : List ℕ) (g : ℕ → Res (List Item)) → walked (Err f) w' x' ≡ walk_of s t w x r → r ≡ stop f
   unfolding walked
   no_case (ok is p) f w' x' g e = absurd (on_no (tallied s t is) p f (sym (unfold walk_of in first _ _ e)))
   no_case (stop f') f w' x' g e = ap (λ (z : Fault). stop z) (sym (no_fault f f' (unfold walk_of in first _ _ e)))
 
   -- the callee went on: so does the whole, from where it stands
-  pub turn_on : (r : Walk) (t' : Tally) (q : ℕ) (w' x' : List ℕ) (g : ℕ → Res (List Item)) → walked r w' x' ≡ walk_of s t w x res → r ≡ Went t' q → walk_of s t' w' x' (g q) ≡ walk_of s t w x (joined res g)
+  pub turn_on : (r : Walk) (t' : Tally) (q : ℕ) (w' x' : List ℕ) (g : ℕ → Res (List Item)) → walked r w' x' ≡ walk_of s t w x res → r ≡ Ok (t', q) → walk_of s t' w' x' (g q) ≡ walk_of s t w x (joined res g)
   turn_on r t' q w' x' g e er = on_case res t' q w' x' g (rw er at e)
 
   -- the callee was stopped: so is the whole
-  pub turn_no : (r : Walk) (f : Fault) (w' x' u v : List ℕ) (g : ℕ → Res (List Item)) → walked r w' x' ≡ walk_of s t w x res → r ≡ Stopped f → walked (Stopped f) u v ≡ walk_of s t w x (joined res g)
+  pub turn_no : (r : Walk) (f : Fault) (w' x' u v : List ℕ) (g : ℕ → Res (List Item)) → walked r w' x' ≡ walk_of s t w x res → r ≡ Err f → walked (Err f) u v ≡ walk_of s t w x (joined res g)
   turn_no r f w' x' u v g e er =
       let d = no_case res f w' x' g (rw er at e) in
       rw d (unfold walked walk_of in refl)
 
 -- a reading that is stopped, and one that ends
-pub told_stop : (s : List ℕ) (t : Tally) (w x w' x' : List ℕ) (f : Fault) → walked (Stopped f) w' x' ≡ walk_of s t w x (stop f)
+pub told_stop : (s : List ℕ) (t : Tally) (w x w' x' : List ℕ) (f : Fault) → walked (Err f) w' x' ≡ walk_of s t w x (stop f)
 unfolding walked walk_of
 told_stop s t w x w' x' f = refl
 
-pub told_ok : (s : List ℕ) (t : Tally) (w x : List ℕ) (p : ℕ) → walked (Went t p) w x ≡ walk_of s t w x (ok [] p)
+-- the same of what a `?` hands on
+pub told_handed : (s : List ℕ) (t : Tally) (w x : List ℕ) (r : Walk) (f : Fault) {g : Res (List Item)} (w' x' : List ℕ) → IsErrAnd r (λ e. e ≡ f) → stop f ≡ g → walked r w' x' ≡ walk_of s t w x g
+told_handed s t w x r f w' x' h e = rw (handed_on h) (told_stop s t w x w' x' f ∙ ap (walk_of s t w x) e)
+
+pub told_ok : (s : List ℕ) (t : Tally) (w x : List ℕ) (p : ℕ) → walked (Ok (t, p)) w x ≡ walk_of s t w x (ok [] p)
 unfolding walked walk_of tallied words_of texts_of
 told_ok s t w x p = refl
 
@@ -232,13 +249,10 @@ pub record Walking (s : List ℕ) (whole : Res (List Item)) (t₀ : Tally) (w₀
   pub words_small : length w ≤ 18446744073709551615
   pub texts-small : length x ≤ 18446744073709551615
 
-pub walking_start : {s w x : List ℕ} {t : Tally} {r : Res (List Item)} → length w ≤ 18446744073709551615 → length x ≤ 18446744073709551615 → Walking s r t w x r t w x
-walking_start h k = record { same = refl; words_long = refl; texts-long = refl; words_small = h; texts-small = k }
-
 module _ {s w₀ x₀ w x : List ℕ} {t₀ t : Tally} {whole rest : Res (List Item)} (h : Walking s whole t₀ w₀ x₀ rest t w x) where
   -- by what the reader of the next one said
   module _ {one : Res (List Item)} {r : Walk} (w' x' : List ℕ) (d : walked r w' x' ≡ walk_of s t w x one) {g : ℕ → Res (List Item)} (e : Next rest one g) where
-    pub walking_turn : {u : Tally} {q : ℕ} → r ≡ Went u q → length w' ≡ length w → length x' ≡ length x → Walking s whole t₀ w₀ x₀ (g q) u w' x'
+    pub walking_turn : {u : Tally} {q : ℕ} → r ≡ Ok (u, q) → length w' ≡ length w → length x' ≡ length x → Walking s whole t₀ w₀ x₀ (g q) u w' x'
     walking_turn {u} {q} v kw kx =
         record {
           same = turn_on s t w x one h.words_small h.texts-small r u q w' x' g d v ∙ ap (walk_of s t w x) (sym e.is) ∙ h.same;
@@ -248,8 +262,8 @@ module _ {s w₀ x₀ w x : List ℕ} {t₀ t : Tally} {whole rest : Res (List I
           texts-small = rw kx h.texts-small;
         }
 
-    pub walking_stop : {f : Fault} → r ≡ Stopped f → (u v : List ℕ) → walked (Stopped f) u v ≡ walk_of s t₀ w₀ x₀ whole
+    pub walking_stop : {f : Fault} → r ≡ Err f → (u v : List ℕ) → walked (Err f) u v ≡ walk_of s t₀ w₀ x₀ whole
     walking_stop {f} v y z = turn_no s t w x one h.words_small h.texts-small r f w' x' y z g d v ∙ ap (walk_of s t w x) (sym e.is) ∙ h.same
 
-  pub walking_end : {i : ℕ} → rest ≡ ok [] i → walked (Went t i) w x ≡ walk_of s t₀ w₀ x₀ whole
+  pub walking_end : {i : ℕ} → rest ≡ ok [] i → walked (Ok (t, i)) w x ≡ walk_of s t₀ w₀ x₀ whole
   walking_end {i} e = told_ok s t w x i ∙ ap (walk_of s t w x) (sym e) ∙ h.same

@@ -1,5 +1,7 @@
 -- Reading what was written gives the record back.
 -- Assumes nothing.
+use Rattle.base.specs.declared.error.PastEnd.{PastEnd as Past}
+use Rattle.std.specs.Prelude.{Result, Ok, Err}
 use Prim.Native.Nat.{ℕ, zero, suc, ◌+◌, ◌-◌, ◌*◌, ◌^◌, ◌≤◌, ◌<◌}
 use mathlib.Core.Path.{◌≡◌, refl, ap, ap₂, sym, ◌∙◌}
 use mathlib.Core.Bool.{Bool, true, false}
@@ -13,8 +15,6 @@ use lib.Seq.{slice, take-add, drop-drop}
 use Rattle.base.specs.Choice.{pick}
 use Rattle.base.specs.Number.{le, get, val}
 use Rattle.base.specs.Run.{numbers_at, numbers_of}
-use Rattle.base.specs.declared.run.Run.{Run}
-use Rattle.base.specs.declared.run.Run.TheVariants.{Next, Cut}
 use Rattle.base.specs.Text.{before_zero}
 use Rattle.base.specs.Utf8.{replacements}
 use Rattle.base.proofs.Seeks.{seek_there}
@@ -146,18 +146,18 @@ datum-reads s i d f h =
 
 -- a run of numbers that is read is there
 pub record There (n : ℕ) (s : List ℕ) (p : ℕ) (vs : List ℕ) (q : ℕ) : Type 0 where
-  pub next : numbers_of n s p ≡ Next q
+  pub next : numbers_of n s p ≡ Ok q
   pub values : numbers_at n s p ≡ vs
 
 pub run_there : (n : ℕ) (s : List ℕ) (p : ℕ) (vs : List ℕ) (q : ℕ) → numbers n s p ≡ ok vs q → There n s p vs q
 run_there n s p vs q e = go (numbers_of n s p) refl (sym (numbers_run n s p) ∙ e)
   where
-    go : (r : Run) → numbers_of n s p ≡ r → as_numbers r (numbers_at n s p) ≡ ok vs q → There n s p vs q
-    go (Next q') er k =
+    go : (r : Result ℕ Past) → numbers_of n s p ≡ r → as_numbers r (numbers_at n s p) ≡ ok vs q → There n s p vs q
+    go (Ok q') er k =
         let eq : q' ≡ q = cc in
         let ev : numbers_at n s p ≡ vs = cc in
-        record { next = er ∙ ap Next eq; values = ev }
-    go (Cut o m) er k = let z : ◌≡◌ {A = ℕ} 0 1 = cc in absurd (omega arith)
+        record { next = er ∙ ap Ok eq; values = ev }
+    go (Err x) er k = let z : ◌≡◌ {A = ℕ} 0 1 = cc in absurd (omega arith)
 
 -- ---- infos
 
@@ -348,7 +348,7 @@ section-reads s r w h short =
     let tail =
     reads_joined (λ j. joined (contents (get 4 s 16) (get 2 s 14) s j) (λ k. end_at (seek_to size4 s k))) (reads_as (sym tex) refl refl tv.here)
     (reads_joined (λ k. end_at (seek_to size4 s k)) (reads_as (sym (cont tv.next)) refl refl cv.here) (last cv.next)) in
-    let nx : numbers_of (get 2 s 12) s 20 ≡ Next (20 + 4 * nt) = ap (λ (n : ℕ). numbers_of n s 20) et ∙ to.next in
+    let nx : numbers_of (get 2 s 12) s 20 ≡ Ok (20 + 4 * nt) = ap (λ (n : ℕ). numbers_of n s 20) et ∙ to.next in
     reads_as (sym (section-body s b8 g.letters ∙ body_there s size4 b20 (20 + 4 * nt) nx)) (rw (g.frames, lo, et, ec, append-nil)) (sym (section_size_lem r)) (reads_before (head_items s size4) refl tail)
 
 -- the record that was written, read again: its words, its texts, as they stand, and the end

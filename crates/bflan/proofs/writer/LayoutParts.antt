@@ -448,16 +448,6 @@ module _ (kind n : ℕ) (w x : List ℕ) (q : Pen) (start : ℕ) {most : ℕ} (h
   count : length h.value ≡ n
   count = times-length info w x n q.word q.byte h.judged
 
-  -- of a User content
-  module _ (k : kind ≡ 2) where
-    pub two_ready : Ready (body_lay 2) (times n info w x q.word q.byte) q.at most
-    two_ready = rw (← k) h
-
-    pub two_done : (out : List ℕ) {o : List ℕ} {u : Pen} → u ≡ pen_behind (body_lay 2) (times n info w x q.word q.byte) q.at
-        → o ≡ laid (body_lay 2) (times n info w x q.word q.byte) q.at out
-        → Leaves (body_lay kind) (times n info w x q.word q.byte) q.at out u o
-    two_done out e f = (rw k e, rw k f)
-
   -- not of a User content: the infos
   module _ (k : kind ≡ 2 → ⊥) where
     plain : written (body_lay kind h.value) ≡ written (listed info_lay (q.at + 4 * n - start) h.value)

@@ -247,9 +247,6 @@ pub record Running {X : Type 0} (p : J X) (lay : X → Layout) (w x : List ℕ) 
   pub same : laid (parts lay) (times left p w x q.word q.byte) q.at out ≡ laid (parts lay) (times n p w x q₀.word q₀.byte) q₀.at out₀
 
 module _ {X : Type 0} {p : J X} {lay : X → Layout} {w x : List ℕ} {n : ℕ} {q₀ : Pen} {out₀ : List ℕ} where
-  pub running_start : Ready (parts lay) (times n p w x q₀.word q₀.byte) q₀.at (length out₀) → Running p lay w x n q₀ out₀ n q₀ out₀
-  running_start h = record { ready = h; long = refl; ends = refl; same = refl }
-
   module _ {left : ℕ} {q : Pen} {out : List ℕ} (h : Running p lay w x n q₀ out₀ left q out) where
     pub running_first : 0 < left → Ready lay (p w x q.word q.byte) q.at (length out)
     running_first l = first_of p lay w x left q.word q.byte q.at l h.ready

@@ -1,6 +1,6 @@
 -- Numbers and texts as they are stored, of any format: single fields, a row of numbers, and a text with what is behind it.
 -- Assumes nothing.
-use Prim.Native.Nat.{ℕ, zero, suc, ◌+◌, ◌*◌, ◌-◌, ◌/◌, ◌%◌, ◌^◌, ◌≤◌, ◌<◌}
+use Prim.Native.Nat.{ℕ, zero, suc, ◌+◌, ◌*◌, ◌/◌, ◌%◌, ◌^◌, ◌≤◌, ◌<◌}
 use mathlib.Core.Path.{◌≡◌, refl, sym, ap, ◌∙◌}
 use mathlib.Core.Bool.{Bool, true}
 use mathlib.Core.List.{List, [], ◌∷◌}
@@ -34,10 +34,6 @@ low (suc k) a q =
 pub put_low : (k : ℕ) (s : List ℕ) (at v : ℕ) → put k s at (v % 256 ^ k) ≡ put k s at v
 unfolding put
 put_low k s at v = ap (sets s at) (sym (low k (v % 256 ^ k) (v / 256 ^ k)) ∙ ap (le k) (mod-add-div v (256 ^ k)))
-
--- a part of the texts
-pub chars_stored : (x out : List ℕ) (from n at : ℕ) {m : List ℕ} → m ≡ sets out at (take (from + n - from) (drop from x)) → m ≡ sets out at (take n (drop from x))
-chars_stored x out from n at e = let z : from + n - from ≡ n = omega arith in rw z at e
 
 -- a place that was held and patched
 pub offset_stored : (l : List ℕ) (at p v : ℕ) {m o : List ℕ} → p ≡ at → m ≡ put 4 l at 0 → o ≡ put 4 m p v → o ≡ put 4 l at v

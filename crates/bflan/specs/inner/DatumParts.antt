@@ -1,9 +1,8 @@
 -- A datum in parts, as the code reads it: the head, the values with the key text, and the key text (document 01, 'The section';
 -- `datum` of Reading is the definition that these parts make up).
-use Rattle.std.specs.Prelude.{ℕ, ◌+◌, List, [], ◌∷◌, ◌++◌, map}
+use Rattle.std.specs.Prelude.{Result, Ok, Err, ℕ, ◌+◌, List, [], ◌∷◌, ◌++◌, map}
+use Rattle.bflan.specs.declared.fault.Fault.{Fault}
 use Rattle.bflan.specs.declared.reader.datum.Fields.{Fields}
-use Rattle.bflan.specs.declared.reader.datum.Head.{Head}
-use Rattle.bflan.specs.declared.reader.datum.Head.TheVariants.{Got, Short}
 use Rattle.bflan.specs.Reader.{Res, ok, stop, P, ◌>>=◌, ret, here, Item, word, num, numbers}
 use Rattle.bflan.specs.pai1.Reading.{texture}
 
@@ -18,9 +17,9 @@ head = do
   ret (record { size = size; one = one; two = two; base = base; three = three })
 
 -- a head as the code answers it
-abbrev pub as_head : Head → Res Fields
-as_head (Got h next) = ok h next
-as_head (Short f) = stop f
+abbrev pub as_head : Result (Fields × ℕ) Fault → Res Fields
+as_head (Ok on) = ok on.0 on.1
+as_head (Err f) = stop f
 
 -- its words, in the record's order
 abbrev pub fields_of : Fields → List ℕ

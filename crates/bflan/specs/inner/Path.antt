@@ -1,53 +1,42 @@
 -- The path to a field, a step at a time, and what a section that reads has on it.
-use Rattle.std.specs.Prelude.{ℕ, ◌+◌, ◌*◌, ◌<◌, ◌≤◌, ◌≡◌, List, eqb, ltb, length}
+use Rattle.std.specs.Prelude.{ℕ, ◌+◌, ◌*◌, ◌<◌, ◌≤◌, ◌≡◌, Option, Some, None, List, eqb, ltb, length}
 use Rattle.base.specs.Choice.{pick}
 use Rattle.base.specs.Number.{get}
-use Rattle.bflan.specs.declared.place.Base.{Base}
-use Rattle.bflan.specs.declared.place.Base.TheVariants.{From, Missing}
-use Rattle.bflan.specs.declared.place.Field.TheVariants.{Layer as layer, Target as number}
-use Rattle.bflan.specs.pai1.Letters.{fleu, letters_of}
-use Rattle.bflan.specs.pai1.Places.{Spot, spot, total, stride, key_in, value_in, target_in, datum_in, info_table_in}
+use Rattle.bflan.specs.declared.place.FieldSpot.{FieldSpot}
+use Rattle.bflan.specs.pai1.Letters.{fleu}
+use Rattle.bflan.specs.pai1.Places.{Spot, nowhere, spot, total, stride, info_table_in}
 use Rattle.bflan.specs.Reader.{Res, ok, stop, Item, many}
 use Rattle.bflan.specs.pai1.Reading.{curve_of, count_of, datum}
 use Rattle.bflan.specs.pai1.Record.{key_widths}
 
--- ---- the path: where the part starts that a step leads to
+-- ---- the path: where the part starts that a step leads to, and the field at its end
 
-unfoldable pub content_base : List ℕ → ℕ → Base
-content_base s c = pick (ltb c (get 2 s 14)) (From (get 4 s (get 4 s 16 + 4 * c))) Missing
+unfoldable pub spot_of : Spot → Option FieldSpot
+spot_of nowhere = None
+spot_of (spot at f) = Some (record { at = at; field = f })
+
+unfoldable pub content_base : List ℕ → ℕ → Option ℕ
+content_base s c = pick (ltb c (get 2 s 14)) (Some (get 4 s (get 4 s 16 + 4 * c))) None
 
 -- under the content that starts at b
-unfoldable pub info_base : List ℕ → ℕ → ℕ → Base
-info_base s b i = pick (ltb i (get 1 s (b + 28))) (From (b + get 4 s (info_table_in s b + 4 * i))) Missing
+unfoldable pub info_base : List ℕ → ℕ → ℕ → Option ℕ
+info_base s b i = pick (ltb i (get 1 s (b + 28))) (Some (b + get 4 s (info_table_in s b + 4 * i))) None
 
 -- under the info that starts at b
-unfoldable pub target_base : List ℕ → ℕ → ℕ → Base
-target_base s b t = pick (eqb (get 4 s b) fleu) Missing (pick (ltb t (get 1 s (b + 4))) (From (b + get 4 s (b + 8 + 4 * t))) Missing)
+unfoldable pub target_base : List ℕ → ℕ → ℕ → Option ℕ
+target_base s b t = pick (eqb (get 4 s b) fleu) None (pick (ltb t (get 1 s (b + 4))) (Some (b + get 4 s (b + 8 + 4 * t))) None)
 
-unfoldable pub after_base : Res (List Item) → Base
-after_base (ok is q) = From q
-after_base (stop f) = Missing
+unfoldable pub after_base : Res (List Item) → Option ℕ
+after_base (ok is q) = Some q
+after_base (stop f) = None
 
-unfoldable pub datum_base : List ℕ → ℕ → ℕ → Base
-datum_base s b d = pick (eqb (get 4 s b) fleu) (pick (ltb d (get 1 s (b + 4))) (after_base (many d datum s (b + 8))) Missing) Missing
+unfoldable pub datum_base : List ℕ → ℕ → ℕ → Option ℕ
+datum_base s b d = pick (eqb (get 4 s b) fleu) (pick (ltb d (get 1 s (b + 4))) (after_base (many d datum s (b + 8))) None) None
 
 -- one step after another
-unfoldable pub info_under : List ℕ → Base → ℕ → Base
-info_under s (From b) i = info_base s b i
-info_under s Missing i = Missing
-
--- the fields under the info that starts at b
-unfoldable pub layer_under : List ℕ → ℕ → ℕ → Spot
-layer_under s b t = target_in s b t (λ b. spot b layer)
-
-unfoldable pub number_under : List ℕ → ℕ → ℕ → Spot
-number_under s a t = target_in s a t (λ b. spot (b + 1) (number (letters_of (get 4 s a))))
-
-unfoldable pub key_under : List ℕ → ℕ → ℕ → ℕ → Spot
-key_under s b t k = target_in s b t (λ b. key_in s b k)
-
-unfoldable pub value_under : List ℕ → ℕ → ℕ → ℕ → ℕ → Spot
-value_under s b d l v = datum_in s b d (λ b. value_in s b l v)
+unfoldable pub info_under : List ℕ → Option ℕ → ℕ → Option ℕ
+info_under s (Some b) i = info_base s b i
+info_under s None i = None
 
 -- ---- what stands in a section that reads
 

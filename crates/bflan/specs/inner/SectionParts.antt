@@ -1,11 +1,8 @@
 -- A section in parts, as the code reads it: the letters and the size; the numbers behind them; the contents with the seek to the section's end,
 -- and the textures in front of them (document 01, 'The section'; `section` and `body` of Reading are the definitions that these parts make up).
-use Rattle.std.specs.Prelude.{ℕ, List, [], ◌∷◌, ◌++◌}
-use Rattle.bflan.specs.declared.reader.section.Header.{Header}
-use Rattle.bflan.specs.declared.reader.section.Header.TheVariants.{Got, Short}
+use Rattle.std.specs.Prelude.{Result, Ok, Err, ℕ, List, [], ◌∷◌, ◌++◌}
+use Rattle.bflan.specs.declared.fault.Fault.{Fault}
 use Rattle.bflan.specs.declared.reader.section.SectionHeader.{SectionHeader}
-use Rattle.bflan.specs.declared.reader.section.Head.{Head}
-use Rattle.bflan.specs.declared.reader.section.Head.TheVariants.{Got as GotHead, Short as ShortHead}
 use Rattle.bflan.specs.declared.reader.section.SectionHead.{SectionHead}
 use Rattle.bflan.specs.Reader.{Res, ok, stop, P, ◌>>=◌, ret, here, Item, word, num, seek_to, numbers, visit}
 use Rattle.bflan.specs.pai1.Reading.{texture, contents, flag_of}
@@ -17,9 +14,9 @@ header = do
   ret (record { magic = letters; size = size })
 
 -- a header at the section's start as the code answers it: what follows stands at 8
-abbrev pub as_header : Header → Res SectionHeader
-as_header (Got h) = ok h 8
-as_header (Short f) = stop f
+abbrev pub as_header : Result SectionHeader Fault → Res SectionHeader
+as_header (Ok h) = ok h 8
+as_header (Err f) = stop f
 
 -- the numbers behind the header
 unfoldable pub head : P SectionHead
@@ -33,9 +30,9 @@ head = do
   ret (record { frames = frames; looping = looping; textures = nt; contents = nc; table = table })
 
 -- a head behind the header as the code answers it: what follows stands at 20
-abbrev pub as_head : Head → Res SectionHead
-as_head (GotHead h) = ok h 20
-as_head (ShortHead f) = stop f
+abbrev pub as_head : Result SectionHead Fault → Res SectionHead
+as_head (Ok h) = ok h 20
+as_head (Err f) = stop f
 
 -- its words, in the record's order
 abbrev pub head_words : SectionHead → List ℕ

@@ -1,16 +1,13 @@
 -- What a walk over a section leaves behind: its tally, and the two tables, by the items that it met.
-use Rattle.std.specs.Prelude.{ℕ, min, ◌+◌, ◌-◌, List, [], ◌∷◌, map, eqb, length}
+use Rattle.std.specs.Prelude.{Result, Ok, Err, ℕ, min, ◌+◌, ◌-◌, List, [], ◌∷◌, map, eqb, length}
 use Rattle.std.proofs.Math.Seq.{slice}
 use Rattle.std.proofs.lemmas.List.Edits.{sets}
 use Rattle.base.specs.Choice.{pick}
 use Rattle.base.specs.Utf8.{replacements}
-use Rattle.base.specs.declared.run.Run.{Run}
-use Rattle.base.specs.declared.run.Run.TheVariants.{Next, Cut}
-use Rattle.bflan.specs.declared.fault.Fault.TheVariants.{PastEnd}
+use Rattle.base.specs.declared.error.PastEnd.{PastEnd as Past}
+use Rattle.bflan.specs.declared.fault.Fault.{Fault}
 use Rattle.bflan.specs.declared.reader.tally.Tally.{Tally}
-use Rattle.bflan.specs.declared.reader.tally.Walk.{Walk}
-use Rattle.bflan.specs.declared.reader.tally.Walk.TheVariants.{Went, Stopped}
-use Rattle.bflan.specs.Reader.{Res, ok, stop, Item, word, text}
+use Rattle.bflan.specs.Reader.{past_fault, Res, ok, stop, Item, word, text}
 use Rattle.bflan.specs.Items.{shown_at, words_of, texts_of}
 
 -- numbers as items: a word each
@@ -54,18 +51,22 @@ tallied s t [] = t
 tallied s t (word v ∷ is) = tallied s (with_words t 1) is
 tallied s t (text a n ∷ is) = tallied s (with_text_of s t a n) is
 
+-- a walk goes on with a tally at a position, or is stopped
+abbrev pub Walk : Type 0
+Walk = Result (Tally × ℕ) Fault
+
 -- a walk after a run of n words
-unfoldable pub after_run : Run → Tally → ℕ → Walk
-after_run (Next next) t n = Went (with_words t n) next
-after_run (Cut at k) t n = Stopped (PastEnd at k)
+unfoldable pub after_run : Result ℕ Past → Tally → ℕ → Walk
+after_run (Ok next) t n = Ok (with_words t n, next)
+after_run (Err e) t n = Err (past_fault e)
 
 -- ---- a walk over two tables: its answer and, where it goes on, the tables then
 
 unfoldable pub walk_of : List ℕ → Tally → List ℕ → List ℕ → Res (List Item) → Walk × List ℕ × List ℕ
-walk_of s t w x (ok is p) = (Went (tallied s t is) p, sets w t.words (words_of s is), sets x t.bytes (texts_of s is))
-walk_of s t w x (stop f) = (Stopped f, [], [])
+walk_of s t w x (ok is p) = (Ok (tallied s t is, p), sets w t.words (words_of s is), sets x t.bytes (texts_of s is))
+walk_of s t w x (stop f) = (Err f, [], [])
 
 -- the same as the code has it: of a walk that was stopped the tables don't count
 unfoldable pub walked : Walk → List ℕ → List ℕ → Walk × List ℕ × List ℕ
-walked (Went t p) w x = (Went t p, w, x)
-walked (Stopped f) w x = (Stopped f, [], [])
+walked (Ok on) w x = (Ok on, w, x)
+walked (Err f) w x = (Err f, [], [])

@@ -8,11 +8,10 @@ ghost use Rattle.bflan.specs.inner.Measure.{verdict_of};
 ghost use Rattle.bflan.specs.inner.JudgeParts.{after_name};
 
 use crate::judge::info::infos;
-use crate::judge::size::{grown, padded};
 use crate::judge::text::name;
-use crate::judge::word::{below, word_of};
-use crate::judge::{Mark, Verdict};
-use crate::reader::tally::add;
+use crate::judge::times::times;
+use crate::judge::word::word_below;
+use crate::judge::{Mark, Misfit, Place};
 
 // Where a content's info table stands in it.
 pub(crate) fn table_from(kind: u32) -> usize
@@ -25,58 +24,26 @@ pub(crate) fn table_from(kind: u32) -> usize
 }
 
 // What is behind a content's name.
-fn named(words: &[u32], texts: &[u8], i: usize, j: usize) -> Verdict
-    ensures { (name : List ℕ) → length name ≤ 28 → result ≡ verdict_of (λ c. size (content_lay c)) (after_name name words.now texts.now i j) }
+fn named(words: &[u32], texts: &[u8], at: Place) -> Result<Mark, Misfit>
+    ensures { (name : List ℕ) → length name ≤ 28 → result ≡ verdict_of (λ c. size (content_lay c)) (after_name name words.now texts.now at.word at.byte) }
 {
-    if !below(words, i, 5) {
-        return Verdict::BadWord(i);
-    }
-    let count = i + 1;
-    if !below(words, count, 256) {
-        return Verdict::BadWord(count);
-    }
-    let n = word_of(words, count) as usize;
-    let head = table_from(word_of(words, i)) + 4 * n;
-    padded(grown(infos(words, texts, count + 1, j, n), head))
+    let kind = word_below(words, at.word, 5)?;
+    let n = word_below(words, at.word + 1, 256)? as usize;
+    let head = table_from(kind) + 4 * n;
+    let rest = infos(words, texts, at.past(2), n)?;
+    Ok(rest.grown(head).padded())
 }
 
-pub(crate) fn content(words: &[u32], texts: &[u8], i: usize, j: usize) -> Verdict
-    ensures { result ≡ verdict_of (λ c. size (content_lay c)) (content words.now texts.now i j) }
+pub(crate) fn content(words: &[u32], texts: &[u8], at: Place) -> Result<Mark, Misfit>
+    ensures { result ≡ verdict_of (λ c. size (content_lay c)) (content words.now texts.now at.word at.byte) }
 {
-    match name(words, texts, i, j) {
-        Verdict::BadWord(k) => Verdict::BadWord(k),
-        Verdict::BadText(k) => Verdict::BadText(k),
-        Verdict::Fine(m) => named(words, texts, m.word, m.byte),
-    }
+    let name = name(words, texts, at)?;
+    named(words, texts, name.at)
 }
 
 // `n` contents.
-pub(crate) fn contents(words: &[u32], texts: &[u8], i: usize, j: usize, n: usize) -> Verdict
-    ensures { result ≡ verdict_of (λ cs. size (parts content_lay cs)) (times n content words.now texts.now i j) }
+pub(crate) fn contents(words: &[u32], texts: &[u8], at: Place, n: usize) -> Result<Mark, Misfit>
+    ensures { result ≡ verdict_of (λ cs. size (parts content_lay cs)) (times n content words.now texts.now at.word at.byte) }
 {
-    let mut left = n;
-    let mut at = i;
-    let mut to = j;
-    let mut size: usize = 0;
-    while 0 < left {
-        match content(words, texts, at, to) {
-            Verdict::BadWord(k) => {
-                return Verdict::BadWord(k);
-            }
-            Verdict::BadText(k) => {
-                return Verdict::BadText(k);
-            }
-            Verdict::Fine(m) => {
-                at = m.word;
-                to = m.byte;
-                size = add(size, m.size);
-            }
-        }
-        left -= 1;
-    }
-    Verdict::Fine(Mark {
-        word: at,
-        byte: to,
-        size,
-    })
+    times(n, at, move |at| content(words, texts, at))
 }

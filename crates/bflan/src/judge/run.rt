@@ -1,77 +1,58 @@
 // Runs of words: values, and the keys of a target. Where every word may be any u32, none of them is looked at.
-ghost use Rattle.std.specs.Prelude.{◌≡◌, List, ℕ, ◌-◌, ◌<◌, ◌≤◌, length};
+ghost use Rattle.std.specs.Prelude.{◌≡◌, List, ℕ, ◌<◌, ◌≤◌, length};
 ghost use Rattle.bflan.specs.Judge.{next_word, wide, row, times};
 ghost use Rattle.bflan.specs.Layout.{number, size, parts};
 ghost use Rattle.bflan.specs.pai1.Layout.{key_lay};
 ghost use Rattle.bflan.specs.inner.Measure.{verdict_of};
 ghost use Rattle.bflan.specs.pai1.Record.{key_widths};
 
-use crate::judge::word::below;
-use crate::judge::{Mark, Verdict};
+use crate::judge::word::word_below;
+use crate::judge::{Mark, Misfit, Place};
 
-// How many words there are from `i` on.
-fn ahead(words: &[u32], i: usize) -> usize
-    ensures { result ≡ length words.now - i }
-{
-    if i < words.len() {
-        return words.len() - i;
-    }
-    0
-}
-
-// `n` words from `i` on.
-pub(crate) fn run(words: &[u32], i: usize, j: usize, n: usize) -> Verdict
+// The next `n` words.
+pub(crate) fn run(words: &[u32], at: Place, n: usize) -> Result<Mark, Misfit>
     requires { n ≤ 17179869184 }
-    ensures { (x : List ℕ) → result ≡ verdict_of (λ vs. size (parts (number 4) vs)) (times n (next_word (wide 4)) words.now x i j) }
+    ensures { (x : List ℕ) → result ≡ verdict_of (λ vs. size (parts (number 4) vs)) (times n (next_word (wide 4)) words.now x at.word at.byte) }
 {
-    if n <= ahead(words, i) {
-        return Verdict::Fine(Mark {
-            word: i + n,
-            byte: j,
+    if n <= words.len().saturating_sub(at.word) {
+        return Ok(Mark {
+            at: at.past(n),
             size: 4 * n,
         });
     }
-    if i < words.len() {
-        return Verdict::BadWord(words.len());
+    if at.word < words.len() {
+        return Err(Misfit::Word(words.len()));
     }
-    Verdict::BadWord(i)
+    Err(Misfit::Word(at.word))
 }
 
 // `n` keys of a frame and a u16.
-fn pairs(words: &[u32], i: usize, j: usize, n: usize) -> Verdict
+fn pairs(words: &[u32], at: Place, n: usize) -> Result<Mark, Misfit>
     requires { n < 65536 }
-    ensures { (x : List ℕ) → result ≡ verdict_of (λ ks. size (parts (key_lay 1) ks)) (times n (row (key_widths 1)) words.now x i j) }
+    ensures { (x : List ℕ) → result ≡ verdict_of (λ ks. size (parts (key_lay 1) ks)) (times n (row (key_widths 1)) words.now x at.word at.byte) }
 {
-    let mut left = n;
-    let mut at = i;
-    while 0 < left {
-        if below(words, at, 4294967296) {
-            let value = at + 1;
-            if below(words, value, 65536) {
-                at = value + 1;
-            } else {
-                return Verdict::BadWord(value);
-            }
-        } else {
-            return Verdict::BadWord(at);
-        }
-        left -= 1;
+    // Kept: a loop of its own beside `times`, which adds up the bytes key by key. With it a key took 15 instructions in place of 11, and the writing
+    // of 20,000 contents with Step keys 5 % more of them.
+    let mut word = at.word;
+    for _ in 0..n {
+        word_below(words, word, 4294967296)?;
+        word_below(words, word + 1, 65536)?;
+        word += 2;
     }
-    Verdict::Fine(Mark {
-        word: at,
-        byte: j,
+    Ok(Mark {
+        at: Place { word, ..at },
         size: 8 * n,
     })
 }
 
-// The `n` keys of a curve from `i` on.
-pub(crate) fn keys(words: &[u32], i: usize, j: usize, curve: u32, n: usize) -> Verdict
+// The next `n` keys of a curve.
+pub(crate) fn keys(words: &[u32], at: Place, curve: u32, n: usize) -> Result<Mark, Misfit>
     requires { n < 65536 }
-    ensures { (x : List ℕ) → result ≡ verdict_of (λ ks. size (parts (key_lay curve) ks)) (times n (row (key_widths curve)) words.now x i j) }
+    ensures { (x : List ℕ) → result ≡ verdict_of (λ ks. size (parts (key_lay curve) ks)) (times n (row (key_widths curve)) words.now x at.word at.byte) }
 {
     match curve {
-        0 => run(words, i, j, n),
-        1 => pairs(words, i, j, n),
-        _ => run(words, i, j, 3 * n),
+        0 => run(words, at, n),
+        1 => pairs(words, at, n),
+        _ => run(words, at, 3 * n),
     }
 }

@@ -1,9 +1,10 @@
-// Tests of single words: a word that is missing fits nothing.
-ghost use Rattle.std.specs.Prelude.{◌≡◌, ltb, get_or};
+// Single words, and tests of them: a word that is missing fits nothing.
+ghost use Rattle.std.specs.Prelude.{◌≡◌, ℕ, Bool, ltb, get_or};
 ghost use Rattle.bflan.specs.pai1.Letters.{letters_fit, target_fits};
-ghost use Rattle.bflan.specs.inner.Measure.{fits};
+ghost use Rattle.bflan.specs.inner.Measure.{word_if};
 
-use crate::letters::{AnimInfoType, kind_of};
+use crate::judge::Misfit;
+use crate::letters::{AnimInfoType, kind_of, target_fits};
 
 // The word at `i`, or 0 past the end.
 pub(crate) fn word_of(words: &[u32], i: usize) -> u32
@@ -15,15 +16,22 @@ pub(crate) fn word_of(words: &[u32], i: usize) -> u32
     0
 }
 
-// Whether the word at `i` is there and below `bound`.
-pub(crate) fn below(words: &[u32], i: usize, bound: usize) -> bool
-    ensures { result ≡ fits (λ v. ltb v bound) words.now i }
+// The word at `i`, if it is there and `fits` holds of it.
+fn word_where<F: Fn(u32) -> bool>(words: &[u32], i: usize, fits: F) -> Result<u32, Misfit>
+    requires { F.IsAlwaysCallable fits }
+    ensures { (test : ℕ → Bool) → ((v : ℕ) (b : Bool) → F.post fits v b → b ≡ test v) → result ≡ word_if test words.now i }
 {
-    if i < words.len() {
-        let v = words[i] as usize;
-        return v < bound;
+    match words.get(i) {
+        Some(word) if fits(*word) => Ok(*word),
+        _ => Err(Misfit::Word(i)),
     }
-    false
+}
+
+// The word at `i`, if it is there and below `bound`.
+pub(crate) fn word_below(words: &[u32], i: usize, bound: usize) -> Result<u32, Misfit>
+    ensures { result ≡ word_if (λ v. ltb v bound) words.now i }
+{
+    word_where(words, i, |word| (word as usize) < bound)
 }
 
 // Whether a record may have these letters.
@@ -37,22 +45,16 @@ fn listed(letters: u32) -> bool
     }
 }
 
-// Whether the word at `i` is there and letters that a record may have.
-pub(crate) fn letters_fit(words: &[u32], i: usize) -> bool
-    ensures { result ≡ fits letters_fit words.now i }
+// The word at `i`, if it is there and letters that a record may have.
+pub(crate) fn letters_at(words: &[u32], i: usize) -> Result<u32, Misfit>
+    ensures { result ≡ word_if letters_fit words.now i }
 {
-    if i < words.len() {
-        return listed(words[i]);
-    }
-    false
+    word_where(words, i, |word| listed(word))
 }
 
-// Whether the word at `i` is there and a target that a record may have under these letters.
-pub(crate) fn target_fits(words: &[u32], letters: u32, i: usize) -> bool
-    ensures { result ≡ fits (target_fits letters) words.now i }
+// The word at `i`, if it is there and a target that a record may have under these letters.
+pub(crate) fn target_at(words: &[u32], letters: u32, i: usize) -> Result<u32, Misfit>
+    ensures { result ≡ word_if (target_fits letters) words.now i }
 {
-    if i < words.len() {
-        return crate::letters::target_fits(letters, words[i]);
-    }
-    false
+    word_where(words, i, |word| target_fits(letters, word))
 }

@@ -13,8 +13,8 @@ use crate::reader::offset::{half_at, word_at};
 use crate::reader::row::cut;
 use crate::reader::tally::{Tally, Walk, more_words};
 use crate::reader::texture::text_at;
+use crate::section::Section;
 use base::cursor::u32_at;
-use base::number::Read;
 use base::run::put_word;
 
 // The numbers before a datum's values.
@@ -27,15 +27,8 @@ pub struct Fields {
     pub three: u32,
 }
 
-// What the read of a head gives: the numbers and the position after them, or what stopped it.
-#[derive(Clone, Copy)]
-pub enum Head {
-    Got(Fields, usize),
-    Short(Fault),
-}
-
-// The head at `p`, tested once.
-fn head_at(s: &[u8], p: usize) -> Head
+// The head at `p`, tested once: the numbers, and the position after them.
+fn head_at(s: &[u8], p: usize) -> Result<(Fields, usize), Fault>
     ensures { as_head result ≡ head s.now p }
 {
     if 16 <= s.len() {
@@ -46,7 +39,7 @@ fn head_at(s: &[u8], p: usize) -> Head
             let base = word_at(s, p + 8);
             let three = word_at(s, p + 12);
             let next = p + 16;
-            return Head::Got(
+            return Ok((
                 Fields {
                     size,
                     one,
@@ -55,10 +48,10 @@ fn head_at(s: &[u8], p: usize) -> Head
                     three,
                 },
                 next,
-            );
+            ));
         }
     }
-    Head::Short(cut(s, p, b"\x04\x02\x02\x04\x04"))
+    Err(cut(s, p, b"\x04\x02\x02\x04\x04"))
 }
 
 // The five words of a head.
@@ -73,75 +66,54 @@ fn put_head(words: &mut [u32], t: Tally, h: Fields) -> Tally
 }
 
 // The key text, whose offset stands at `p` and counts from there.
-fn key_text(s: &[u8], p: usize, words: &mut [u32], texts: &mut [u8], t: Tally) -> Walk
-    requires { length s.now ≤ 16777216 }
-    ensures { walked result words.new texts.new ≡ walk_of s.now t words.old texts.old (key_text s.now p) }
+#[tactic(auto, using(base::proofs::Numbers::read_value_lem), unfolding(crate::specs::inner::DatumParts::key_text, crate::specs::Reader::num))]
+fn key_text(s: Section, p: usize, words: &mut [u32], texts: &mut [u8], t: Tally) -> Walk
+    ensures { walked result words.new texts.new ≡ walk_of s.entry.bytes.now t words.old texts.old (key_text s.entry.bytes.now p) }
 {
-    match u32_at(s, p) {
-        Read::Value(offset, _) => text_at(s, p + (offset as usize), words, texts, t),
-        Read::Past(o, k) => Walk::Stopped(Fault::PastEnd(o, k)),
-    }
+    let (offset, _next) = u32_at(s.bytes, p)?;
+    text_at(s, p + (offset as usize), words, texts, t)
 }
 
 // `n` values from `p` on, and the key text behind them.
 fn values_and_key(
-    s: &[u8],
+    s: Section,
     p: usize,
     n: usize,
     words: &mut [u32],
     texts: &mut [u8],
     t: Tally,
 ) -> Walk
-    requires { length s.now ≤ 16777216 }
-    ensures { walked result words.new texts.new ≡ walk_of s.now t words.old texts.old (values_and_key_text n s.now p) }
+    ensures { walked result words.new texts.new ≡ walk_of s.entry.bytes.now t words.old texts.old (values_and_key_text n s.entry.bytes.now p) }
 {
-    match values(s, p, n, words, t) {
-        Walk::Stopped(f) => Walk::Stopped(f),
-        Walk::Went(u, q) => key_text(s, q, words, texts, u),
-    }
+    let (u, q) = values(s.bytes, p, n, words, t)?;
+    key_text(s, q, words, texts, u)
 }
 
 // The datum at `p`.
-pub(crate) fn datum_at(s: &[u8], p: usize, words: &mut [u32], texts: &mut [u8], t: Tally) -> Walk
-    requires { length s.now ≤ 16777216 }
-    ensures { walked result words.new texts.new ≡ walk_of s.now t words.old texts.old (datum s.now p) }
+pub(crate) fn datum_at(s: Section, p: usize, words: &mut [u32], texts: &mut [u8], t: Tally) -> Walk
+    ensures { walked result words.new texts.new ≡ walk_of s.entry.bytes.now t words.old texts.old (datum s.entry.bytes.now p) }
 {
-    match head_at(s, p) {
-        Head::Short(f) => Walk::Stopped(f),
-        Head::Got(h, q) => {
-            let n = 3 * (h.base as usize);
-            let u = put_head(words, t, h);
-            values_and_key(s, q, n, words, texts, u)
-        }
-    }
+    let (h, q) = head_at(s.bytes, p)?;
+    let n = 3 * (h.base as usize);
+    let u = put_head(words, t, h);
+    values_and_key(s, q, n, words, texts, u)
 }
 
 // `n` data from `p` on.
 pub(crate) fn data(
-    s: &[u8],
+    s: Section,
     p: usize,
     n: usize,
     words: &mut [u32],
     texts: &mut [u8],
     t: Tally,
 ) -> Walk
-    requires { length s.now ≤ 16777216 }
-    ensures { walked result words.new texts.new ≡ walk_of s.now t words.old texts.old (many n datum s.now p) }
+    ensures { walked result words.new texts.new ≡ walk_of s.entry.bytes.now t words.old texts.old (many n datum s.entry.bytes.now p) }
 {
-    let mut left = n;
     let mut q = p;
     let mut u = t;
-    while 0 < left {
-        match datum_at(s, q, words, texts, u) {
-            Walk::Stopped(f) => {
-                return Walk::Stopped(f);
-            }
-            Walk::Went(v, next) => {
-                u = v;
-                q = next;
-            }
-        }
-        left -= 1;
+    for _i in 0..n {
+        (u, q) = datum_at(s, q, words, texts, u)?;
     }
-    Walk::Went(u, q)
+    Ok((u, q))
 }

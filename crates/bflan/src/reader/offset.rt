@@ -2,19 +2,15 @@
 ghost use Rattle.std.specs.Prelude.{◌≡◌, ◌+◌, ◌<◌, ◌≤◌, length};
 ghost use Rattle.base.specs.Number.{get};
 
-fn wide(b: u8) -> u32
-    ensures { (result ≡ b) × (result < 256) }
-{
-    b as u32
-}
-
+#[tactic(auto, using(base::proofs::Numbers::get_zero, base::proofs::Numbers::get_suc))]
 pub(crate) fn byte_at(s: &[u8], at: usize) -> u32
     requires { at + 1 ≤ length s.now }
     ensures { (result ≡ get 1 s.now at) × (result < 256) }
 {
-    wide(s[at])
+    u32::from(s[at])
 }
 
+#[tactic(auto, using(base::proofs::Numbers::get_zero, base::proofs::Numbers::get_suc))]
 pub(crate) fn half_at(s: &[u8], at: usize) -> u32
     requires { at + 2 ≤ length s.now }
     ensures { (result ≡ get 2 s.now at) × (result < 65536) }
@@ -22,6 +18,7 @@ pub(crate) fn half_at(s: &[u8], at: usize) -> u32
     byte_at(s, at) + 256 * byte_at(s, at + 1)
 }
 
+#[tactic(auto, using(base::proofs::Numbers::get_zero, base::proofs::Numbers::get_suc))]
 pub(crate) fn word_at(s: &[u8], at: usize) -> u32
     requires { at + 4 ≤ length s.now }
     ensures { result ≡ get 4 s.now at }

@@ -6,11 +6,11 @@ ghost use Rattle.bflan.specs.inner.Row.{width_of, cut_in, sought_cut};
 
 use crate::fault::Fault;
 use base::cursor::{seek_to, u8_at, u16_at, u32_at};
-use base::number::Read;
-use base::seek::Sought;
+use base::error::PastEnd;
 
 // A number of one or two bytes; any other width is four.
-fn number_at(s: &[u8], at: usize, width: u8) -> Read
+#[tactic(auto, unfolding(crate::specs::inner::Row::width_of))]
+fn number_at(s: &[u8], at: usize, width: u8) -> Result<(u32, usize), PastEnd>
     ensures { result ≡ read_of (width_of width) s.now at }
 {
     if width == 1 {
@@ -26,28 +26,27 @@ fn number_at(s: &[u8], at: usize, width: u8) -> Read
 pub(crate) fn cut(s: &[u8], at: usize, widths: &[u8]) -> Fault
     ensures { result ≡ cut_in (map width_of widths.now) s.now at }
 {
-    let mut i = 0;
     let mut p = at;
-    while i < widths.len() {
-        match number_at(s, p, widths[i]) {
-            Read::Past(o, k) => {
-                return Fault::PastEnd(o, k);
+    for width in widths {
+        match number_at(s, p, *width) {
+            Err(e) => {
+                return Fault::from(e);
             }
-            Read::Value(_v, q) => {
+            Ok((_v, q)) => {
                 p = q;
             }
         }
-        i += 1;
     }
     Fault::PastEnd(p, 0)
 }
 
 // The same for a row whose place is sought.
+#[tactic(auto, unfolding(crate::specs::inner::Row::sought_cut))]
 pub(crate) fn sought_cut(s: &[u8], base: usize, widths: &[u8]) -> Fault
     ensures { result ≡ sought_cut (map width_of widths.now) s.now base }
 {
     match seek_to(s, base) {
-        Sought::Past(o, k) => Fault::PastEnd(o, k),
-        Sought::At(p) => cut(s, p, widths),
+        Err(e) => Fault::from(e),
+        Ok(p) => cut(s, p, widths),
     }
 }

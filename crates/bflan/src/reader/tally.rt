@@ -17,21 +17,10 @@ pub struct Tally {
     pub len: usize,
 }
 
-// A walk goes on at a position, or is stopped.
-#[derive(Clone, Copy)]
-pub enum Walk {
-    Went(Tally, usize),
-    Stopped(Fault),
-}
-
-pub(crate) fn add(a: usize, b: usize) -> usize
-    ensures { result ≡ sat (a + b) }
-{
-    if b <= 18446744073709551615 - a {
-        return a + b;
-    }
-    18446744073709551615
-}
+// A walk goes on with a tally at a position, or is stopped.
+// Kept: the two tables and the tally go as three parameters. As one struct of two references and the tally, each contract on the way would have to
+// say as well that both references are still the same ones, by their ghost names: two equations more, in the place of two parameters.
+pub(crate) type Walk = Result<(Tally, usize), Fault>;
 
 pub(crate) fn fresh(want: usize) -> Tally
     ensures { result ≡ empty_tally want }
@@ -47,11 +36,12 @@ pub(crate) fn fresh(want: usize) -> Tally
 }
 
 // `n` words more.
+#[tactic(auto, unfolding(crate::specs::inner::Walk::with_words))]
 pub(crate) fn more_words(t: Tally, n: usize) -> Tally
     ensures { result ≡ with_words t n }
 {
     Tally {
-        words: add(t.words, n),
+        words: t.words.saturating_add(n),
         bytes: t.bytes,
         replaced: t.replaced,
         left: t.left,
@@ -61,12 +51,13 @@ pub(crate) fn more_words(t: Tally, n: usize) -> Tally
 }
 
 // A text more, at `start` with `len` bytes in the section and `size` bytes decoded. `replaced` is the sum with this text's U+FFFD.
+#[tactic(auto, unfolding(crate::specs::inner::Walk::with_text))]
 pub(crate) fn more_text(t: Tally, start: usize, len: usize, size: usize, replaced: usize) -> Tally
     ensures { result ≡ with_text t start len size replaced }
 {
     let left = t.left;
-    let words = add(t.words, 1);
-    let bytes = add(t.bytes, size);
+    let words = t.words.saturating_add(1);
+    let bytes = t.bytes.saturating_add(size);
     if left == 0 {
         return Tally {
             words,

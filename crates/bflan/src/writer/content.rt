@@ -5,15 +5,17 @@ ghost use Rattle.base.specs.Fill.{padding_of};
 ghost use Rattle.bflan.specs.Judge.{next_text, times};
 ghost use Rattle.bflan.specs.pai1.Judge.{info, content};
 ghost use Rattle.bflan.specs.pai1.Layout.{content_lay};
+ghost use Rattle.bflan.specs.pai1.Record.{AnimContent};
 ghost use Rattle.bflan.specs.inner.Pen.{Ready, laid, pen_behind, listed};
 ghost use Rattle.bflan.specs.inner.LayoutParts.{name_lay, body_lay};
 
 use crate::judge::word::word_of;
 use crate::writer::Pen;
-use crate::writer::field::{put_chars, put_counts, put_entry, put_offset};
+use crate::writer::field::{put_chars, put_counts, put_offset};
 use crate::writer::info::put_infos;
+use crate::writer::listed::{Part, put_listed};
 use base::fill::{padding, zeros};
-use base::placeholder::{patch_u32, write_placeholder_u32, write_placeholders_u32};
+use base::placeholder::{patch_u32, write_placeholder_u32};
 
 // The name, with zeros up to 28 bytes.
 fn put_name(words: &[u32], texts: &[u8], pen: Pen, out: &mut [u8]) -> Pen
@@ -44,11 +46,7 @@ fn put_user(words: &[u32], texts: &[u8], n: usize, start: usize, pen: Pen, out: 
     let at = pen.at;
     put_offset(out, at, start, at + 8);
     let total = write_placeholder_u32(out, at + 4);
-    let next = Pen {
-        word: pen.word,
-        byte: pen.byte,
-        at: at + 8,
-    };
+    let next = Pen { at: at + 8, ..pen };
     let done = put_infos(words, texts, n, start, next, out);
     let end = done.pen;
     patch_u32(out, total, (end.at - start - done.out) as u32);
@@ -85,11 +83,7 @@ fn put_padding(start: usize, pen: Pen, out: &mut [u8]) -> Pen
     let at = pen.at;
     let n = padding(at - start);
     zeros(out, at, n);
-    Pen {
-        word: pen.word,
-        byte: pen.byte,
-        at: at + n,
-    }
+    Pen { at: at + n, ..pen }
 }
 
 // A content from the next word on.
@@ -113,6 +107,29 @@ fn put_content(words: &[u32], texts: &[u8], pen: Pen, out: &mut [u8]) -> Pen
     put_padding(start, end, out)
 }
 
+// The contents of a record.
+#[derive(Clone, Copy)]
+struct Contents<'a> {
+    words: &'a [u32],
+    texts: &'a [u8],
+}
+
+impl Part for Contents<'_> {
+    ghost Value = { AnimContent };
+
+    ghost lay = { content_lay };
+
+    ghost judged = { λ _. content };
+
+    ghost words_of = { λ it. it.words.now };
+
+    ghost texts_of = { λ it. it.texts.now };
+
+    fn put(self, pen: Pen, out: &mut [u8]) -> Pen {
+        put_content(self.words, self.texts, pen, out)
+    }
+}
+
 // `n` contents from the next word on, behind the table of their offsets, which count from `base`.
 pub(crate) fn put_contents(
     words: &[u32],
@@ -126,17 +143,5 @@ pub(crate) fn put_contents(
     ensures { (result ≡ pen_behind (listed content_lay (pen.at + 4 * n - base)) (times n content words.now texts.now pen.word pen.byte) pen.at)
         × (out.new ≡ laid (listed content_lay (pen.at + 4 * n - base)) (times n content words.now texts.now pen.word pen.byte) pen.at out.old) }
 {
-    let table = write_placeholders_u32(out, pen.at, n);
-    let mut i = 0;
-    let mut q = Pen {
-        word: pen.word,
-        byte: pen.byte,
-        at: pen.at + 4 * n,
-    };
-    while i < n {
-        put_entry(out, table, i, base, q.at);
-        q = put_content(words, texts, q, out);
-        i += 1;
-    }
-    q
+    put_listed(Contents { words, texts }, n, base, pen, out)
 }

@@ -69,11 +69,9 @@ pub(crate) fn put_data(words: &[u32], texts: &[u8], n: usize, pen: Pen, out: &mu
     ensures { (result ≡ pen_behind (parts datum_lay) (times n datum words.now texts.now pen.word pen.byte) pen.at)
         × (out.new ≡ laid (parts datum_lay) (times n datum words.now texts.now pen.word pen.byte) pen.at out.old) }
 {
-    let mut left = n;
     let mut q = pen;
-    while 0 < left {
+    for _ in 0..n {
         q = put_datum(words, texts, q, out);
-        left -= 1;
     }
     q
 }

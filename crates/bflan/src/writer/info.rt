@@ -84,19 +84,18 @@ pub(crate) fn put_infos(
         × (out.new ≡ laid (listed info_lay (pen.at + 4 * n - base)) (times n info words.now texts.now pen.word pen.byte) pen.at out.old) }
 {
     let table = write_placeholders_u32(out, pen.at, n);
-    let mut i = 0;
     let mut gone: usize = 0;
     let mut q = Pen {
-        word: pen.word,
-        byte: pen.byte,
         at: pen.at + 4 * n,
+        ..pen
     };
-    while i < n {
+    // Kept: a loop of its own beside `put_listed`, since it counts what is left out by the texts before and behind each info. A `Part` with a
+    // count that changes would owe laws of it that no other part has.
+    for i in 0..n {
         put_entry(out, table, i, base, q.at);
         let next = put_info(words, texts, q, out);
         gone += left_out(words, q.word, q.byte, next.byte);
         q = next;
-        i += 1;
     }
     Infos { pen: q, out: gone }
 }

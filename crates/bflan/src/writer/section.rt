@@ -1,5 +1,5 @@
 // The section as a whole: its head, the texture names, and the contents.
-ghost use Rattle.std.specs.Prelude.{◌≡◌, ◌+◌, ◌-◌, ◌*◌, ◌≤◌, length, get_or};
+ghost use Rattle.std.specs.Prelude.{◌≡◌, List, ℕ, ◌+◌, ◌-◌, ◌*◌, ◌≤◌, length, get_or};
 ghost use Rattle.std.proofs.lemmas.List.Edits.{sets};
 ghost use Rattle.bflan.specs.Judge.{next_text, times, wide};
 ghost use Rattle.bflan.specs.pai1.Judge.{section};
@@ -13,10 +13,34 @@ use crate::judge::word::word_of;
 use crate::reader::section::PAI1;
 use crate::writer::Pen;
 use crate::writer::content::put_contents;
-use crate::writer::field::{put_byte, put_ended, put_entry, put_half};
+use crate::writer::field::{put_byte, put_ended, put_half};
+use crate::writer::listed::{Part, put_listed};
 use base::fill::align4;
 use base::number::write_u32;
-use base::placeholder::{Placeholder32, patch_u32, write_placeholder_u32, write_placeholders_u32};
+use base::placeholder::{Placeholder32, patch_u32, write_placeholder_u32};
+
+// The texture names of a record.
+#[derive(Clone, Copy)]
+struct Textures<'a> {
+    words: &'a [u32],
+    texts: &'a [u8],
+}
+
+impl Part for Textures<'_> {
+    ghost Value = { List ℕ };
+
+    ghost lay = { ended };
+
+    ghost judged = { λ _. next_text (wide 4) };
+
+    ghost words_of = { λ it. it.words.now };
+
+    ghost texts_of = { λ it. it.texts.now };
+
+    fn put(self, pen: Pen, out: &mut [u8]) -> Pen {
+        put_ended(self.words, self.texts, pen, out)
+    }
+}
 
 // `n` texture names from the next word on, behind the table of their offsets, which count from `base`.
 fn put_textures(words: &[u32], texts: &[u8], n: usize, base: usize, pen: Pen, out: &mut [u8]) -> Pen
@@ -24,19 +48,7 @@ fn put_textures(words: &[u32], texts: &[u8], n: usize, base: usize, pen: Pen, ou
     ensures { (result ≡ pen_behind (listed ended (pen.at + 4 * n - base)) (times n (next_text (wide 4)) words.now texts.now pen.word pen.byte) pen.at)
         × (out.new ≡ laid (listed ended (pen.at + 4 * n - base)) (times n (next_text (wide 4)) words.now texts.now pen.word pen.byte) pen.at out.old) }
 {
-    let table = write_placeholders_u32(out, pen.at, n);
-    let mut i = 0;
-    let mut q = Pen {
-        word: pen.word,
-        byte: pen.byte,
-        at: pen.at + 4 * n,
-    };
-    while i < n {
-        put_entry(out, table, i, base, q.at);
-        q = put_ended(words, texts, q, out);
-        i += 1;
-    }
-    q
+    put_listed(Textures { words, texts }, n, base, pen, out)
 }
 
 // The `n` texture names of a section, and zeros up to a multiple of 4.
@@ -53,11 +65,7 @@ fn put_names(words: &[u32], texts: &[u8], n: usize, out: &mut [u8]) -> Pen
     let q = put_textures(words, texts, n, 20, start, out);
     let at = q.at;
     let pad = align4(out, at);
-    Pen {
-        word: q.word,
-        byte: q.byte,
-        at: at + pad,
-    }
+    Pen { at: at + pad, ..q }
 }
 
 // The letters, the place of the size, and what is behind them by the first four words; that place.

@@ -5,14 +5,14 @@ ghost use Rattle.bflan.specs.Judge.{times, row};
 ghost use Rattle.bflan.specs.pai1.Judge.{target};
 ghost use Rattle.bflan.specs.Layout.{written, parts};
 ghost use Rattle.bflan.specs.pai1.Layout.{key_lay, target_lay};
-ghost use Rattle.bflan.specs.pai1.Record.{key_widths};
+ghost use Rattle.bflan.specs.pai1.Record.{AnimTarget, key_widths};
 ghost use Rattle.bflan.specs.inner.Pen.{Ready, laid, pen_behind, listed};
 ghost use Rattle.bflan.specs.inner.LayoutParts.{target_head};
 
 use crate::judge::word::word_of;
 use crate::writer::Pen;
-use crate::writer::field::{put_byte, put_entry, put_half, put_offset};
-use base::placeholder::write_placeholders_u32;
+use crate::writer::field::{put_byte, put_half, put_offset};
+use crate::writer::listed::{Part, put_listed};
 use base::run::{write_numbers, write_pairs};
 
 // The layer, the number, the curve and the key count of a target, and the offset of its keys.
@@ -82,6 +82,29 @@ fn put_target(words: &[u32], letters: u32, pen: Pen, out: &mut [u8]) -> Pen
     put_keys(words, curve, n as usize, next, out)
 }
 
+// The targets of an info with these letters. They have no texts.
+#[derive(Clone, Copy)]
+struct Targets<'a> {
+    words: &'a [u32],
+    letters: u32,
+}
+
+impl Part for Targets<'_> {
+    ghost Value = { AnimTarget };
+
+    ghost lay = { target_lay };
+
+    ghost judged = { λ it. target it.letters };
+
+    ghost words_of = { λ it. it.words.now };
+
+    ghost texts_of = { λ _. [] };
+
+    fn put(self, pen: Pen, out: &mut [u8]) -> Pen {
+        put_target(self.words, self.letters, pen, out)
+    }
+}
+
 // The `n` targets of an info from the next word on, behind the table of their offsets, which count from `base`.
 pub(crate) fn put_targets(
     words: &[u32],
@@ -95,17 +118,5 @@ pub(crate) fn put_targets(
     ensures { (result ≡ pen_behind (listed target_lay (pen.at + 4 * n - base)) (times n (target letters) words.now [] pen.word pen.byte) pen.at)
         × (out.new ≡ laid (listed target_lay (pen.at + 4 * n - base)) (times n (target letters) words.now [] pen.word pen.byte) pen.at out.old) }
 {
-    let table = write_placeholders_u32(out, pen.at, n);
-    let mut i = 0;
-    let mut q = Pen {
-        word: pen.word,
-        byte: pen.byte,
-        at: pen.at + 4 * n,
-    };
-    while i < n {
-        put_entry(out, table, i, base, q.at);
-        q = put_target(words, letters, q, out);
-        i += 1;
-    }
-    q
+    put_listed(Targets { words, letters }, n, base, pen, out)
 }

@@ -13,15 +13,15 @@ use Rattle.bflan.proofs.read.Answers.{shown_well, shown-short, shown-decoded}
 use Rattle.bflan.proofs.find.show.Goals as goal
 use Rattle.bflan.proofs.find.show.Goals.{After-decoded_len-size, After-well_formed-2}
 
-judged : (c : After-well_formed-2) → c.well_formed-2.result ≡ well_formed (slice c.args.start (c.args.start + c.args.len) c.args.s.now)
-judged c = c.well_formed-2.ensures ∙ ap well_formed (shown_part c.args.s.now c.args.start c.args.len)
+judged : (c : After-well_formed-2) → c.well_formed-2.result ≡ well_formed (slice c.args.start (c.args.start + c.args.len) c.args.s.bytes.now)
+judged c = c.well_formed-2.ensures ∙ ap well_formed (shown_part c.args.s.bytes.now c.args.start c.args.len)
 
-sized : (c : After-decoded_len-size) → c.decoded_len-size.result ≡ length (shown_at c.args.s.now c.args.start c.args.len)
-sized c = (shown-size _ _ _ _ _ c.requires.0 c.requires.1 (shown_part c.args.s.now c.args.start c.args.len) c.decoded_len-size.ensures).0
+sized : (c : After-decoded_len-size) → c.decoded_len-size.result ≡ length (shown_at c.args.s.bytes.now c.args.start c.args.len)
+sized c = (shown-size _ _ _ _ _ c.requires c.args.s.short (shown_part c.args.s.bytes.now c.args.start c.args.len) c.decoded_len-size.ensures).0
 
 pub returns-then-well_formed : goal.returns-then-well_formed
 returns-then-well_formed c =
-    let l = length-slice c.args.start (c.args.start + c.args.len) c.args.s.now c.requires.0 in
+    let l = length-slice c.args.start (c.args.start + c.args.len) c.args.s.bytes.now c.requires in
     shown_well _ _ _ _ (sym (judged (goal.at.returns-then-well_formed c).After-well_formed-2) ∙ c.if-well_formed.true) (omega (arith, l))
 
 pub returns-then-scratch-size : goal.returns-then-scratch-size
@@ -29,6 +29,6 @@ returns-then-scratch-size c = shown-short _ _ _ _ (sym (judged (goal.at.returns-
 
 pub returns : goal.returns
 returns c =
-    let e = shown_part c.args.s.now c.args.start c.args.len in
+    let e = shown_part c.args.s.bytes.now c.args.start c.args.len in
     shown-decoded _ _ _ _ _ _ (sym (judged (goal.at.returns c).After-well_formed-2) ∙ c.if-well_formed.false) (sized (goal.at.returns c).After-decoded_len-size) (c.decode_into.ensures.1 ∙ ap replacements e) (omega (arith, c.if-scratch-size.false))
     (c.decode_into.ensures.2 ∙ ap (λ (l : List ℕ). sets c.args.scratch.now 0 (decode l)) e)

@@ -3,11 +3,11 @@
 use Rattle.bflan.proofs.judge.JudgeParts.{ends-word, ends-text, ends-fine}
 use Rattle.bflan.proofs.judge.ends.Goals as goal
 
-pub returns-then-i-words : goal.returns-then-i-words
-returns-then-i-words c = ends-word c.args.words.now c.args.texts.now c.args.i c.args.j c.if-i-words.true
+pub returns-then-at-words : goal.returns-then-at-words
+returns-then-at-words c = ends-word c.args.words.now c.args.texts.now c.args.at.word c.args.at.byte c.if-at-words.true
 
-pub returns-then-j-texts : goal.returns-then-j-texts
-returns-then-j-texts c = ends-text c.args.words.now c.args.texts.now c.args.i c.args.j c.if-i-words.false c.if-j-texts.true
+pub returns-then-at-texts : goal.returns-then-at-texts
+returns-then-at-texts c = ends-text c.args.words.now c.args.texts.now c.args.at.word c.args.at.byte c.if-at-words.false c.if-at-texts.true
 
 pub returns : goal.returns
-returns c = ends-fine c.args.words.now c.args.texts.now c.args.i c.args.j c.if-i-words.false c.if-j-texts.false
+returns c = ends-fine c.args.words.now c.args.texts.now c.args.at.word c.args.at.byte c.if-at-words.false c.if-at-texts.false

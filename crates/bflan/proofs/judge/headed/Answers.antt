@@ -1,18 +1,17 @@
--- `judge::headed` meets its contract: one arm of the texture names' verdict each.
+-- `judge::headed` meets its contract.
 -- Assumes nothing.
-use mathlib.Core.Path.{sym, ◌∙◌}
+use Rattle.std.proofs.Common.{sym, ◌∙◌, refl}
 use Rattle.bflan.specs.inner.JudgeParts.{after_head}
-use Rattle.bflan.proofs.judge.Measures.{refused_first}
+use Rattle.bflan.proofs.judge.Measures.{refused_first, handed_on, more, none_more}
 use Rattle.bflan.proofs.judge.JudgeParts.{headed_fine}
 use Rattle.bflan.proofs.judge.headed.Goals as goal
 
-pub returns-in-BadWord : goal.returns-in-BadWord
+pub returns-in_err-names : goal.returns-in_err-names
 unfolding after_head
-returns-in-BadWord c = λ frames looping. refused_first _ _ _ _ _ _ tt (sym c.textures.ensures ∙ c.in-BadWord.is)
+returns-in_err-names c = λ frames looping. handed_on c.from_residual.ensures.1 ∙ refused_first _ _ _ _ _ _ (sym c.textures.ensures ∙ c.in_err-names.was)
 
-pub returns-in-BadText : goal.returns-in-BadText
-unfolding after_head
-returns-in-BadText c = λ frames looping. refused_first _ _ _ _ _ _ tt (sym c.textures.ensures ∙ c.in-BadText.is)
+pub returns-in_err-rest : goal.returns-in_err-rest
+returns-in_err-rest c = λ frames looping. handed_on c.from_residual-in_err-rest.ensures.1 ∙ none_more _ c.in_err-rest.was ∙ headed_fine frames looping c.args.nt c.args.nc c.args.words.now c.args.texts.now c.args.at.word c.args.at.byte _ _ _ _ (sym c.textures.ensures ∙ c.in_ok-names.was) c.table_behind-table.ensures refl c.contents.ensures
 
-pub returns-in-Fine : goal.returns-in-Fine
-returns-in-Fine c = λ frames looping. c.grown.ensures ∙ headed_fine frames looping c.args.nt c.args.nc c.args.words.now c.args.texts.now c.args.i c.args.j _ _ _ _ (sym c.textures.ensures ∙ c.in-Fine.is) c.table_behind.ensures c.add.ensures c.contents.ensures
+pub returns : goal.returns
+returns c = λ frames looping. more _ c.in_ok-rest.was c.grown.ensures ∙ headed_fine frames looping c.args.nt c.args.nc c.args.words.now c.args.texts.now c.args.at.word c.args.at.byte _ _ _ _ (sym c.textures.ensures ∙ c.in_ok-names.was) c.table_behind-table.ensures c.saturating_add.ensures c.contents.ensures

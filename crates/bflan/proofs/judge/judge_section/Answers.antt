@@ -1,23 +1,23 @@
--- `judge::judge_section` meets its contract: one arm of the record's verdict each.
+-- `judge::judge_section` meets its contract.
 -- Assumes nothing.
-use mathlib.Core.Path.{sym, ◌∙◌}
+use Rattle.std.proofs.Common.{sym, ◌∙◌}
 use Rattle.bflan.specs.Judge.{whole}
 use Rattle.bflan.specs.Layout.{size}
 use Rattle.bflan.specs.pai1.Judge.{pane, section}
 use Rattle.bflan.specs.pai1.Layout.{section_lay}
 use Rattle.bflan.specs.pai1.Record.{PaneAnimInfo}
-use Rattle.bflan.proofs.judge.Measures.{refused_first}
+use Rattle.bflan.proofs.judge.Measures.{refused_first, handed_on, more, none_more}
 use Rattle.bflan.proofs.judge.JudgeParts.{whole-fine}
 use Rattle.bflan.proofs.judge.judge_section.Goals as goal
 
-pub returns-in-BadWord : goal.returns-in-BadWord
+pub returns-in_err-info : goal.returns-in_err-info
 unfolding section whole
-returns-in-BadWord c = refused_first _ _ _ _ _ _ tt (sym c.judge_info.ensures ∙ c.in-BadWord.is)
+returns-in_err-info c = handed_on c.from_residual.ensures.1 ∙ refused_first _ _ _ _ _ _ (sym c.judge_info.ensures ∙ c.in_err-info.was)
 
-pub returns-in-BadText : goal.returns-in-BadText
-unfolding section whole
-returns-in-BadText c = refused_first _ _ _ _ _ _ tt (sym c.judge_info.ensures ∙ c.in-BadText.is)
-
-pub returns-in-Fine : goal.returns-in-Fine
+pub returns-in_err-end : goal.returns-in_err-end
 unfolding section
-returns-in-Fine c = c.grown.ensures ∙ whole-fine (λ (a : PaneAnimInfo). size (section_lay a)) pane c.args.words.now c.args.texts.now 0 0 _ _ (sym c.judge_info.ensures ∙ c.in-Fine.is) c.ends.ensures
+returns-in_err-end c = handed_on c.from_residual-in_err-end.ensures.1 ∙ none_more _ c.in_err-end.was ∙ whole-fine (λ (a : PaneAnimInfo). size (section_lay a)) pane c.args.words.now c.args.texts.now 0 0 _ _ (sym c.judge_info.ensures ∙ c.in_ok-info.was) c.ends.ensures
+
+pub returns : goal.returns
+unfolding section
+returns c = more _ c.in_ok-end.was c.grown.ensures ∙ whole-fine (λ (a : PaneAnimInfo). size (section_lay a)) pane c.args.words.now c.args.texts.now 0 0 _ _ (sym c.judge_info.ensures ∙ c.in_ok-info.was) c.ends.ensures

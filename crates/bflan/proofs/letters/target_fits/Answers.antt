@@ -5,7 +5,7 @@ use Rattle.bflan.proofs.letters.Codes.{target_fits_by}
 use Rattle.bflan.proofs.letters.target_fits.Goals as goal
 
 pub returns-in-Standard : goal.returns-in-Standard
-returns-in-Standard c = sym (target_fits_by _ _ (sym c.kind_of.ensures ∙ c.in-Standard.is))
+returns-in-Standard c = rw c.from.ensures (sym (target_fits_by _ _ (sym c.kind_of.ensures ∙ c.in-Standard.is)))
 
 pub returns-in-ExtendedUserData : goal.returns-in-ExtendedUserData
 returns-in-ExtendedUserData c = sym (target_fits_by _ _ (sym c.kind_of.ensures ∙ c.in-ExtendedUserData.is))

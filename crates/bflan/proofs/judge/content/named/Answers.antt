@@ -1,29 +1,27 @@
 -- `judge::content::named` meets its contract.
 -- Assumes nothing.
-use Prim.Native.Nat.{ℕ, ◌+◌, ◌*◌}
-use mathlib.Core.Path.{ap, sym, ◌∙◌}
-use native.Mathlib.Omega.{arith}
-use lib.Dec.{ltb}
-use Rattle.bflan.specs.Judge.{wide}
-use Rattle.bflan.specs.inner.Measure.{padded}
-use Rattle.bflan.proofs.judge.Measures.{held, failed, fits_there, fits-most, tested_bad, tested_next}
+use Rattle.std.proofs.Common.{ℕ, ◌+◌, ◌*◌, ◌≡◌, ap, sym, ◌∙◌, arith}
+use Rattle.bflan.proofs.judge.Measures.{fits-most, held, failed, there, word_is, refused_word, handed_on, more, none_more, filled, none_filled, tested_bad, tested_next}
 use Rattle.bflan.proofs.judge.JudgeParts.{named_bad, table-le, named_whole}
 use Rattle.bflan.proofs.judge.content.named.Goals as goal
 
-pub returns-then-not-below : goal.returns-then-not-below
-returns-then-not-below c = λ name h. named_bad name c.args.words.now c.args.texts.now c.args.i c.args.j (tested_bad (sym (fits-most 4 c.args.words.now c.args.i) ∙ (failed _ _ c.below.ensures c.if-not-below.true-raw)))
+pub returns-in_err-kind : goal.returns-in_err-kind
+returns-in_err-kind c = λ name h. refused_word _ _ c.word_below.ensures c.from_residual.ensures.1 c.in_err-kind.was (omega arith) ∙ named_bad name c.args.words.now c.args.texts.now c.args.at.word c.args.at.byte (tested_bad (sym (fits-most 4 c.args.words.now c.args.at.word) ∙ failed _ _ c.word_below.ensures c.in_err-kind.was (omega arith)))
 
-pub overflow_add-count : goal.overflow_add-count
-overflow_add-count c = let h = fits_there (λ v. ltb v 5) c.args.words.now c.args.i (held _ _ c.below.ensures c.if-not-below.false-raw) in omega (arith, h, c.well_formed)
+pub overflow_add-at : goal.overflow_add-at
+overflow_add-at c = omega (arith, there _ _ c.word_below.ensures c.in_ok-kind.was, c.well_formed)
 
-pub returns-then-not-below-2 : goal.returns-then-not-below-2
-returns-then-not-below-2 c = λ name h. named_bad name c.args.words.now c.args.texts.now c.args.i c.args.j (tested_next (sym (fits-most 4 c.args.words.now c.args.i) ∙ (held _ _ c.below.ensures c.if-not-below.false-raw)) (tested_bad (failed _ _ c.below-2.ensures c.if-not-below-2.true-raw)))
+pub returns-in_err-n : goal.returns-in_err-n
+returns-in_err-n c = λ name h. refused_word _ _ c.word_below-2.ensures c.from_residual-in_err-n.ensures.1 c.in_err-n.was (omega arith) ∙ named_bad name c.args.words.now c.args.texts.now c.args.at.word c.args.at.byte (tested_next (sym (fits-most 4 c.args.words.now c.args.at.word) ∙ held _ _ c.word_below.ensures c.in_ok-kind.was (omega arith)) (tested_bad (failed _ _ c.word_below-2.ensures c.in_err-n.was (omega arith))))
+
+pub past-requires : goal.past-requires
+past-requires c = omega (arith, there _ _ c.word_below-2.ensures c.in_ok-n.was, c.well_formed)
 
 pub overflow_add-head : goal.overflow_add-head
-overflow_add-head c = let h = table-le c.word_of.result in omega (arith, h, c.table_from.ensures)
+overflow_add-head c = let h = table-le c.in_ok-kind.kind in omega (arith, h, c.table_from.ensures)
 
-pub overflow_add-count-2 : goal.overflow_add-count-2
-overflow_add-count-2 c = let h = fits_there (wide 1) c.args.words.now (c.args.i + 1) (held _ _ c.below-2.ensures c.if-not-below-2.false-raw) in omega (arith, h, c.well_formed)
+pub returns-in_err-rest : goal.returns-in_err-rest
+returns-in_err-rest c = λ name h. handed_on c.from_residual-in_err-rest.ensures.1 ∙ none_filled (sym (none_more _ c.in_err-rest.was)) ∙ named_whole name c.args.words.now c.args.texts.now c.args.at.word c.args.at.byte (sym (fits-most 4 c.args.words.now c.args.at.word) ∙ held _ _ c.word_below.ensures c.in_ok-kind.was (omega arith), (held _ _ c.word_below-2.ensures c.in_ok-n.was (omega arith), tt)) h _ _ _ (word_is _ _ c.word_below-2.ensures c.in_ok-n.was (omega arith)) (word_is _ _ c.word_below.ensures c.in_ok-kind.was (omega arith)) (ap (λ (k : ℕ). k + 4 * c.in_ok-n.field-0) c.table_from.ensures) _ (let q : c.args.at.word + 2 ≡ c.args.at.word + 1 + 1 = omega arith in rw (c.past.ensures, q) at c.infos.ensures)
 
 pub returns : goal.returns
-returns c = λ name h. c.padded.ensures ∙ ap padded c.grown.ensures ∙ named_whole name c.args.words.now c.args.texts.now c.args.i c.args.j (sym (fits-most 4 c.args.words.now c.args.i) ∙ (held _ _ c.below.ensures c.if-not-below.false-raw), (held _ _ c.below-2.ensures c.if-not-below-2.false-raw, tt)) h _ _ _ c.word_of-n.ensures c.word_of.ensures (ap (λ (k : ℕ). k + 4 * c.word_of-n.result) c.table_from.ensures) _ c.infos.ensures
+returns c = λ name h. filled (sym (more _ c.in_ok-rest.was c.grown.ensures)) c.padded.ensures ∙ named_whole name c.args.words.now c.args.texts.now c.args.at.word c.args.at.byte (sym (fits-most 4 c.args.words.now c.args.at.word) ∙ held _ _ c.word_below.ensures c.in_ok-kind.was (omega arith), (held _ _ c.word_below-2.ensures c.in_ok-n.was (omega arith), tt)) h _ _ _ (word_is _ _ c.word_below-2.ensures c.in_ok-n.was (omega arith)) (word_is _ _ c.word_below.ensures c.in_ok-kind.was (omega arith)) (ap (λ (k : ℕ). k + 4 * c.in_ok-n.field-0) c.table_from.ensures) _ (let q : c.args.at.word + 2 ≡ c.args.at.word + 1 + 1 = omega arith in rw (c.past.ensures, q) at c.infos.ensures)

@@ -1,18 +1,17 @@
--- `judge::datum::behind` meets its contract: one arm of the values' verdict each.
+-- `judge::datum::behind` meets its contract.
 -- Assumes nothing.
-use mathlib.Core.Path.{sym, ◌∙◌}
+use Rattle.std.proofs.Common.{sym, ◌∙◌}
 use Rattle.bflan.specs.inner.JudgeParts.{values_and_key}
-use Rattle.bflan.proofs.judge.Measures.{refused_first}
+use Rattle.bflan.proofs.judge.Measures.{refused_first, handed_on, more, none_more}
 use Rattle.bflan.proofs.judge.JudgeParts.{behind-fine}
 use Rattle.bflan.proofs.judge.datum.behind.Goals as goal
 
-pub returns-in-BadWord : goal.returns-in-BadWord
+pub returns-in_err-values : goal.returns-in_err-values
 unfolding values_and_key
-returns-in-BadWord c = refused_first _ _ _ _ _ _ tt (sym (c.run.ensures c.args.texts.now) ∙ c.in-BadWord.is)
+returns-in_err-values c = handed_on c.from_residual.ensures.1 ∙ refused_first _ _ _ _ _ _ (sym (c.run.ensures c.args.texts.now) ∙ c.in_err-values.was)
 
-pub returns-in-BadText : goal.returns-in-BadText
-unfolding values_and_key
-returns-in-BadText c = refused_first _ _ _ _ _ _ tt (sym (c.run.ensures c.args.texts.now) ∙ c.in-BadText.is)
+pub returns-in_err-key : goal.returns-in_err-key
+returns-in_err-key c = handed_on c.from_residual-in_err-key.ensures.1 ∙ none_more c.in_ok-values.values.size c.in_err-key.was ∙ behind-fine c.args.n c.args.words.now c.args.texts.now c.args.at.word c.args.at.byte _ _ (sym (c.run.ensures c.args.texts.now) ∙ c.in_ok-values.was) c.ended.ensures
 
-pub returns-in-Fine : goal.returns-in-Fine
-returns-in-Fine c = c.grown.ensures ∙ behind-fine c.args.n c.args.words.now c.args.texts.now c.args.i c.args.j _ _ (sym (c.run.ensures c.args.texts.now) ∙ c.in-Fine.is) c.ended.ensures
+pub returns : goal.returns
+returns c = more c.in_ok-values.values.size c.in_ok-key.was c.grown.ensures ∙ behind-fine c.args.n c.args.words.now c.args.texts.now c.args.at.word c.args.at.byte _ _ (sym (c.run.ensures c.args.texts.now) ∙ c.in_ok-values.was) c.ended.ensures

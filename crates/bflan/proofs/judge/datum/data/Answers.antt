@@ -1,17 +1,12 @@
-use Rattle.bflan.proofs.judge.Measures.{measuring_start, measuring_bad, measuring_turn, measuring_end}
+-- `judge::datum::data` meets its contract.
+-- Assumes nothing.
+use Rattle.std.proofs.Common.{rules, ◌∙◌}
+use Rattle.bflan.specs.pai1.Judge.{datum}
+use Rattle.bflan.specs.pai1.Layout.{datum_lay}
+use Rattle.bflan.specs.Layout.{size}
+use Rattle.bflan.specs.inner.Measure.{verdict_of}
+use Rattle.bflan.proofs.judge.Measures.{each_measured}
 use Rattle.bflan.proofs.judge.datum.data.Goals as goal
 
-pub returns-in-BadWord : goal.returns-in-BadWord
-returns-in-BadWord c = measuring_bad c.loop-left.invariant c.loop-left-test.true c.datum.ensures tt c.in-BadWord.is
-
-pub returns-in-BadText : goal.returns-in-BadText
-returns-in-BadText c = measuring_bad c.loop-left.invariant c.loop-left-test.true c.datum.ensures tt c.in-BadText.is
-
-pub loop-left-preserved : goal.loop-left-preserved
-loop-left-preserved c = measuring_turn c.loop-left.invariant c.loop-left-test.true c.datum.ensures c.in-Fine.is c.add-size.ensures
-
 pub returns : goal.returns
-returns c = measuring_end c.loop-left.invariant c.loop-left-test.false
-
-pub loop-left-init : goal.loop-left-init
-loop-left-init c = measuring_start
+returns c = c.times.ensures (λ k l. verdict_of (λ a. size (datum_lay a)) (datum c.args.words.now c.args.texts.now k l)) (λ k v h. search rules) ∙ each_measured datum datum_lay c.args.words.now c.args.texts.now c.args.n c.args.at.word c.args.at.byte

@@ -1,34 +1,39 @@
 -- `judge::info::info` meets its contract.
 -- Assumes nothing.
-use Prim.Native.Nat.{◌+◌}
-use mathlib.Core.Path.{◌∙◌}
-use native.Mathlib.Omega.{arith}
+use Rattle.std.proofs.Common.{◌+◌, ◌≡◌, ◌∙◌, arith}
 use Rattle.base.specs.Number.{val}
-use Rattle.bflan.specs.Judge.{wide}
-use Rattle.bflan.specs.pai1.Letters.{fleu, letters_fit}
-use Rattle.bflan.proofs.judge.Measures.{held, failed, fits_there, tested_bad, tested_next}
+use Rattle.bflan.specs.pai1.Letters.{fleu}
+use Rattle.bflan.proofs.judge.Measures.{held, failed, there, word_is, refused_word, handed_on, more, none_more, tested_bad, tested_next}
 use Rattle.bflan.proofs.judge.JudgeParts.{info_bad, info_data, info-targets}
 use Rattle.bflan.proofs.judge.info.info.Goals as goal
 
-pub returns-then-not-letters_fit : goal.returns-then-not-letters_fit
-returns-then-not-letters_fit c = info_bad c.args.words.now c.args.texts.now c.args.i c.args.j (tested_bad (failed _ _ c.letters_fit.ensures c.if-not-letters_fit.true-raw))
+pub returns-in_err-letters : goal.returns-in_err-letters
+returns-in_err-letters c = refused_word _ _ c.letters_at.ensures c.from_residual.ensures.1 c.in_err-letters.was (omega arith) ∙ info_bad c.args.words.now c.args.texts.now c.args.at.word c.args.at.byte (tested_bad (failed _ _ c.letters_at.ensures c.in_err-letters.was (omega arith)))
 
-pub overflow_add-count : goal.overflow_add-count
-overflow_add-count c = let h = fits_there letters_fit c.args.words.now c.args.i (held _ _ c.letters_fit.ensures c.if-not-letters_fit.false-raw) in omega (arith, h, c.well_formed)
+pub overflow_add-at : goal.overflow_add-at
+overflow_add-at c = omega (arith, there _ _ c.letters_at.ensures c.in_ok-letters.was, c.well_formed)
 
-pub returns-then-not-below : goal.returns-then-not-below
-returns-then-not-below c = info_bad c.args.words.now c.args.texts.now c.args.i c.args.j (tested_next (held _ _ c.letters_fit.ensures c.if-not-letters_fit.false-raw) (tested_bad (failed _ _ c.below.ensures c.if-not-below.true-raw)))
+pub returns-in_err-n : goal.returns-in_err-n
+returns-in_err-n c = refused_word _ _ c.word_below.ensures c.from_residual-in_err-n.ensures.1 c.in_err-n.was (omega arith) ∙ info_bad c.args.words.now c.args.texts.now c.args.at.word c.args.at.byte (tested_next (held _ _ c.letters_at.ensures c.in_ok-letters.was (omega arith)) (tested_bad (failed _ _ c.word_below.ensures c.in_err-n.was (omega arith))))
 
-pub overflow_add-count-then-letters-eq-FLEU : goal.overflow_add-count-then-letters-eq-FLEU
-overflow_add-count-then-letters-eq-FLEU c = let h = fits_there (wide 1) c.args.words.now (c.args.i + 1) (held _ _ c.below.ensures c.if-not-below.false-raw) in omega (arith, h, c.well_formed)
+pub past-requires : goal.past-requires
+past-requires c = omega (arith, there _ _ c.word_below.ensures c.in_ok-n.was, c.well_formed)
+
+pub returns-in_err-rest : goal.returns-in_err-rest
+unfolding fleu val
+returns-in_err-rest c = handed_on c.from_residual-in_err-rest.ensures.1 ∙ none_more 8 c.in_err-rest.was ∙ info_data c.args.words.now c.args.texts.now c.args.at.word c.args.at.byte (held _ _ c.letters_at.ensures c.in_ok-letters.was (omega arith), (held _ _ c.word_below.ensures c.in_ok-n.was (omega arith), tt)) _ _ (word_is _ _ c.letters_at.ensures c.in_ok-letters.was (omega arith)) (word_is _ _ c.word_below.ensures c.in_ok-n.was (omega arith)) _ c.if-letters-eq-FLEU.true (let q : c.args.at.word + 2 ≡ c.args.at.word + 1 + 1 = omega arith in rw (c.past.ensures, q) at c.data.ensures)
 
 pub returns-then-letters-eq-FLEU : goal.returns-then-letters-eq-FLEU
 unfolding fleu val
-returns-then-letters-eq-FLEU c = c.grown.ensures ∙ info_data c.args.words.now c.args.texts.now c.args.i c.args.j (held _ _ c.letters_fit.ensures c.if-not-letters_fit.false-raw, (held _ _ c.below.ensures c.if-not-below.false-raw, tt)) _ _ c.word_of-letters.ensures c.word_of-n.ensures _ c.if-letters-eq-FLEU.true c.data.ensures
+returns-then-letters-eq-FLEU c = more 8 c.in_ok-rest.was c.grown.ensures ∙ info_data c.args.words.now c.args.texts.now c.args.at.word c.args.at.byte (held _ _ c.letters_at.ensures c.in_ok-letters.was (omega arith), (held _ _ c.word_below.ensures c.in_ok-n.was (omega arith), tt)) _ _ (word_is _ _ c.letters_at.ensures c.in_ok-letters.was (omega arith)) (word_is _ _ c.word_below.ensures c.in_ok-n.was (omega arith)) _ c.if-letters-eq-FLEU.true (let q : c.args.at.word + 2 ≡ c.args.at.word + 1 + 1 = omega arith in rw (c.past.ensures, q) at c.data.ensures)
 
-pub overflow_add-count-2 : goal.overflow_add-count-2
-overflow_add-count-2 c = let h = fits_there (wide 1) c.args.words.now (c.args.i + 1) (held _ _ c.below.ensures c.if-not-below.false-raw) in omega (arith, h, c.well_formed)
+pub past-requires-2 : goal.past-requires-2
+past-requires-2 c = omega (arith, there _ _ c.word_below.ensures c.in_ok-n.was, c.well_formed)
+
+pub returns-in_err-rest-2 : goal.returns-in_err-rest-2
+unfolding fleu val
+returns-in_err-rest-2 c = handed_on c.from_residual-in_err-rest-2.ensures.1 ∙ none_more _ c.in_err-rest-2.was ∙ info-targets c.args.words.now c.args.texts.now c.args.at.word c.args.at.byte (held _ _ c.letters_at.ensures c.in_ok-letters.was (omega arith), (held _ _ c.word_below.ensures c.in_ok-n.was (omega arith), tt)) _ _ (word_is _ _ c.letters_at.ensures c.in_ok-letters.was (omega arith)) (word_is _ _ c.word_below.ensures c.in_ok-n.was (omega arith)) _ c.if-letters-eq-FLEU.false (let q : c.args.at.word + 2 ≡ c.args.at.word + 1 + 1 = omega arith in rw (c.past-2.ensures, q) at (c.targets.ensures c.args.texts.now))
 
 pub returns : goal.returns
 unfolding fleu val
-returns c = c.grown-2.ensures ∙ info-targets c.args.words.now c.args.texts.now c.args.i c.args.j (held _ _ c.letters_fit.ensures c.if-not-letters_fit.false-raw, (held _ _ c.below.ensures c.if-not-below.false-raw, tt)) _ _ c.word_of-letters.ensures c.word_of-n.ensures _ c.if-letters-eq-FLEU.false (c.targets.ensures c.args.texts.now)
+returns c = more _ c.in_ok-rest-2.was c.grown-2.ensures ∙ info-targets c.args.words.now c.args.texts.now c.args.at.word c.args.at.byte (held _ _ c.letters_at.ensures c.in_ok-letters.was (omega arith), (held _ _ c.word_below.ensures c.in_ok-n.was (omega arith), tt)) _ _ (word_is _ _ c.letters_at.ensures c.in_ok-letters.was (omega arith)) (word_is _ _ c.word_below.ensures c.in_ok-n.was (omega arith)) _ c.if-letters-eq-FLEU.false (let q : c.args.at.word + 2 ≡ c.args.at.word + 1 + 1 = omega arith in rw (c.past-2.ensures, q) at (c.targets.ensures c.args.texts.now))

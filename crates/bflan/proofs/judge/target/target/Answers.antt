@@ -1,43 +1,40 @@
 -- `judge::target::target` meets its contract.
 -- Assumes nothing.
-use Prim.Native.Nat.{◌+◌}
-use mathlib.Core.Path.{◌∙◌}
-use native.Mathlib.Omega.{arith}
-use borrow.Author.Tests.{ltb-true}
-use lib.Dec.{ltb}
-use lib.ListN.{get_or}
+use Rattle.std.proofs.Common.{◌+◌, ◌≡◌, ltb-true, refl, ◌∙◌, arith}
 use Rattle.bflan.specs.Judge.{wide}
-use Rattle.bflan.specs.pai1.Letters.{target_fits}
-use Rattle.bflan.proofs.judge.Measures.{held, failed, fits_there, fits_holds, tested_bad, tested_next}
+use Rattle.bflan.proofs.judge.Measures.{fits_holds, held, failed, there, word_is, refused_word, handed_on, more, none_more, tested_bad, tested_next}
 use Rattle.bflan.proofs.judge.JudgeParts.{target_bad, target-whole}
 use Rattle.bflan.proofs.judge.target.target.Goals as goal
 
-pub returns-then-not-below : goal.returns-then-not-below
-returns-then-not-below c = λ x. target_bad c.args.letters c.args.words.now x c.args.i c.args.j (tested_bad (failed _ _ c.below.ensures c.if-not-below.true-raw))
+pub returns-in_err-word_below : goal.returns-in_err-word_below
+returns-in_err-word_below c = λ x. refused_word _ _ c.word_below.ensures c.from_residual.ensures.1 c.in_err-word_below.was (omega arith) ∙ target_bad c.args.letters c.args.words.now x c.args.at.word c.args.at.byte (tested_bad (failed _ _ c.word_below.ensures c.in_err-word_below.was (omega arith)))
 
-pub overflow_add-number : goal.overflow_add-number
-overflow_add-number c = let h = fits_there (wide 1) c.args.words.now c.args.i (held _ _ c.below.ensures c.if-not-below.false-raw) in omega (arith, h, c.well_formed)
+pub overflow_add-at : goal.overflow_add-at
+overflow_add-at c = omega (arith, there _ _ c.word_below.ensures c.in_ok-word_below.was, c.well_formed)
 
-pub returns-then-not-target_fits : goal.returns-then-not-target_fits
-returns-then-not-target_fits c = λ x. target_bad c.args.letters c.args.words.now x c.args.i c.args.j (tested_next (held _ _ c.below.ensures c.if-not-below.false-raw) (tested_bad (failed _ _ c.target_fits.ensures c.if-not-target_fits.true-raw)))
+pub returns-in_err-target_at : goal.returns-in_err-target_at
+returns-in_err-target_at c = λ x. refused_word _ _ c.target_at.ensures c.from_residual-in_err-target_at.ensures.1 c.in_err-target_at.was (omega arith) ∙ target_bad c.args.letters c.args.words.now x c.args.at.word c.args.at.byte (tested_next (held _ _ c.word_below.ensures c.in_ok-word_below.was (omega arith)) (tested_bad (failed _ _ c.target_at.ensures c.in_err-target_at.was (omega arith))))
 
-pub overflow_add-curve : goal.overflow_add-curve
-overflow_add-curve c = let h = fits_there (target_fits c.args.letters) c.args.words.now (c.args.i + 1) (held _ _ c.target_fits.ensures c.if-not-target_fits.false-raw) in omega (arith, h, c.well_formed)
+pub overflow_add-at-2 : goal.overflow_add-at-2
+overflow_add-at-2 c = omega (arith, there _ _ c.target_at.ensures c.in_ok-target_at.was, c.well_formed)
 
-pub returns-then-not-below-2 : goal.returns-then-not-below-2
-returns-then-not-below-2 c = λ x. target_bad c.args.letters c.args.words.now x c.args.i c.args.j (tested_next (held _ _ c.below.ensures c.if-not-below.false-raw) (tested_next (held _ _ c.target_fits.ensures c.if-not-target_fits.false-raw) (tested_bad (failed _ _ c.below-2.ensures c.if-not-below-2.true-raw))))
+pub returns-in_err-curve : goal.returns-in_err-curve
+returns-in_err-curve c = λ x. refused_word _ _ c.word_below-2.ensures c.from_residual-in_err-curve.ensures.1 c.in_err-curve.was (omega arith) ∙ target_bad c.args.letters c.args.words.now x c.args.at.word c.args.at.byte (tested_next (held _ _ c.word_below.ensures c.in_ok-word_below.was (omega arith)) (tested_next (held _ _ c.target_at.ensures c.in_ok-target_at.was (omega arith)) (tested_bad (failed _ _ c.word_below-2.ensures c.in_err-curve.was (omega arith)))))
 
-pub overflow_add-count : goal.overflow_add-count
-overflow_add-count c = let h = fits_there (λ c. ltb c 3) c.args.words.now (c.args.i + 1 + 1) (held _ _ c.below-2.ensures c.if-not-below-2.false-raw) in omega (arith, h, c.well_formed)
+pub overflow_add-at-3 : goal.overflow_add-at-3
+overflow_add-at-3 c = omega (arith, there _ _ c.word_below-2.ensures c.in_ok-curve.was, c.well_formed)
 
-pub returns-then-not-below-3 : goal.returns-then-not-below-3
-returns-then-not-below-3 c = λ x. target_bad c.args.letters c.args.words.now x c.args.i c.args.j (tested_next (held _ _ c.below.ensures c.if-not-below.false-raw) (tested_next (held _ _ c.target_fits.ensures c.if-not-target_fits.false-raw) (tested_next (held _ _ c.below-2.ensures c.if-not-below-2.false-raw) (tested_bad (failed _ _ c.below-3.ensures c.if-not-below-3.true-raw)))))
+pub returns-in_err-n : goal.returns-in_err-n
+returns-in_err-n c = λ x. refused_word _ _ c.word_below-3.ensures c.from_residual-in_err-n.ensures.1 c.in_err-n.was (omega arith) ∙ target_bad c.args.letters c.args.words.now x c.args.at.word c.args.at.byte (tested_next (held _ _ c.word_below.ensures c.in_ok-word_below.was (omega arith)) (tested_next (held _ _ c.target_at.ensures c.in_ok-target_at.was (omega arith)) (tested_next (held _ _ c.word_below-2.ensures c.in_ok-curve.was (omega arith)) (tested_bad (failed _ _ c.word_below-3.ensures c.in_err-n.was (omega arith))))))
 
-pub overflow_add-count-2 : goal.overflow_add-count-2
-overflow_add-count-2 c = let h = fits_there (wide 2) c.args.words.now (c.args.i + 1 + 1 + 1) (held _ _ c.below-3.ensures c.if-not-below-3.false-raw) in omega (arith, h, c.well_formed)
+pub past-requires : goal.past-requires
+past-requires c = omega (arith, there _ _ c.word_below-3.ensures c.in_ok-n.was, c.well_formed)
 
 pub keys-requires : goal.keys-requires
-keys-requires c = let h = ltb-true (get_or c.args.words.now (c.args.i + 1 + 1 + 1) 0) 65536 (fits_holds (wide 2) c.args.words.now (c.args.i + 1 + 1 + 1) (held _ _ c.below-3.ensures c.if-not-below-3.false-raw)) in omega (arith, h, c.word_of-n.ensures)
+keys-requires c = omega (arith, ltb-true _ _ (fits_holds (wide 2) _ _ (held _ _ c.word_below-3.ensures c.in_ok-n.was refl)), (word_is _ _ c.word_below-3.ensures c.in_ok-n.was refl))
+
+pub returns-in_err-rest : goal.returns-in_err-rest
+returns-in_err-rest c = λ x. handed_on c.from_residual-in_err-rest.ensures.1 ∙ none_more 12 c.in_err-rest.was ∙ target-whole c.args.letters c.args.words.now x c.args.at.word c.args.at.byte (held _ _ c.word_below.ensures c.in_ok-word_below.was (omega arith), (held _ _ c.target_at.ensures c.in_ok-target_at.was (omega arith), (held _ _ c.word_below-2.ensures c.in_ok-curve.was (omega arith), (held _ _ c.word_below-3.ensures c.in_ok-n.was (omega arith), tt)))) _ _ (word_is _ _ c.word_below-2.ensures c.in_ok-curve.was (omega arith)) (word_is _ _ c.word_below-3.ensures c.in_ok-n.was (omega arith)) _ (let q : c.args.at.word + 4 ≡ c.args.at.word + 1 + 1 + 1 + 1 = omega arith in rw (c.past.ensures, q) at (c.keys.ensures x))
 
 pub returns : goal.returns
-returns c = λ x. c.grown.ensures ∙ target-whole c.args.letters c.args.words.now x c.args.i c.args.j (held _ _ c.below.ensures c.if-not-below.false-raw, (held _ _ c.target_fits.ensures c.if-not-target_fits.false-raw, (held _ _ c.below-2.ensures c.if-not-below-2.false-raw, (held _ _ c.below-3.ensures c.if-not-below-3.false-raw, tt)))) _ _ c.word_of-c.ensures c.word_of-n.ensures _ (c.keys.ensures x)
+returns c = λ x. more 12 c.in_ok-rest.was c.grown.ensures ∙ target-whole c.args.letters c.args.words.now x c.args.at.word c.args.at.byte (held _ _ c.word_below.ensures c.in_ok-word_below.was (omega arith), (held _ _ c.target_at.ensures c.in_ok-target_at.was (omega arith), (held _ _ c.word_below-2.ensures c.in_ok-curve.was (omega arith), (held _ _ c.word_below-3.ensures c.in_ok-n.was (omega arith), tt)))) _ _ (word_is _ _ c.word_below-2.ensures c.in_ok-curve.was (omega arith)) (word_is _ _ c.word_below-3.ensures c.in_ok-n.was (omega arith)) _ (let q : c.args.at.word + 4 ≡ c.args.at.word + 1 + 1 + 1 + 1 = omega arith in rw (c.past.ensures, q) at (c.keys.ensures x))

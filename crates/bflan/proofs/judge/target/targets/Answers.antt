@@ -1,17 +1,12 @@
-use Rattle.bflan.proofs.judge.Measures.{measuring_start, measuring_bad, measuring_turn, measuring_end}
+-- `judge::target::targets` meets its contract.
+-- Assumes nothing.
+use Rattle.std.proofs.Common.{rules, ◌∙◌}
+use Rattle.bflan.specs.pai1.Judge.{target}
+use Rattle.bflan.specs.pai1.Layout.{target_lay}
+use Rattle.bflan.specs.Layout.{size}
+use Rattle.bflan.specs.inner.Measure.{verdict_of}
+use Rattle.bflan.proofs.judge.Measures.{each_measured}
 use Rattle.bflan.proofs.judge.target.targets.Goals as goal
 
-pub returns-in-BadWord : goal.returns-in-BadWord
-returns-in-BadWord c = λ x. measuring_bad (c.loop-left.invariant x) c.loop-left-test.true (c.target.ensures x) tt c.in-BadWord.is
-
-pub returns-in-BadText : goal.returns-in-BadText
-returns-in-BadText c = λ x. measuring_bad (c.loop-left.invariant x) c.loop-left-test.true (c.target.ensures x) tt c.in-BadText.is
-
-pub loop-left-preserved : goal.loop-left-preserved
-loop-left-preserved c = λ x. measuring_turn (c.loop-left.invariant x) c.loop-left-test.true (c.target.ensures x) c.in-Fine.is c.add-size.ensures
-
 pub returns : goal.returns
-returns c = λ x. measuring_end (c.loop-left.invariant x) c.loop-left-test.false
-
-pub loop-left-init : goal.loop-left-init
-loop-left-init c = λ x. measuring_start
+returns c = λ x. c.times.ensures (λ k l. verdict_of (λ a. size (target_lay a)) ((target c.args.letters) c.args.words.now x k l)) (λ k v h. search rules) ∙ each_measured (target c.args.letters) target_lay c.args.words.now x c.args.n c.args.at.word c.args.at.byte

@@ -11,8 +11,8 @@ use Rattle.bflan.proofs.reader.Emits.{shown_part, known_count, known_size, known
 use Rattle.bflan.proofs.reader.emit.put_text.Goals as goal
 use Rattle.bflan.proofs.reader.emit.put_text.Goals.{After-decode_known-size}
 
-sized : (c : After-decode_known-size) → (c.decode_known-size.result ≡ length (shown_at c.args.s.now c.args.start c.args.len)) × (c.decode_known-size.result ≤ 50331648)
-sized c = known_size c.args.s.now c.args.start c.args.len c.args.plain _ (shown_part c.args.s.now c.args.start c.args.len) c.requires.2 _ c.requires.0 c.requires.1 c.decode_known-size.ensures.0
+sized : (c : After-decode_known-size) → (c.decode_known-size.result ≡ length (shown_at c.args.s.bytes.now c.args.start c.args.len)) × (c.decode_known-size.result ≤ 50331648)
+sized c = known_size c.args.s.bytes.now c.args.start c.args.len c.args.plain _ (shown_part c.args.s.bytes.now c.args.start c.args.len) c.requires.1 _ c.requires.0 c.args.s.short c.decode_known-size.ensures.0
 
 pub overflow_cast-size : goal.overflow_cast-size
 overflow_cast-size c = let z = sized (goal.at.overflow_cast-size c).After-decode_known-size in omega (arith, z.1)
@@ -20,8 +20,8 @@ overflow_cast-size c = let z = sized (goal.at.overflow_cast-size c).After-decode
 pub returns : goal.returns
 returns c =
     let z = sized (goal.at.returns c).After-decode_known-size in
-    let n = known_count c.args.s.now c.args.start c.args.len c.args.plain _ (shown_part c.args.s.now c.args.start c.args.len) c.requires.2 c.args.t.replaced _ c.decode_known-size.ensures.1 in (
+    let n = known_count c.args.s.bytes.now c.args.start c.args.len c.args.plain _ (shown_part c.args.s.bytes.now c.args.start c.args.len) c.requires.1 c.args.t.replaced _ c.decode_known-size.ensures.1 in (
       c.more_text.ensures ∙ ap₂ (with_text c.args.t c.args.start c.args.len) z.0 n,
       c.put_word.ensures ∙ ap (set c.args.words.now c.args.t.words) z.0,
-      c.decode_known-size.ensures.2 ∙ ap (sets c.args.texts.now c.args.t.bytes) (known_bytes c.args.s.now c.args.start c.args.len c.args.plain _ (shown_part c.args.s.now c.args.start c.args.len) c.requires.2),
+      c.decode_known-size.ensures.2 ∙ ap (sets c.args.texts.now c.args.t.bytes) (known_bytes c.args.s.bytes.now c.args.start c.args.len c.args.plain _ (shown_part c.args.s.bytes.now c.args.start c.args.len) c.requires.1),
     )

@@ -11,18 +11,12 @@ use Rattle.bflan.proofs.reader.info.info_at.Goals as goal
 
 pub returns-then-s-base : goal.returns-then-s-base
 unfolding width_of
-returns-then-s-base c = λ i. let d = info-short c.args.base c.args.s.now i c.if-s-base.true c.sought_cut.ensures in rw d (told_stop _ _ _ _ _ _ _)
+returns-then-s-base c = λ i. let d = info-short c.args.base c.args.s.bytes.now i c.if-s-base.true c.sought_cut.ensures in rw d (told_stop _ _ _ _ _ _ _)
 
 pub extended-requires : goal.extended-requires
 unfolding fleu val
-extended-requires c = (c.requires.0, omega arith, sym c.word_at-letters.ensures ∙ c.if-letters-eq-FLEU.true, c.byte_at-n.ensures.0)
-
-pub returns-then-letters-eq-FLEU : goal.returns-then-letters-eq-FLEU
-returns-then-letters-eq-FLEU c = c.extended.ensures
+extended-requires c = (omega arith, sym c.word_at-letters.ensures ∙ c.if-letters-eq-FLEU.true, c.byte_at-n.ensures.0)
 
 pub standard-requires : goal.standard-requires
 unfolding fleu val
-standard-requires c = (c.requires.0, omega arith, c.word_at-letters.ensures, c.if-letters-eq-FLEU.false, c.byte_at-n.ensures.0)
-
-pub returns : goal.returns
-returns c = λ i. c.standard.ensures i _
+standard-requires c = (omega arith, c.word_at-letters.ensures, c.if-letters-eq-FLEU.false, c.byte_at-n.ensures.0)

@@ -2,11 +2,11 @@ use mathlib.Core.Path.{sym, ◌∙◌}
 use Rattle.bflan.proofs.reader.Rows.{cut_next, cut_here, cut_none}
 use Rattle.bflan.proofs.reader.row.cut.Goals as goal
 
-pub returns-in-Past : goal.returns-in-Past
-returns-in-Past c = cut_here _ _ _ _ c.loop-i.invariant c.loop-i-test.true (sym c.number_at.ensures ∙ c.in-Past.is)
+pub returns-in-Err : goal.returns-in-Err
+returns-in-Err c = c.from.ensures ∙ cut_here _ _ _ _ c.loop-width.invariant c.loop-width-test.true (sym c.number_at.ensures ∙ c.in-Err.is)
 
-pub loop-i-preserved : goal.loop-i-preserved
-loop-i-preserved c = cut_next _ _ _ _ c.loop-i.invariant c.loop-i-test.true (sym c.number_at.ensures ∙ c.in-Value.is)
+pub loop-width-preserved : goal.loop-width-preserved
+loop-width-preserved c = cut_next _ _ _ _ c.loop-width.invariant c.loop-width-test.true (sym c.number_at.ensures ∙ c.in-Ok.is)
 
 pub returns : goal.returns
-returns c = cut_none _ _ _ _ c.loop-i.invariant c.loop-i-test.false
+returns c = cut_none _ _ _ _ c.loop-width.invariant c.loop-width-test.false

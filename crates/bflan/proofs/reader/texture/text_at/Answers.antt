@@ -1,13 +1,11 @@
 -- `texture::text_at` meets its contract.
 -- Assumes nothing.
-use Rattle.bflan.proofs.reader.Emits.{stored_name, no_name, name-fits, name-plain}
+use Rattle.bflan.proofs.reader.Emits.{stored_name}
+use Rattle.bflan.proofs.reader.Walks.{told_handed}
 use Rattle.bflan.proofs.reader.texture.text_at.Goals as goal
 
-pub put_text-requires : goal.put_text-requires
-put_text-requires c = (name-fits c.name_at.ensures.1 c.in-Found.is, c.requires, name-plain _ c.name_at.ensures.2 c.in-Found.is)
+pub returns-in_err-name : goal.returns-in_err-name
+returns-in_err-name c = λ i. told_handed _ _ _ _ _ _ _ _ c.from_residual.ensures.1 (c.in_err-name.ensures.0 i)
 
-pub returns-in-Missing : goal.returns-in-Missing
-returns-in-Missing c = λ i. no_name _ _ _ _ _ _ (c.name_at.ensures.0 i) c.in-Missing.is
-
-pub returns-in-Found : goal.returns-in-Found
-returns-in-Found c = λ i. stored_name _ _ _ _ (c.name_at.ensures.0 i) c.in-Found.is c.put_text.ensures
+pub returns : goal.returns
+returns c = λ i. stored_name _ _ _ _ (c.in_ok-name.ensures.0 i) c.put_text-u.ensures

@@ -1,14 +1,8 @@
 -- `writer::content::put_body` meets its contract.
 -- Assumes nothing.
 use native.Mathlib.Omega.{arith}
-use Rattle.bflan.proofs.writer.LayoutParts.{two_ready, two_done, plain_ready, plain_done}
+use Rattle.bflan.proofs.writer.LayoutParts.{plain_ready, plain_done}
 use Rattle.bflan.proofs.writer.content.put_body.Goals as goal
-
-pub put_user-requires : goal.put_user-requires
-put_user-requires c = (c.requires.0, two_ready c.args.kind c.args.n c.args.words.now c.args.texts.now c.args.pen c.args.start c.requires.1 c.requires.0 c.if-kind-eq2.true)
-
-pub returns-then-kind-eq2 : goal.returns-then-kind-eq2
-returns-then-kind-eq2 c = two_done c.args.kind c.args.n c.args.words.now c.args.texts.now c.args.pen c.args.start c.requires.1 c.requires.0 c.if-kind-eq2.true c.args.out.now c.put_user.ensures.0 c.put_user.ensures.1
 
 pub put_infos-done-requires : goal.put_infos-done-requires
 put_infos-done-requires c = (omega (arith, c.requires.0), plain_ready c.args.kind c.args.n c.args.words.now c.args.texts.now c.args.pen c.args.start c.requires.1 c.requires.0 c.if-kind-eq2.false)

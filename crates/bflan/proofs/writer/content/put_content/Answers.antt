@@ -13,17 +13,11 @@ put_name-named-requires c = name_ready c.args.words.now c.args.texts.now c.args.
 pub overflow_add-i : goal.overflow_add-i
 overflow_add-i c = omega (arith, (content-fits c.args.words.now c.args.texts.now c.args.pen.word c.args.pen.byte c.args.pen.at c.requires _ c.put_name-named.ensures.0).0, c.well_formed)
 
-pub overflow_add-start : goal.overflow_add-start
-overflow_add-start c = omega (arith, (content-fits c.args.words.now c.args.texts.now c.args.pen.word c.args.pen.byte c.args.pen.at c.requires _ c.put_name-named.ensures.0).2)
-
 pub put_counts-requires : goal.put_counts-requires
 put_counts-requires c = omega (arith, (content-fits c.args.words.now c.args.texts.now c.args.pen.word c.args.pen.byte c.args.pen.at c.requires _ c.put_name-named.ensures.0).2)
 
 pub overflow_add-next : goal.overflow_add-next
 overflow_add-next c = omega (arith, (content-fits c.args.words.now c.args.texts.now c.args.pen.word c.args.pen.byte c.args.pen.at c.requires _ c.put_name-named.ensures.0).0, c.well_formed)
-
-pub overflow_add-next-2 : goal.overflow_add-next-2
-overflow_add-next-2 c = omega (arith, (content-fits c.args.words.now c.args.texts.now c.args.pen.word c.args.pen.byte c.args.pen.at c.requires _ c.put_name-named.ensures.0).2)
 
 pub put_body-end-requires : goal.put_body-end-requires
 put_body-end-requires c = (refl, ready_in (c.put_counts.auto.out ∙ c.put_name-named.auto.out) (body_ready c.args.words.now c.args.texts.now c.args.pen.word c.args.pen.byte c.args.pen.at c.requires _ c.put_name-named.ensures.0 _ _ c.word_of-kind.ensures c.word_of-n.ensures))

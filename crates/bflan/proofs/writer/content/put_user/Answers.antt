@@ -9,17 +9,8 @@ use Rattle.bflan.proofs.writer.Pens.{ready_in, behind-within}
 use Rattle.bflan.proofs.writer.LayoutParts.{user_left, user_ready, user_done}
 use Rattle.bflan.proofs.writer.content.put_user.Goals as goal
 
-pub overflow_add-at : goal.overflow_add-at
-overflow_add-at c = omega (arith, (user_ready c.args.n c.args.words.now c.args.texts.now c.args.pen c.args.start c.requires.1 c.requires.0).short)
-
 pub put_offset-requires : goal.put_offset-requires
 put_offset-requires c = (omega (arith, c.requires.0), omega (arith, (user_ready c.args.n c.args.words.now c.args.texts.now c.args.pen c.args.start c.requires.1 c.requires.0).short))
-
-pub overflow_add-at-2 : goal.overflow_add-at-2
-overflow_add-at-2 c = omega (arith, (user_ready c.args.n c.args.words.now c.args.texts.now c.args.pen c.args.start c.requires.1 c.requires.0).short)
-
-pub overflow_add-next : goal.overflow_add-next
-overflow_add-next c = omega (arith, (user_ready c.args.n c.args.words.now c.args.texts.now c.args.pen c.args.start c.requires.1 c.requires.0).short)
 
 pub put_infos-done-requires : goal.put_infos-done-requires
 put_infos-done-requires c = (omega (arith, c.requires.0), ready_in (c.write_placeholder_u32-total.auto.out ∙ c.put_offset.auto.out) (user_ready c.args.n c.args.words.now c.args.texts.now c.args.pen c.args.start c.requires.1 c.requires.0))

@@ -1,12 +1,10 @@
 -- `writer::datum::put_data` meets its contract. The loop's invariant: what is left, from here, is what all of it is, from the start.
 -- Assumes nothing.
+use Rattle.std.proofs.Common.{◌-◌}
 use Rattle.bflan.specs.pai1.Judge.{datum}
 use Rattle.bflan.specs.pai1.Layout.{datum_lay}
 use Rattle.bflan.proofs.writer.Pens.{Running}
 use Rattle.bflan.proofs.writer.datum.put_data.Given as goal
 
-abbrev pub invariant-loop-left : goal.invariant-loop-left
-invariant-loop-left l = Running datum datum_lay l.words l.texts l.n l.initial.q l.initial.out l.left l.q l.out
-
-abbrev pub decreases-loop-left : goal.decreases-loop-left
-decreases-loop-left l = l.left
+abbrev pub invariant-loop : goal.invariant-loop
+invariant-loop l = Running datum datum_lay l.words l.texts l.n l.initial.q l.initial.out (l.n - l.counter) l.q l.out

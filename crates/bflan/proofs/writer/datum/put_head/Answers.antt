@@ -1,21 +1,8 @@
 -- `writer::datum::put_head` meets its contract.
 -- Assumes nothing.
-use native.Mathlib.Omega.{arith}
 use Rattle.bflan.specs.inner.LayoutParts.{datum_head}
 use Rattle.bflan.proofs.writer.Stored.{puts_none, puts_more, row_stored}
 use Rattle.bflan.proofs.writer.datum.put_head.Goals as goal
-
-pub overflow_add-i : goal.overflow_add-i
-overflow_add-i c = omega (arith, c.requires.0, c.well_formed)
-
-pub overflow_add-i-2 : goal.overflow_add-i-2
-overflow_add-i-2 c = omega (arith, c.requires.0, c.well_formed)
-
-pub overflow_add-i-3 : goal.overflow_add-i-3
-overflow_add-i-3 c = omega (arith, c.requires.0, c.well_formed)
-
-pub overflow_add-i-4 : goal.overflow_add-i-4
-overflow_add-i-4 c = omega (arith, c.requires.0, c.well_formed)
 
 pub returns : goal.returns
 unfolding datum_head

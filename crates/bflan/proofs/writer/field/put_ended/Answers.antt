@@ -8,20 +8,11 @@ use Rattle.bflan.proofs.writer.field.put_ended.Goals as goal
 pub put_chars-requires : goal.put_chars-requires
 put_chars-requires c = (ended-fits c.args.words.now c.args.texts.now c.args.pen c.requires _ c.word_of-n.ensures).1
 
-pub overflow_add-at : goal.overflow_add-at
-overflow_add-at c = omega (arith, (ended-fits c.args.words.now c.args.texts.now c.args.pen c.requires _ c.word_of-n.ensures).2)
-
 pub overflow_add-result : goal.overflow_add-result
 overflow_add-result c = omega (arith, (ended-fits c.args.words.now c.args.texts.now c.args.pen c.requires _ c.word_of-n.ensures).0, c.well_formed)
 
 pub overflow_add-result-2 : goal.overflow_add-result-2
 overflow_add-result-2 c = omega (arith, (ended-fits c.args.words.now c.args.texts.now c.args.pen c.requires _ c.word_of-n.ensures).1, c.well_formed)
-
-pub overflow_add-result-3 : goal.overflow_add-result-3
-overflow_add-result-3 c = omega (arith, (ended-fits c.args.words.now c.args.texts.now c.args.pen c.requires _ c.word_of-n.ensures).2)
-
-pub overflow_add-result-4 : goal.overflow_add-result-4
-overflow_add-result-4 c = omega (arith, (ended-fits c.args.words.now c.args.texts.now c.args.pen c.requires _ c.word_of-n.ensures).2)
 
 pub returns : goal.returns
 returns c = ended_done c.args.words.now c.args.texts.now c.args.pen c.requires _ c.word_of-n.ensures c.args.out.now c.put_chars.ensures c.put_byte.ensures refl

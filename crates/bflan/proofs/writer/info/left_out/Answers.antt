@@ -11,9 +11,6 @@ pub returns-then-word_of-ne-FLEU : goal.returns-then-word_of-ne-FLEU
 unfolding fleu val
 returns-then-word_of-ne-FLEU c = sym (out_other c.args.words.now c.args.i c.args.from c.args.to (λ e. c.if-word_of-ne-FLEU.true (c.word_of.ensures ∙ e)))
 
-pub overflow_add-i : goal.overflow_add-i
-overflow_add-i c = omega (arith, c.requires.0, c.well_formed)
-
 pub overflow_sub-result : goal.overflow_sub-result
 unfolding fleu val
 overflow_sub-result c = c.requires.2 (sym c.word_of.ensures ∙ c.if-word_of-ne-FLEU.false)

@@ -1,11 +1,7 @@
 -- `writer::info::put_head` meets its contract.
 -- Assumes nothing.
-use native.Mathlib.Omega.{arith}
 use Rattle.bflan.proofs.writer.LayoutParts.{info_head_stored}
 use Rattle.bflan.proofs.writer.info.put_head.Goals as goal
-
-pub put_counts-requires : goal.put_counts-requires
-put_counts-requires c = omega (arith, c.requires)
 
 pub returns : goal.returns
 returns c = (info_head_stored c.args.at c.args.letters c.args.n c.write_u32.ensures c.put_counts.ensures).same

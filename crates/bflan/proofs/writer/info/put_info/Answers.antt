@@ -16,9 +16,6 @@ put_head-requires c = info-fits c.args.words.now c.args.texts.now c.args.pen.wor
 pub overflow_add-next : goal.overflow_add-next
 overflow_add-next c = omega (arith, info_there c.args.words.now c.args.texts.now c.args.pen.word c.args.pen.byte c.args.pen.at c.requires, c.well_formed)
 
-pub overflow_add-next-2 : goal.overflow_add-next-2
-overflow_add-next-2 c = omega (arith, info-fits c.args.words.now c.args.texts.now c.args.pen.word c.args.pen.byte c.args.pen.at c.requires)
-
 pub put_data-requires : goal.put_data-requires
 unfolding fleu val
 put_data-requires c = ready_in c.put_head.auto.out (data_ready c.args.words.now c.args.texts.now c.args.pen.word c.args.pen.byte c.args.pen.at c.requires _ _ c.word_of-letters.ensures c.word_of-n.ensures c.if-letters-eq-FLEU.true)

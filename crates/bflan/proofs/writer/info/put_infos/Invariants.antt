@@ -13,6 +13,3 @@ abbrev pub invariant-loop-i : goal.invariant-loop-i
 invariant-loop-i l =
     Going info info_lay l.words l.texts l.base l.n l.table.0 l.initial.q l.initial.out l.i l.q l.out
     × (l.gone + out_of (times (l.n - l.i) info l.words l.texts l.q.word l.q.byte) ≡ out_of (times l.n info l.words l.texts l.initial.q.word l.initial.q.byte))
-
-abbrev pub decreases-loop-i : goal.decreases-loop-i
-decreases-loop-i l = l.n - l.i

@@ -19,8 +19,5 @@ put_contents-end-requires c = (omega arith, ready_in (c.patch_u32.auto.out ∙ c
 pub overflow_cast-end : goal.overflow_cast-end
 overflow_cast-end c = let b = behind-within _ (contents_there c.args.words.now c.args.texts.now c.requires _ c.word_of-nt.ensures _ c.put_names-q.ensures.0 _ c.word_of-nc.ensures) c.put_contents-end.ensures.0 in omega (arith, b.1)
 
-pub shape_of-out : goal.shape_of-out
-shape_of-out c = c.patch_u32-2.auto.out ∙ c.put_contents-end.auto.out ∙ c.patch_u32.auto.out ∙ c.put_names-q.auto.out ∙ c.write_placeholder_u32-table.auto.out ∙ c.put_start-size.auto.out
-
 pub returns : goal.returns
 returns c = section_done c.args.words.now c.args.texts.now c.requires _ c.word_of-nt.ensures _ c.put_names-q.ensures.0 _ c.word_of-nc.ensures c.args.out.now c.put_start-size.ensures.1 c.write_placeholder_u32-table.ensures.1 c.put_names-q.ensures.1 c.write_placeholder_u32-table.ensures.0 c.patch_u32.ensures c.put_contents-end.ensures.0 c.put_contents-end.ensures.1 c.put_start-size.ensures.0 c.patch_u32-2.ensures

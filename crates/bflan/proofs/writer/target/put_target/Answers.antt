@@ -21,9 +21,6 @@ put_head-requires c = (target_there c.args.letters c.args.words.now [] c.args.pe
 pub overflow_add-next : goal.overflow_add-next
 overflow_add-next c = omega (arith, (target_there c.args.letters c.args.words.now [] c.args.pen.word c.args.pen.byte c.args.pen.at c.requires).0, c.well_formed)
 
-pub overflow_add-next-2 : goal.overflow_add-next-2
-overflow_add-next-2 c = omega (arith, (target_there c.args.letters c.args.words.now [] c.args.pen.word c.args.pen.byte c.args.pen.at c.requires).1)
-
 pub put_keys-requires : goal.put_keys-requires
 put_keys-requires c = let k = keys_ready c.args.letters c.args.words.now [] c.args.pen.word c.args.pen.byte c.args.pen.at c.requires _ _ _ _ c.word_of-layer.ensures c.word_of-number.ensures c.word_of-curve.ensures c.word_of-n.ensures in (k.0, k.1, ready_in c.put_head.auto.out k.2)
 
