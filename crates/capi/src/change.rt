@@ -4,10 +4,11 @@ ghost use Rattle.edit.specs.Editing.{place_of, values_of};
 ghost use Rattle.capi.specs.Changed.{changed};
 ghost use Rattle.capi.specs.inner.NewValues.{new_values};
 
-use crate::answer::put3;
+use crate::answer::put;
 use base::float::{HermiteBits, from_bits, hermite_from_bits};
+use base::outcome::Answer;
 use bflan::place::Place;
-use edit::edit::{Change, edit, of_editing};
+use edit::edit::{Change, edit};
 use edit::key::NewKey;
 
 // The change that these values are at a place: `n` of them at a key, which says its kind, and the first one elsewhere.
@@ -49,6 +50,6 @@ pub(crate) fn change(
     ensures { (section.new, journal.new, answer.new) ≡ changed section.old journal.old count place (new_values place n x y z) answer.old }
 {
     let new = change_of(place, n, x, y, z);
-    let r = edit(section, journal, count, new);
-    put3(answer, of_editing(r));
+    let n = edit(section, journal, count, new).numbers();
+    put(answer, &[n.0, n.1, n.2]);
 }

@@ -3,6 +3,8 @@
 // numbers say. A slice is passed as
 // its address and its length, and an answer that is an enum comes back as numbers in a list. None asks anything of the caller but
 // that the slices are there and that no byte that a call may change is in another of its slices. README.md has them as C sees them.
+//
+// Kept: the C interface has a function for each field, and numbers for an answer and for a key's kind.
 #![tactic(auto)]
 
 mod answer;
@@ -21,14 +23,11 @@ ghost use Rattle.edit.specs.Editing.{undoing};
 ghost use Rattle.capi.specs.Changed.{changed};
 ghost use Rattle.capi.specs.FieldNumbers.{field_numbers};
 
-use crate::answer::{put3, put4, put5};
+use crate::answer::put;
 use crate::change::change;
 use crate::field::field;
-use bflan::find::of_finding;
+use base::outcome::Answer;
 use bflan::place::Place;
-use bflan::read::of_reading;
-use bflan::write::of_writing;
-use edit::undo::of_undoing;
 
 #[unsafe(no_mangle)]
 pub extern "C" fn nnbfl_decoded_len(text: &[u8]) -> usize
@@ -103,7 +102,8 @@ pub extern "C" fn nnbfl_read(
         × (answer.new ≡ sets answer.old 0 (flat 4 (reading section.now words.old texts.old).0)) }
 {
     let r = bflan::read::read(section, words, texts);
-    put4(answer, of_reading(r));
+    let n = r.numbers();
+    put(answer, &[n.0, n.1, n.2, n.3]);
 }
 
 #[unsafe(no_mangle)]
@@ -117,7 +117,8 @@ pub extern "C" fn nnbfl_find_text(
         × (answer.new ≡ sets answer.old 0 (flat 5 (finding section.now text scratch.old).0)) }
 {
     let r = bflan::find::find_text(section, text, scratch);
-    put5(answer, of_finding(r));
+    let n = r.numbers();
+    put(answer, &[n.0, n.1, n.2, n.3, n.4]);
 }
 
 // No reference goes out to C: the bytes of the part are stored from the output's start on, as far as it has places for them, and their
@@ -145,7 +146,8 @@ pub extern "C" fn nnbfl_write(words: &[u32], texts: &[u8], out: &mut [u8], answe
         × (answer.new ≡ sets answer.old 0 (flat 3 (writing words.now texts.now out.old).0)) }
 {
     let r = bflan::write::write(words, texts, out);
-    put3(answer, of_writing(r));
+    let n = r.numbers();
+    put(answer, &[n.0, n.1, n.2]);
 }
 
 // An edit is a function for each field that can be edited; a key's floats are given as their bits.
@@ -300,7 +302,8 @@ pub extern "C" fn nnbfl_undo(
         × (answer.new ≡ sets answer.old 0 (flat 3 (undoing section.old journal.now count).0)) }
 {
     let r = edit::undo::undo(section, journal, count);
-    put3(answer, of_undoing(r));
+    let n = r.numbers();
+    put(answer, &[n.0, n.1, n.2]);
 }
 
 // What stands at a place is a function for each field too.

@@ -16,7 +16,8 @@ use Rattle.bflan.specs.Limits.{limit}
 use Rattle.bflan.proofs.place.Fields.{and_left, and_right}
 use Rattle.edit.specs.declared.journal.Entry.{Entry}
 use Rattle.edit.specs.declared.journal.Packed.{Packed}
-use Rattle.edit.specs.declared.undo.UndoAnswer.TheVariants.{Undone, TooLong, NothingToUndo, BadJournal}
+use Rattle.std.specs.Prelude.{Ok, Err}
+use Rattle.edit.specs.declared.undo.UndoError.TheVariants.{NothingToUndo, BadJournal}
 use Rattle.edit.specs.Editing.{of_undoing, restored, undoing}
 use Rattle.edit.specs.Journal.{entry_words, capacity, entry_at, bytes_in, field_size, all_zero, restorable}
 use Rattle.edit.specs.inner.Packing.{unpacked, entry_list}
@@ -97,10 +98,6 @@ module _ (p : Packed) (ha : p.a < 4294967296) (hb : p.b < 4294967296) (hc : p.c 
   unfolding unpacked le
   fill_6 = zero_append (drop 2 (le 4 p.b)) (le 4 p.c) ∙ rw (zero_behind 2 2 p.b hb, c_zero)
 
-  fill_12 : all_zero (drop 12 (unpacked p)) ≡ true
-  unfolding unpacked le all_zero
-  fill_12 = refl
-
   module _ (n : ℕ) where
     pub filled_1 : n ≡ 1 → ltb p.a 256 && (eqb p.b 0 && eqb p.c 0) ≡ field_size n && all_zero (drop n (unpacked p))
     unfolding field_size
@@ -118,16 +115,9 @@ module _ (p : Packed) (ha : p.a < 4294967296) (hb : p.b < 4294967296) (hc : p.c 
     unfolding field_size
     filled_6 e = rw e (sym fill_6)
 
-    pub filled_12 : n ≡ 12 → true ≡ field_size n && all_zero (drop n (unpacked p))
-    unfolding field_size
-    filled_12 e = rw e (sym fill_12)
-
 other_size : (n : ℕ) → (n ≡ 1 → ⊥) → (n ≡ 2 → ⊥) → (n ≡ 4 → ⊥) → (n ≡ 6 → ⊥) → (n ≡ 12 → ⊥) → field_size n ≡ false
 unfolding field_size
 other_size n a b c d e = rw (ne_eqb n 1 a, ne_eqb n 2 b, ne_eqb n 4 c, ne_eqb n 6 d, ne_eqb n 12 e)
-
-pub filled_not : (n : ℕ) (t : Bool) → (n ≡ 1 → ⊥) → (n ≡ 2 → ⊥) → (n ≡ 4 → ⊥) → (n ≡ 6 → ⊥) → (n ≡ 12 → ⊥) → false ≡ field_size n && t
-filled_not n t a b c d e = rw (other_size n a b c d e)
 
 -- a field has a byte
 pub size_some : (n : ℕ) → field_size n ≡ true → 0 < n
@@ -214,18 +204,6 @@ entry_read j n h =
     rw (get_or-drop (entry_words * n) j 0 0, get_or-drop (entry_words * n) j 1 0, get_or-drop (entry_words * n) j 2 0, get_or-drop (entry_words * n) j 3 0, get_or-drop (entry_words * n) j 4 0, add-zero) at f
 
 module _ (e : Entry) (size : ℕ) where
-  pub restorable-filled : (t : Bool) → t ≡ field_size e.count && all_zero (drop e.count (unpacked e.old)) → t ≡ true → leb (e.at + e.count) size ≡ restorable size (entry_list e)
-  unfolding restorable entry_list bytes_in unpacked
-  restorable-filled t d h =
-      let f : (field_size e.count && all_zero (drop e.count (unpacked e.old))) && leb (e.at + e.count) size ≡ leb (e.at + e.count) size = rw (sym d ∙ h) in
-      sym f ∙ and_assoc (field_size e.count) (all_zero (drop e.count (unpacked e.old))) (leb (e.at + e.count) size)
-
-  pub restorable_not : (t : Bool) → t ≡ field_size e.count && all_zero (drop e.count (unpacked e.old)) → t ≡ false → false ≡ restorable size (entry_list e)
-  unfolding restorable entry_list bytes_in unpacked
-  restorable_not t d h =
-      let f : (field_size e.count && all_zero (drop e.count (unpacked e.old))) && leb (e.at + e.count) size ≡ false = rw (sym d ∙ h) in
-      sym f ∙ and_assoc (field_size e.count) (all_zero (drop e.count (unpacked e.old))) (leb (e.at + e.count) size)
-
   pub restorable-size : restorable size (entry_list e) ≡ true → field_size e.count ≡ true
   unfolding restorable entry_list
   restorable-size h = and_left (field_size e.count) (all_zero (drop e.count (bytes_in (entry_list e))) && leb (e.at + e.count) size) h
@@ -239,37 +217,21 @@ module _ (e : Entry) (size : ℕ) where
   pub restorable-inside : restorable size (entry_list e) ≡ true → e.at < size
   restorable-inside h = omega (arith, restorable-fits h, size_some e.count (restorable-size h))
 
-pub restored-packed : (s : List ℕ) (e : Entry) → sets s e.at (take e.count (unpacked e.old)) ≡ restored s (entry_list e)
-unfolding restored entry_list bytes_in unpacked
-restored-packed s e = refl
-
 -- ---- undoing
 
-pub undo-long : (s j : List ℕ) (count : ℕ) → 16777216 < length s → (of_undoing (TooLong (length s)), s) ≡ undoing s j count
-unfolding of_undoing undoing
-undo-long s j count h = rw (lt-leb (length s) limit h)
-
 module _ (s j : List ℕ) (count : ℕ) (h : length s ≤ 16777216) where
-  pub undo-none : count ≡ 0 → (of_undoing NothingToUndo, s) ≡ undoing s j count
-  unfolding of_undoing undoing
+  pub undo-none : count ≡ 0 → (of_undoing (Err NothingToUndo), s) ≡ undoing s j count
+  unfolding undoing
   undo-none e = rw (le-leb (length s) limit h, eq-eqb count 0 e)
 
   module _ (k : count ≡ 0 → ⊥) where
-    pub undo_above : length j / entry_words < count → (of_undoing (BadJournal count), s) ≡ undoing s j count
-    unfolding of_undoing undoing capacity
+    pub undo_above : length j / entry_words < count → (of_undoing (Err (BadJournal count)), s) ≡ undoing s j count
+    unfolding undoing capacity
     undo_above l = rw (le-leb (length s) limit h, ne_eqb count 0 k, lt-leb count (length j / entry_words) l)
 
-    module _ (l : count ≤ length j / entry_words) where
-      pub undo_bad : (e : Entry) (t : Bool) → entry_list e ≡ entry_at j (count - 1) → t ≡ restorable (length s) (entry_list e) → t ≡ false
-          → (of_undoing (BadJournal count), s) ≡ undoing s j count
-      unfolding of_undoing undoing capacity
-      undo_bad e t d f g =
-          let z : restorable (length s) (entry_at j (count - 1)) ≡ false = rw (← d) (sym f ∙ g) in
-          rw (le-leb (length s) limit h, ne_eqb count 0 k, le-leb count (length j / entry_words) l, z)
-
-      pub undo-good : (e : Entry) (t : Bool) (s' : List ℕ) → entry_list e ≡ entry_at j (count - 1) → t ≡ restorable (length s) (entry_list e) → t ≡ true → s' ≡ restored s (entry_list e)
-          → (of_undoing (Undone (count - 1)), s') ≡ undoing s j count
-      unfolding of_undoing undoing capacity
-      undo-good e t s' d f g r =
-          let z : restorable (length s) (entry_at j (count - 1)) ≡ true = rw (← d) (sym f ∙ g) in
-          rw (le-leb (length s) limit h, ne_eqb count 0 k, le-leb count (length j / entry_words) l, z, ← d, r)
+    pub undo-good : count ≤ length j / entry_words → (e : Entry) (t : Bool) (s' : List ℕ) → entry_list e ≡ entry_at j (count - 1) → t ≡ restorable (length s) (entry_list e) → t ≡ true → s' ≡ restored s (entry_list e)
+        → (of_undoing (Ok (count - 1)), s') ≡ undoing s j count
+    unfolding undoing capacity
+    undo-good l e t s' d f g r =
+        let z : restorable (length s) (entry_at j (count - 1)) ≡ true = rw (← d) (sym f ∙ g) in
+        rw (le-leb (length s) limit h, ne_eqb count 0 k, le-leb count (length j / entry_words) l, z, ← d, r)

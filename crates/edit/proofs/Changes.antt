@@ -11,17 +11,16 @@ use lib.Dec.{leb, ltb}
 use lib.ListN.{length, get_or, take, drop, replicate, length-drop}
 use lib.Seq.{sets, take-nil, drop-drop, length-take-le}
 use Rattle.base.specs.Choice.{pick}
-use Rattle.base.specs.Number.{le, val, get, put, read_of}
+use Rattle.base.specs.Number.{le, val, get, put}
 use Rattle.base.specs.Outcome.{Outcome}
 use Rattle.base.specs.Float.{float_of, hermite_of, pattern_of, patterns_of, put_patterns}
 use Rattle.base.specs.declared.float.Binary32.{Binary32}
 use Rattle.base.specs.declared.float.Hermite.{Hermite as HermiteForm}
 use Rattle.base.specs.declared.float.HermiteBits.{HermiteBits}
 use Rattle.base.proofs.Floats.{pattern_back, patterns_back}
-use Rattle.base.proofs.Numbers.{get_zero, get_suc, read_there}
+use Rattle.base.proofs.Numbers.{get_zero, get_suc}
 use Rattle.bflan.specs.Answer.{too_long}
 use Rattle.bflan.specs.Layout.{written, row}
-use Rattle.bflan.specs.pai1.Letters.{target_fits}
 use Rattle.bflan.specs.Limits.{limit}
 use Rattle.bflan.specs.pai1.Locating.{of_spot, locating_in, locating, of_located}
 use Rattle.bflan.specs.pai1.Places.{Spot, nowhere, spot, widths, total, fit_widths, allowed, fit, locate}
@@ -31,17 +30,19 @@ use Rattle.bflan.specs.pai1.Record.{key_widths}
 use Rattle.bflan.proofs.place.Fields.{unlike, and_left}
 use Rattle.bflan.specs.declared.place.Field.{Field}
 use Rattle.bflan.specs.declared.place.Field.TheVariants.{FrameCount, Looping, Layer, Target, Key, Value}
-use Rattle.bflan.specs.declared.place.Located.{Located}
-use Rattle.bflan.specs.declared.place.Located.TheVariants.{TooLong, Refused, NoSuchPlace, At}
+use Rattle.std.specs.Prelude.{Result, Ok, Err}
+use Rattle.bflan.specs.declared.place.FieldSpot.{FieldSpot}
+use Rattle.bflan.specs.declared.place.LocateError.{LocateError}
+use Rattle.bflan.specs.declared.place.LocateError.TheVariants.{TooLong, Fault as Unread, NoSuchPlace}
 use Rattle.bflan.specs.declared.place.Place.{Place}
-use Rattle.edit.specs.declared.edit.EditAnswer.TheVariants.{Edited, Unfit, JournalFull}
+use Rattle.edit.specs.declared.edit.EditError.TheVariants.{JournalFull}
 use Rattle.edit.specs.declared.journal.Packed.{Packed}
 use Rattle.edit.specs.declared.values.Values.{Values}
 use Rattle.edit.specs.declared.values.Values.TheVariants.{One, Two, Three}
 use Rattle.edit.specs.Editing.{of_editing, old_at, at_spot, on_reading, editing}
 use Rattle.edit.specs.Format.{pai1}
 use Rattle.edit.specs.Journal.{entry_words, capacity, padded, entry_of, field_size}
-use Rattle.edit.specs.inner.Packing.{packed, entry_list, read_value, values_in, one_most}
+use Rattle.edit.specs.inner.Packing.{edit_error, packed, entry_list, values_in, one_most}
 use Rattle.edit.proofs.Calls.{size_some, le_one, le_two, put_at, behind-put}
 use Rattle.edit.proofs.Entries.{field_size_lem}
 
@@ -81,15 +82,6 @@ module _ (vs : List ℕ) where
   pub fit_constant : (c : ℕ) → c ≡ 0 → one_most vs 4294967295 ≡ fit (Key c) vs
   fit_constant c e = fit-key c (one_most vs 4294967295) (one_width 4 4294967295 refl vs ∙ (unfold key_widths in rw e))
 
-  pub fit_step : (c : ℕ) (t : Bool) → c ≡ 1 → t ≡ fit_widths (4 ∷ 2 ∷ []) vs → t ≡ fit (Key c) vs
-  fit_step c t e d = fit-key c t (d ∙ (unfold key_widths in rw e))
-
-  pub fit_hermite : (c : ℕ) (t : Bool) → (c ≡ 0 → ⊥) → (c ≡ 1 → ⊥) → t ≡ fit_widths (4 ∷ 4 ∷ 4 ∷ []) vs → t ≡ fit (Key c) vs
-  unfolding key_widths
-  fit_hermite zero t a b d = absurd (a refl)
-  fit_hermite (suc zero) t a b d = absurd (b refl)
-  fit_hermite (suc (suc c)) t a b d = fit-key (suc (suc c)) t d
-
 -- looping is 0 or 1
 low_loop : (a : ℕ) → leb a 1 ≡ ltb a 256 && leb a 1
 low_loop a = go (leb a 1) refl
@@ -104,32 +96,10 @@ fit-looping [] = refl
 fit-looping (a ∷ []) = low_loop a ∙ ap (λ (t : Bool). t && leb a 1) (sym (and-true (ltb a 256)))
 fit-looping (a ∷ b ∷ vs) = ap (λ (t : Bool). t && leb a 1) (sym (and-false (ltb a 256)))
 
--- a target's number
-module _ (letters : ℕ) where
-  pub fit_above : (a : ℕ) → 255 < a → false ≡ fit (Target letters) (values_in (One a))
-  unfolding fit widths allowed fit_widths values_in
-  fit_above a h = rw (le-ltb a 256 (omega arith))
-
-  pub fit-target : (a : ℕ) (t : Bool) → a ≤ 255 → t ≡ target_fits letters a → t ≡ fit (Target letters) (values_in (One a))
-  unfolding fit widths allowed fit_widths values_in
-  fit-target a t h e = rw (lt-ltb a 256 (omega arith)) e
-
-  pub fit_two : (a b : ℕ) → false ≡ fit (Target letters) (values_in (Two a b))
-  unfolding fit widths fit_widths values_in
-  fit_two a b = rw (and-false (ltb a 256))
-
-  pub fit_three : (a b c : ℕ) → false ≡ fit (Target letters) (values_in (Three a b c))
-  unfolding fit widths fit_widths values_in
-  fit_three a b c = rw (and-false (ltb a 256))
-
 -- a key's values
 pub step_one : (a : ℕ) → false ≡ fit_widths (4 ∷ 2 ∷ []) (values_in (One a))
 unfolding fit_widths values_in
 step_one a = sym (and-false (ltb a 4294967296))
-
-pub step_two : (a b : ℕ) → a < 4294967296 → ltb b 65536 ≡ fit_widths (4 ∷ 2 ∷ []) (values_in (Two a b))
-unfolding fit_widths values_in
-step_two a b h = rw (lt-ltb a 4294967296 h) (sym (and-true (ltb b 65536)))
 
 pub step_three : (a b c : ℕ) → false ≡ fit_widths (4 ∷ 2 ∷ []) (values_in (Three a b c))
 unfolding fit_widths values_in
@@ -142,17 +112,6 @@ hermite_one a = sym (and-false (ltb a 4294967296))
 pub hermite_two : (a b : ℕ) → false ≡ fit_widths (4 ∷ 4 ∷ 4 ∷ []) (values_in (Two a b))
 unfolding fit_widths values_in
 hermite_two a b = sym (ap (λ (t : Bool). ltb a 4294967296 && t) (and-false (ltb b 4294967296)) ∙ and-false (ltb a 4294967296))
-
-pub hermite_three : (a b c : ℕ) → a < 4294967296 → b < 4294967296 → c < 4294967296 → true ≡ fit_widths (4 ∷ 4 ∷ 4 ∷ []) (values_in (Three a b c))
-unfolding fit_widths values_in
-hermite_three a b c ha hb hc = rw (lt-ltb a 4294967296 ha, lt-ltb b 4294967296 hb, lt-ltb c 4294967296 hc)
-
--- the size of a key
-pub size_rest : (c : ℕ) → (c ≡ 0 → ⊥) → (c ≡ 1 → ⊥) → 12 ≡ total (key_widths c)
-unfolding total key_widths
-size_rest zero a b = absurd (a refl)
-size_rest (suc zero) a b = absurd (b refl)
-size_rest (suc (suc c)) a b = refl
 
 -- ---- the bytes that are written
 
@@ -296,11 +255,6 @@ old_get : (n : ℕ) (s : List ℕ) (at j : ℕ) → get 4 (padded (take n (drop 
 unfolding padded
 old_get n s at j = pad_get 4 (take n (drop at s)) (12 - length (take n (drop at s))) j ∙ part_get n 4 s at j
 
--- a number that was read
-pub got : (s : List ℕ) (k i : ℕ) {v : ℕ} → i + k ≤ length s → v ≡ read_value (read_of k s i) → v ≡ get k s i
-unfolding read_value
-got s k i h e = e ∙ rw (read_there k s i h)
-
 -- the three words by three numbers, of as many bytes as there are
 module _ (n : ℕ) (s : List ℕ) (at : ℕ) where
   old_words : (ka kb kc : ℕ) {a b c : ℕ} → min 4 (n - 0) ≡ ka → min 4 (n - 4) ≡ kb → min 4 (n - 8) ≡ kc → a ≡ get ka s at → b ≡ get kb s (at + 4) → c ≡ get kc s (at + 8)
@@ -312,21 +266,21 @@ module _ (n : ℕ) (s : List ℕ) (at : ℕ) where
   none i = sym (get_zero s i)
 
   module _ (h : at + n ≤ length s) where
-    pub old_1 : {v : ℕ} → n ≡ 1 → v ≡ read_value (read_of 1 s at) → ◌≡◌ {A = Packed} (record { a = v; b = 0; c = 0 }) (packed (take n (drop at s)))
-    old_1 e ev = old_words 1 0 0 (omega arith) (omega arith) (omega arith) (got s 1 at (omega arith) ev) (none (at + 4)) (none (at + 8))
+    pub old_1 : {v : ℕ} → n ≡ 1 → v ≡ get 1 s at → ◌≡◌ {A = Packed} (record { a = v; b = 0; c = 0 }) (packed (take n (drop at s)))
+    old_1 e ev = old_words 1 0 0 (omega arith) (omega arith) (omega arith) ev (none (at + 4)) (none (at + 8))
 
-    pub old_2 : {v : ℕ} → n ≡ 2 → v ≡ read_value (read_of 2 s at) → ◌≡◌ {A = Packed} (record { a = v; b = 0; c = 0 }) (packed (take n (drop at s)))
-    old_2 e ev = old_words 2 0 0 (omega arith) (omega arith) (omega arith) (got s 2 at (omega arith) ev) (none (at + 4)) (none (at + 8))
+    pub old_2 : {v : ℕ} → n ≡ 2 → v ≡ get 2 s at → ◌≡◌ {A = Packed} (record { a = v; b = 0; c = 0 }) (packed (take n (drop at s)))
+    old_2 e ev = old_words 2 0 0 (omega arith) (omega arith) (omega arith) ev (none (at + 4)) (none (at + 8))
 
-    pub old_4 : {v : ℕ} → n ≡ 4 → v ≡ read_value (read_of 4 s at) → ◌≡◌ {A = Packed} (record { a = v; b = 0; c = 0 }) (packed (take n (drop at s)))
-    old_4 e ev = old_words 4 0 0 (omega arith) (omega arith) (omega arith) (got s 4 at (omega arith) ev) (none (at + 4)) (none (at + 8))
+    pub old_4 : {v : ℕ} → n ≡ 4 → v ≡ get 4 s at → ◌≡◌ {A = Packed} (record { a = v; b = 0; c = 0 }) (packed (take n (drop at s)))
+    old_4 e ev = old_words 4 0 0 (omega arith) (omega arith) (omega arith) ev (none (at + 4)) (none (at + 8))
 
-    pub old_6 : {v w : ℕ} → n ≡ 6 → v ≡ read_value (read_of 4 s at) → w ≡ read_value (read_of 2 s (at + 4)) → ◌≡◌ {A = Packed} (record { a = v; b = w; c = 0 }) (packed (take n (drop at s)))
-    old_6 e ev ew = old_words 4 2 0 (omega arith) (omega arith) (omega arith) (got s 4 at (omega arith) ev) (got s 2 (at + 4) (omega arith) ew) (none (at + 8))
+    pub old_6 : {v w : ℕ} → n ≡ 6 → v ≡ get 4 s at → w ≡ get 2 s (at + 4) → ◌≡◌ {A = Packed} (record { a = v; b = w; c = 0 }) (packed (take n (drop at s)))
+    old_6 e ev ew = old_words 4 2 0 (omega arith) (omega arith) (omega arith) ev ew (none (at + 8))
 
-    pub old_12 : {v w x : ℕ} → n ≡ 12 → v ≡ read_value (read_of 4 s at) → w ≡ read_value (read_of 4 s (at + 4)) → x ≡ read_value (read_of 4 s (at + 8))
+    pub old_12 : {v w x : ℕ} → n ≡ 12 → v ≡ get 4 s at → w ≡ get 4 s (at + 4) → x ≡ get 4 s (at + 8)
         → ◌≡◌ {A = Packed} (record { a = v; b = w; c = x }) (packed (take n (drop at s)))
-    old_12 e ev ew ex = old_words 4 4 4 (omega arith) (omega arith) (omega arith) (got s 4 at (omega arith) ev) (got s 4 (at + 4) (omega arith) ew) (got s 4 (at + 8) (omega arith) ex)
+    old_12 e ev ew ex = old_words 4 4 4 (omega arith) (omega arith) (omega arith) ev ew ex
 
 -- ---- the entry
 
@@ -348,29 +302,30 @@ module _ (f : Field) {n : ℕ} (en : n ≡ total (widths f)) where
 -- ---- the call, in a section that reads
 
 module _ (s j : List ℕ) (count at : ℕ) (f : Field) (vs : List ℕ) (t : Bool) (et : t ≡ fit f vs) where
-  pub spot-unfit : t ≡ false → (of_editing Unfit, s, j) ≡ at_spot s j count vs (spot at f)
-  unfolding of_editing at_spot
-  spot-unfit e = rw (sym et ∙ e)
-
   module _ (e : t ≡ true) where
-    pub spot_full : length j / entry_words ≤ count → (of_editing (JournalFull (length j / entry_words)), s, j) ≡ at_spot s j count vs (spot at f)
-    unfolding of_editing at_spot capacity
+    pub spot_full : length j / entry_words ≤ count → (of_editing (Err (JournalFull (length j / entry_words))), s, j) ≡ at_spot s j count vs (spot at f)
+    unfolding at_spot capacity
     spot_full h = rw (sym et ∙ e, le-ltb count (length j / entry_words) h)
 
     pub spot_edited : count < length j / entry_words → {s' j' : List ℕ} → s' ≡ sets s at (written (row (widths f) vs)) → j' ≡ sets j (entry_words * count) (entry_of at (old_at s at (total (widths f))))
-        → (of_editing (Edited (count + 1)), s', j') ≡ at_spot s j count vs (spot at f)
-    unfolding of_editing at_spot capacity
+        → (of_editing (Ok (count + 1)), s', j') ≡ at_spot s j count vs (spot at f)
+    unfolding at_spot capacity
     spot_edited h es ej = rw (sym et ∙ e, lt-ltb count (length j / entry_words) h, es, ej)
 
 -- ---- the call, by where its field is
 
+-- what locating refuses, the edit refuses with the same number and values
+pub refused_same : (error : LocateError) → of_editing (Err (edit_error error)) ≡ of_located (Err error)
+unfolding edit_error of_located
+refused_same (TooLong size) = refl
+refused_same (Unread f) = refl
+refused_same NoSuchPlace = refl
+
 module _ (s j : List ℕ) (count : ℕ) (p : Place) (vs : List ℕ) where
   -- where locating refuses, so does the edit
-  abbrev pub by_located : Located → Outcome × List ℕ × List ℕ
-  by_located (TooLong size) = (of_located (TooLong size), s, j)
-  by_located (Refused f) = (of_located (Refused f), s, j)
-  by_located NoSuchPlace = (of_located NoSuchPlace, s, j)
-  by_located (At at f) = at_spot s j count vs (spot at f)
+  abbrev pub by_located : Result FieldSpot LocateError → Outcome × List ℕ × List ℕ
+  by_located (Err error) = (of_located (Err error), s, j)
+  by_located (Ok x) = at_spot s j count vs (spot x.at x.field)
 
   editing_by : editing pai1 s j count p vs ≡ by_located (locating s p)
   unfolding editing on_reading locating locating_in of_spot of_located at_spot
@@ -380,10 +335,10 @@ module _ (s j : List ℕ) (count : ℕ) (p : Place) (vs : List ℕ) where
       last nowhere = refl
       last (spot at f) = refl
 
-      go : (b : Bool) (r : Res (List Item)) → pick b (on_reading pai1 s j count p vs r) (too_long (length s), s, j) ≡ by_located (pick b (locating_in s p r) (TooLong (length s)))
+      go : (b : Bool) (r : Res (List Item)) → pick b (on_reading pai1 s j count p vs r) (too_long (length s), s, j) ≡ by_located (pick b (locating_in s p r) (Err (TooLong (length s))))
       go true (ok is e) = last (locate s p)
       go true (stop f) = refl
       go false r = refl
 
-  pub edit_by : {x : Located} → x ≡ locating s p → by_located x ≡ editing pai1 s j count p vs
+  pub edit_by : {x : Result FieldSpot LocateError} → x ≡ locating s p → by_located x ≡ editing pai1 s j count p vs
   edit_by e = ap by_located e ∙ sym editing_by

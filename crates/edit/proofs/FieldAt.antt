@@ -1,122 +1,47 @@
 -- What stands at a place: the values that are read there as the field's case, and the answer by where the field is.
 -- Assumes nothing.
-use Prim.Native.Nat.{ℕ, zero, suc, ◌+◌, ◌<◌, ◌≤◌}
+use Prim.Native.Nat.{ℕ, zero, suc, ◌+◌, ◌≤◌}
 use mathlib.Core.Path.{◌≡◌, refl, ap, sym, ◌∙◌}
 use mathlib.Core.List.{List}
 use native.Mathlib.Omega.{arith}
-use borrow.Author.Tests.{le-leb, lt-ltb, le-ltb}
-use lib.Dec.{ltb}
+use borrow.Author.Tests.{le-leb}
 use lib.ListN.{length, get_or}
-use Rattle.base.specs.Choice.{pick}
-use Rattle.base.specs.Float.{float_of, hermite_of, patterns_at}
 use Rattle.base.specs.Number.{get}
-use Rattle.base.specs.Outcome.{Outcome, accepted, counted}
-use Rattle.base.specs.declared.float.Binary32.{Binary32}
-use Rattle.base.specs.declared.float.Hermite.{Hermite as HermiteForm}
+use Rattle.base.specs.Outcome.{Outcome, outcome_of, accepted, counted}
 use Rattle.base.proofs.Floats.{pattern_back, patterns_back}
 use Rattle.base.proofs.Numbers.{Bytes, get_lt, get_zero, get_suc}
 use Rattle.bflan.specs.declared.fault.Fault.{Fault}
 use Rattle.bflan.specs.declared.fault.Fault.TheVariants.{PastEnd, NoZero, OtherLetters}
 use Rattle.bflan.specs.Answer.{no_place, of_fault}
 use Rattle.bflan.specs.pai1.FieldValues.{found_of, numbers_in, as_read, values_at}
-use Rattle.bflan.specs.pai1.Letters.{kind_of, target_under, target_of}
-use Rattle.bflan.specs.declared.letters.AnimInfoType.{AnimInfoType}
-use Rattle.bflan.specs.declared.letters.AnimInfoType.TheVariants.{Standard}
 use Rattle.bflan.specs.Limits.{limit}
 use Rattle.bflan.specs.pai1.Limits.{Readable}
-use Rattle.bflan.specs.pai1.Locating.{of_spot, locating_in, locating}
-use Rattle.bflan.specs.pai1.Places.{Spot, nowhere, spot, Found, missing, found, field_of, widths, total, locate}
+use Rattle.bflan.specs.pai1.Locating.{of_spot, of_locate_error, locating_in, locating}
+use Rattle.bflan.specs.pai1.Places.{Spot, nowhere, spot, Found, missing, found, field_of, widths, locate}
 use Rattle.bflan.specs.Reader.{ok, Item}
-use Rattle.bflan.specs.pai1.Reading.{flag_of, section}
+use Rattle.bflan.specs.pai1.Reading.{section}
 use Rattle.bflan.specs.pai1.Record.{PaneAnimInfo, key_widths, words, texts}
 use Rattle.bflan.specs.Items.{words_of, texts_of}
 use Rattle.bflan.proofs.place.LocatedFields.{located_field, located_values}
 use Rattle.bflan.specs.declared.place.Field.{Field}
 use Rattle.bflan.specs.declared.place.Field.TheVariants.{FrameCount as frames, Looping as looping, Layer as layer, Target as number, Key as key, Value as value}
-use Rattle.bflan.specs.declared.place.Located.{Located}
+use Rattle.std.specs.Prelude.{Result, Ok, Err}
+use Rattle.bflan.specs.declared.place.FieldSpot.{FieldSpot}
+use Rattle.bflan.specs.declared.place.LocateError.{LocateError}
+use Rattle.bflan.specs.declared.place.LocateError.TheVariants.{TooLong, Fault as Unread, NoSuchPlace}
+use Rattle.edit.specs.declared.field.FieldValue.{FieldValue}
 use Rattle.bflan.specs.declared.place.Place.{Place}
-use Rattle.edit.specs.declared.field.FieldAnswer.TheVariants.{Is}
-use Rattle.edit.specs.declared.field.FieldValue.TheVariants.{FrameCount, Looping, Layer, Target, Key, Value}
-use Rattle.edit.specs.declared.key.NewKey.{NewKey}
-use Rattle.edit.specs.declared.key.NewKey.TheVariants.{Constant, Step, Hermite}
 use Rattle.edit.specs.Editing.{key_words}
-use Rattle.edit.specs.FieldAt.{key_of, field_value, read_at, at_located, field_at, at_found, field_in, of_value, of_field}
+use Rattle.edit.specs.FieldAt.{key_of, field_value, read_at, at_located, field_at, at_found, field_in, of_value, of_field, of_counted_value}
 
 -- ---- what is read
 
 pub byte_there : (s : List ℕ) (at : ℕ) → get_or s at 0 ≡ get 1 s at
 byte_there s at = let z : get 0 s (at + 1) ≡ 0 = get_zero s (at + 1) in let e = get_suc 0 s at in omega (arith, z, e)
 
--- the size of a key that is known to be there
-pub constant_room : (at : ℕ) {c n : ℕ} → c ≡ 0 → at + total (key_widths c) ≤ n → at + 4 ≤ n
-unfolding total key_widths
-constant_room at e h = rw e at h
-
-pub step_room : (at : ℕ) {c n : ℕ} → c ≡ 1 → at + total (key_widths c) ≤ n → at + 6 ≤ n
-unfolding total key_widths
-step_room at e h = rw e at h
-
--- a field that is known to be there
-pub field_room : (at : ℕ) {f g : Field} {k n : ℕ} → f ≡ g → total (widths g) ≡ k → at + total (widths f) ≤ n → at + k ≤ n
-field_room at {f} {g} {k} {n} e q h = let i : at + total (widths g) ≤ n = rw e at h in omega (arith, q, i)
-
--- a key of each curve
-module _ (s : List ℕ) (at : ℕ) where
-  pub constant_at : (c : ℕ) {x : Binary32} → c ≡ 0 → x ≡ float_of (get 4 s at) → Constant x ≡ key_of c (numbers_in (key_widths c) s at)
-  unfolding key_of numbers_in key_widths
-  constant_at c e ex = rw (e, ex)
-
-  pub step_at : (c : ℕ) {x : Binary32} {v : ℕ} → c ≡ 1 → x ≡ float_of (get 4 s at) → v ≡ get 2 s (at + 4) → Step x v ≡ key_of c (numbers_in (key_widths c) s at)
-  unfolding key_of numbers_in key_widths
-  step_at c e ex ev = rw (e, ex, ev)
-
-  pub hermite_key : (c : ℕ) {h : HermiteForm} → (c ≡ 0 → ⊥) → (c ≡ 1 → ⊥) → h ≡ hermite_of (patterns_at s at) → Hermite h ≡ key_of c (numbers_in (key_widths c) s at)
-  unfolding key_of numbers_in key_widths patterns_at
-  hermite_key zero a b e = absurd (a refl)
-  hermite_key (suc zero) a b e = absurd (b refl)
-  hermite_key (suc (suc c)) a b e = let third : at + 4 + 4 ≡ at + 8 = omega arith in rw third (ap Hermite e)
-
-  -- a field
-  module _ {f : Field} {v : ℕ} where
-    pub frames_at : f ≡ frames → v ≡ get 2 s at → FrameCount v ≡ read_at s at f
-    unfolding read_at field_value as_read numbers_in widths
-    frames_at e ev = rw (e, ev)
-
-    pub looping_at : f ≡ looping → v ≡ flag_of (get 1 s at) → Looping v ≡ read_at s at f
-    unfolding read_at field_value as_read numbers_in widths
-    looping_at e ev = rw (e, ev)
-
-    pub layer_at : f ≡ layer → v ≡ get 1 s at → Layer v ≡ read_at s at f
-    unfolding read_at field_value as_read numbers_in widths
-    layer_at e ev = rw (e, ev)
-
-    pub number_at : {letters : ℕ} → f ≡ number letters → v ≡ target_of letters (get 1 s at) → Target v ≡ read_at s at f
-    unfolding read_at field_value as_read numbers_in widths
-    number_at e ev = rw (e, ev)
-
-    pub value_at : f ≡ value → v ≡ get 4 s at → Value v ≡ read_at s at f
-    unfolding read_at field_value as_read numbers_in widths
-    value_at e ev = rw (e, ev)
-
-  pub key_at : {f : Field} {curve : ℕ} {k : NewKey} → f ≡ key curve → k ≡ key_of curve (numbers_in (key_widths curve) s at) → Key k ≡ read_at s at f
-  unfolding read_at field_value as_read widths
-  key_at e ek = rw (e, ek)
-
--- ---- a target's number, by what its letters say
-
-pub number_by : (l raw : ℕ) {k : AnimInfoType} → kind_of l ≡ k → target_under k raw ≡ target_of l raw
-unfolding target_of
-number_by l raw e = ap (λ (k : AnimInfoType). target_under k raw) (sym e)
-
-pub number_below : (l raw : ℕ) {n : ℕ} → kind_of l ≡ Standard n → raw < n → raw ≡ target_of l raw
-number_below l raw {n} e h = let p : pick (ltb raw n) raw 0 ≡ raw = rw (lt-ltb raw n h) in sym p ∙ number_by l raw e
-
-pub number_above : (l raw : ℕ) {n : ℕ} → kind_of l ≡ Standard n → n ≤ raw → 0 ≡ target_of l raw
-number_above l raw {n} e h = let p : pick (ltb raw n) raw 0 ≡ 0 = rw (le-ltb raw n h) in sym p ∙ number_by l raw e
-
 -- ---- the answer, by where the field is
 
-pub field_by : (s : List ℕ) (p : Place) {x : Located} → x ≡ locating s p → at_located s x ≡ field_at s p
+pub field_by : (s : List ℕ) (p : Place) {x : Result FieldSpot LocateError} → x ≡ locating s p → at_located s x ≡ field_at s p
 unfolding field_at
 field_by s p e = ap (at_located s) e
 
@@ -134,7 +59,7 @@ module _ (s : List ℕ) (short : length s ≤ limit) (is : List Item) (end : ℕ
     where
       go : (x : Spot) → locate s p ≡ x → at_located s (of_spot x) ≡ at_found r p (found_of x)
       go nowhere e = refl
-      go (spot at f) e = ap (λ (vs : List ℕ). Is (field_value f vs)) (sym (located_values s is end reads r readable ew ex p at f e))
+      go (spot at f) e = ap (λ (vs : List ℕ). Ok (field_value f vs)) (sym (located_values s is end reads r readable ew ex p at f e))
 
 -- ---- and its numbers: the record's values there, bit for bit
 
@@ -163,7 +88,7 @@ numbers_for r p (found f) = accepted (values_at r p)
 module _ (s : List ℕ) (bytes : Bytes s) (short : length s ≤ limit) (is : List Item) (end : ℕ) (reads : section s 0 ≡ ok is end)
     (r : PaneAnimInfo) (readable : Readable r) (ew : words r ≡ words_of s is) (ex : texts r ≡ texts_of s is) (p : Place) where
   pub field_numbers_lem : of_field (field_at s p) ≡ numbers_for r p (field_of r p)
-  unfolding of_spot found_of at_located of_field
+  unfolding of_spot found_of at_located
   field_numbers_lem =
       ap of_field (by_spot s short is end reads r readable ew ex p)
       ∙ go (locate s p) refl
@@ -180,3 +105,10 @@ unfolding counted of_fault
 counted_fault (PastEnd offset requested) = refl
 counted_fault (NoZero start) = refl
 counted_fault (OtherLetters letters) = refl
+
+pub counted_field : (a : Result FieldValue LocateError) → outcome_of of_counted_value of_locate_error a ≡ counted (of_field a)
+unfolding counted
+counted_field (Ok v) = refl
+counted_field (Err (TooLong size)) = refl
+counted_field (Err (Unread f)) = sym (counted_fault f)
+counted_field (Err NoSuchPlace) = refl

@@ -1,10 +1,10 @@
 -- The two public calls: for any arguments what they answer, and what the section and the journal hold afterwards (document 01, 'Edits and
 -- undo' and the refusals' table). The order of the refusals is the order of the cases.
-use Rattle.std.specs.Prelude.{ℕ, ◌+◌, ◌-◌, ◌*◌, ◌&&◌, List, [], ◌∷◌, eqb, leb, ltb, length, take, drop}
+use Rattle.std.specs.Prelude.{ℕ, ◌+◌, ◌-◌, ◌*◌, ◌&&◌, List, [], ◌∷◌, Result, Ok, Err, eqb, leb, ltb, length, take, drop}
 use Rattle.std.proofs.lemmas.List.Edits.{sets}
 use Rattle.base.specs.Choice.{pick}
 use Rattle.base.specs.Float.{pattern_of, patterns_of}
-use Rattle.base.specs.Outcome.{Outcome, accepted, refused}
+use Rattle.base.specs.Outcome.{Outcome, outcome_of, of_count, accepted, refused}
 use Rattle.bflan.specs.Answer.{too_long, no_place, of_fault}
 use Rattle.bflan.specs.Layout.{written, row}
 use Rattle.bflan.specs.Limits.{limit}
@@ -16,10 +16,10 @@ use Rattle.edit.specs.declared.key.NewKey.{NewKey}
 use Rattle.edit.specs.declared.key.NewKey.TheVariants.{Constant, Step, Hermite}
 use Rattle.edit.specs.declared.edit.Change.{Change}
 use Rattle.edit.specs.declared.edit.Change.TheVariants.{FrameCount as setFrameCount, Looping as setLooping, Layer as setLayer, Target as setTarget, Key as setKey, Value as setValue}
-use Rattle.edit.specs.declared.edit.EditAnswer.{EditAnswer}
-use Rattle.edit.specs.declared.edit.EditAnswer.TheVariants.{Edited, TooLong, Refused, NoSuchPlace, Unfit, JournalFull}
-use Rattle.edit.specs.declared.undo.UndoAnswer.{UndoAnswer}
-use Rattle.edit.specs.declared.undo.UndoAnswer.TheVariants.{Undone, TooLong as UndoTooLong, NothingToUndo, BadJournal}
+use Rattle.edit.specs.declared.edit.EditError.{EditError}
+use Rattle.edit.specs.declared.edit.EditError.TheVariants.{TooLong, Fault as Unread, NoSuchPlace, Unfit, JournalFull}
+use Rattle.edit.specs.declared.undo.UndoError.{UndoError}
+use Rattle.edit.specs.declared.undo.UndoError.TheVariants.{TooLong as UndoTooLong, NothingToUndo, BadJournal}
 use Rattle.edit.specs.Format.{Format}
 use Rattle.edit.specs.Journal.{entry_words, capacity, entry_at, entry_of, offset_in, count_in, bytes_in, restorable}
 
@@ -37,19 +37,24 @@ nothing_to_undo = refused 13 (0 ∷ [])
 abbrev pub bad_journal : ℕ → Outcome
 bad_journal count = refused 14 (count ∷ [])
 
-unfoldable pub of_editing : EditAnswer → Outcome
-of_editing (Edited count) = accepted (count ∷ [])
-of_editing (TooLong size) = too_long size
-of_editing (Refused f) = of_fault f
-of_editing NoSuchPlace = no_place
-of_editing Unfit = unfit
-of_editing (JournalFull most) = journal_full most
+abbrev pub of_edit_error : EditError → Outcome
+of_edit_error (TooLong size) = too_long size
+of_edit_error (Unread f) = of_fault f
+of_edit_error NoSuchPlace = no_place
+of_edit_error Unfit = unfit
+of_edit_error (JournalFull most) = journal_full most
 
-unfoldable pub of_undoing : UndoAnswer → Outcome
-of_undoing (Undone count) = accepted (count ∷ [])
-of_undoing (UndoTooLong size) = too_long size
-of_undoing NothingToUndo = nothing_to_undo
-of_undoing (BadJournal count) = bad_journal count
+abbrev pub of_undo_error : UndoError → Outcome
+of_undo_error (UndoTooLong size) = too_long size
+of_undo_error NothingToUndo = nothing_to_undo
+of_undo_error (BadJournal count) = bad_journal count
+
+-- what both accept is the new count of journal entries
+abbrev pub of_editing : Result ℕ EditError → Outcome
+of_editing = outcome_of of_count of_edit_error
+
+abbrev pub of_undoing : Result ℕ UndoError → Outcome
+of_undoing = outcome_of of_count of_undo_error
 
 -- ---- a change as a place and the words of its new value
 

@@ -1,21 +1,20 @@
 -- What stands at a place of a section now (document 01, 'Edits and undo': the fields that can be edited, and which places are there). The
 -- values are the record's (document 01, 'The section'): looping is yes where the byte is nonzero, and a target's number is as its letters
 -- have it.
-use Rattle.std.specs.Prelude.{ℕ, zero, suc, List, [], ◌∷◌, get_or}
+use Rattle.std.specs.Prelude.{ℕ, zero, suc, List, [], ◌∷◌, Result, Ok, Err, get_or}
 use Rattle.base.specs.Float.{float_of, hermite_of}
-use Rattle.base.specs.Outcome.{Outcome, accepted}
+use Rattle.base.specs.Outcome.{Outcome, outcome_of, accepted, counted}
 use Rattle.bflan.specs.Answer.{too_long, no_place, of_fault}
 use Rattle.bflan.specs.pai1.FieldValues.{numbers_in, as_read, values_at}
-use Rattle.bflan.specs.pai1.Locating.{locating}
+use Rattle.bflan.specs.pai1.Locating.{of_locate_error, locating}
 use Rattle.bflan.specs.pai1.Places.{widths, first, Found, missing, found, field_of}
 use Rattle.bflan.specs.pai1.Record.{PaneAnimInfo}
 use Rattle.bflan.specs.declared.place.Field.{Field}
 use Rattle.bflan.specs.declared.place.Field.TheVariants.{FrameCount as frames, Looping as looping, Layer as layer, Target as number, Key as key, Value as value}
-use Rattle.bflan.specs.declared.place.Located.{Located}
-use Rattle.bflan.specs.declared.place.Located.TheVariants.{TooLong as LongerThan, Refused as Unread, NoSuchPlace as Nowhere, At}
+use Rattle.bflan.specs.declared.place.FieldSpot.{FieldSpot}
+use Rattle.bflan.specs.declared.place.LocateError.{LocateError}
+use Rattle.bflan.specs.declared.place.LocateError.TheVariants.{TooLong, Fault as Unread, NoSuchPlace}
 use Rattle.bflan.specs.declared.place.Place.{Place}
-use Rattle.edit.specs.declared.field.FieldAnswer.{FieldAnswer}
-use Rattle.edit.specs.declared.field.FieldAnswer.TheVariants.{TooLong, Refused, NoSuchPlace, Is}
 use Rattle.edit.specs.declared.field.FieldValue.{FieldValue}
 use Rattle.edit.specs.declared.field.FieldValue.TheVariants.{FrameCount, Looping, Layer, Target, Key, Value}
 use Rattle.edit.specs.declared.key.NewKey.{NewKey}
@@ -44,22 +43,20 @@ field_value value vs = Value (first vs)
 unfoldable pub read_at : List ℕ → ℕ → Field → FieldValue
 read_at s at f = field_value f (as_read f (numbers_in (widths f) s at))
 
-unfoldable pub at_located : List ℕ → Located → FieldAnswer
-at_located s (LongerThan size) = TooLong size
-at_located s (Unread f) = Refused f
-at_located s Nowhere = NoSuchPlace
-at_located s (At at f) = Is (read_at s at f)
+unfoldable pub at_located : List ℕ → Result FieldSpot LocateError → Result FieldValue LocateError
+at_located s (Err error) = Err error
+at_located s (Ok x) = Ok (read_at s x.at x.field)
 
-unfoldable pub field_at : List ℕ → Place → FieldAnswer
+unfoldable pub field_at : List ℕ → Place → Result FieldValue LocateError
 field_at s p = at_located s (locating s p)
 
 -- ---- in a record: the field that it has at a place, with its values there
 
-unfoldable pub at_found : PaneAnimInfo → Place → Found → FieldAnswer
-at_found r p missing = NoSuchPlace
-at_found r p (found f) = Is (field_value f (values_at r p))
+unfoldable pub at_found : PaneAnimInfo → Place → Found → Result FieldValue LocateError
+at_found r p missing = Err NoSuchPlace
+at_found r p (found f) = Ok (field_value f (values_at r p))
 
-unfoldable pub field_in : PaneAnimInfo → Place → FieldAnswer
+unfoldable pub field_in : PaneAnimInfo → Place → Result FieldValue LocateError
 field_in r p = at_found r p (field_of r p)
 
 -- ---- the answer's number and values
@@ -72,8 +69,12 @@ of_value (Target v) = v ∷ []
 of_value (Key k) = key_words k
 of_value (Value v) = v ∷ []
 
-unfoldable pub of_field : FieldAnswer → Outcome
-of_field (TooLong size) = too_long size
-of_field (Refused f) = of_fault f
-of_field NoSuchPlace = no_place
-of_field (Is v) = accepted (of_value v)
+abbrev pub of_field_value : FieldValue → Outcome
+of_field_value v = accepted (of_value v)
+
+abbrev pub of_field : Result FieldValue LocateError → Outcome
+of_field = outcome_of of_field_value of_locate_error
+
+-- as the code hands it on: how many values there are, and the values
+abbrev pub of_counted_value : FieldValue → Outcome
+of_counted_value v = counted (of_field_value v)

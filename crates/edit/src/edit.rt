@@ -1,23 +1,22 @@
 // Editing one field of a section.
 ghost use Rattle.std.specs.Prelude.{◌≡◌, true, [], ◌∷◌, ◌+◌, ◌*◌, ◌<◌, ◌≤◌, length};
 ghost use Rattle.std.proofs.lemmas.List.Edits.{sets};
-ghost use Rattle.base.specs.Outcome.{flat, in_order};
 ghost use Rattle.bflan.specs.Layout.{written, row};
 ghost use Rattle.bflan.specs.pai1.Places.{spot, widths, total, fit};
-ghost use Rattle.edit.specs.Editing.{of_editing, place_of, values_of, old_at, at_spot, editing};
+ghost use Rattle.edit.specs.Editing.{of_edit_error, of_editing, place_of, values_of, old_at, at_spot, editing};
 ghost use Rattle.edit.specs.Format.{pai1};
 ghost use Rattle.edit.specs.Journal.{entry_words, entry_of};
-ghost use Rattle.edit.specs.inner.Packing.{values_in};
+ghost use Rattle.edit.specs.inner.Packing.{edit_error, values_in};
 
 use crate::journal::{ENTRY_WORDS, Entry, packed_at, put_entry};
 use crate::key::NewKey;
-use crate::spot::{SpotAt, field_as, spot_at, way_of};
+use crate::spot::{field_as, spot_at, way_of};
 use crate::values::{Values, fits, place_of, size_of, values_of};
 use base::float::{HermiteBits, from_bits, hermite_from_bits, write_f32, write_hermite};
 use base::number::{write_u8, write_u16, write_u32};
-use base::outcome::Numbers;
-use bflan::fault::{Fault, of_fault};
-use bflan::place::Field;
+use base::outcome::{Answer, Numbers};
+use bflan::fault::Fault;
+use bflan::place::{Field, LocateError};
 
 // A field, its place and its new value. Places count from 0: content, info, target, key; or content, info, datum, list, value.
 #[derive(Clone, Copy)]
@@ -31,18 +30,45 @@ pub enum Change {
     Value(usize, usize, usize, usize, usize, u32),
 }
 
+// Why an edit is refused. It has changed nothing then.
 #[derive(Clone, Copy)]
-pub enum EditAnswer {
-    // The new count of journal entries.
-    Edited(usize),
+pub enum EditError {
     // The section's length, above the limit.
     TooLong(usize),
     // The section does not read.
-    Refused(Fault),
+    Fault(Fault),
     NoSuchPlace,
     Unfit,
     // The journal's capacity.
     JournalFull(usize),
+}
+
+impl From<LocateError> for EditError {
+    ghost from_gives = { λ error given. given ≡ edit_error error };
+
+    #[tactic(auto, unfolding(crate::specs::inner::Packing::edit_error))]
+    fn from(error: LocateError) -> EditError {
+        match error {
+            LocateError::TooLong(size) => EditError::TooLong(size),
+            LocateError::Fault(fault) => EditError::Fault(fault),
+            LocateError::NoSuchPlace => EditError::NoSuchPlace,
+        }
+    }
+}
+
+impl Answer for EditError {
+    ghost outcome = { of_edit_error };
+
+    #[tactic(auto, unfolding(base::specs::Outcome::flat))]
+    fn numbers(self) -> Numbers {
+        match self {
+            EditError::TooLong(size) => Numbers(2, size, 0, 0, 0),
+            EditError::Fault(f) => f.numbers(),
+            EditError::NoSuchPlace => Numbers(10, 0, 0, 0, 0),
+            EditError::Unfit => Numbers(11, 0, 0, 0, 0),
+            EditError::JournalFull(most) => Numbers(12, most, 0, 0, 0),
+        }
+    }
 }
 
 // The entry of the field at `at`, stored as entry `count`.
@@ -95,6 +121,7 @@ fn write_field(section: &mut [u8], at: usize, f: Field, v: Values)
     }
 }
 
+#[tactic(auto, unfolding(crate::specs::Editing::at_spot, crate::specs::Journal::capacity))]
 fn change_at(
     section: &mut [u8],
     journal: &mut [u32],
@@ -102,49 +129,36 @@ fn change_at(
     at: usize,
     f: Field,
     v: Values,
-) -> EditAnswer
+) -> Result<usize, EditError>
     requires { (length section.old ≤ 16777216) × (at + total (widths f) ≤ length section.old) }
     ensures { (of_editing result, section.new, journal.new) ≡ at_spot section.old journal.old count (values_in v) (spot at f) }
 {
     if fits(f, v) {
         let most = journal.len() / ENTRY_WORDS;
         if most <= count {
-            return EditAnswer::JournalFull(most);
+            return Err(EditError::JournalFull(most));
         }
         keep_old(section, journal, count, at, f);
         write_field(section, at, f, v);
-        return EditAnswer::Edited(count + 1);
+        return Ok(count + 1);
     }
-    EditAnswer::Unfit
+    Err(EditError::Unfit)
 }
 
-pub fn edit(section: &mut [u8], journal: &mut [u32], count: usize, change: Change) -> EditAnswer
+// Makes a change, and answers the new count of journal entries. (Kept: the journal and its count as two parameters here and in `undo`. A struct
+// of both would hold the journal as `&mut`, which `undo` does not ask of its callers.)
+pub fn edit(
+    section: &mut [u8],
+    journal: &mut [u32],
+    count: usize,
+    change: Change,
+) -> Result<usize, EditError>
     ensures { (of_editing result, section.new, journal.new) ≡ editing pai1 section.old journal.old count (place_of change) (values_of change) }
 {
     let v = values_of(change);
     let w = way_of(place_of(change));
     let kind = w.kind;
-    match spot_at(section, kind, w.content, w.info, w.target, w.key, w.value) {
-        SpotAt::TooLong(size) => EditAnswer::TooLong(size),
-        SpotAt::Refused(f) => EditAnswer::Refused(f),
-        SpotAt::NoSuchPlace => EditAnswer::NoSuchPlace,
-        SpotAt::There(at, k, n) => {
-            let f = field_as(k, n);
-            change_at(section, journal, count, at, f, v)
-        }
-    }
-}
-
-// The answer in numbers.
-pub fn of_editing(a: EditAnswer) -> Numbers
-    ensures { in_order result ≡ flat 5 (of_editing a) }
-{
-    match a {
-        EditAnswer::Edited(count) => Numbers(0, count, 0, 0, 0),
-        EditAnswer::TooLong(size) => Numbers(2, size, 0, 0, 0),
-        EditAnswer::Refused(f) => of_fault(f),
-        EditAnswer::NoSuchPlace => Numbers(10, 0, 0, 0, 0),
-        EditAnswer::Unfit => Numbers(11, 0, 0, 0, 0),
-        EditAnswer::JournalFull(most) => Numbers(12, most, 0, 0, 0),
-    }
+    let spot = spot_at(section, kind, w.content, w.info, w.target, w.key, w.value)?;
+    let f = field_as(spot.kind, spot.number);
+    change_at(section, journal, count, spot.at, f, v)
 }

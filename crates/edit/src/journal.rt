@@ -1,10 +1,11 @@
 // The journal: five words an entry. The old bytes of a field stand in three of them.
 ghost use Rattle.std.specs.Prelude.{◌≡◌, true, ◌&&◌, length, take, drop, ◌+◌, ◌*◌, ◌<◌, ◌≤◌};
 ghost use Rattle.std.proofs.lemmas.List.Edits.{sets};
+ghost use Rattle.base.specs.Number.{get};
 ghost use Rattle.edit.specs.Journal.{entry_words, entry_at, field_size, all_zero};
-ghost use Rattle.edit.specs.inner.Packing.{unpacked, packed, read_value, entry_list};
+ghost use Rattle.edit.specs.inner.Packing.{unpacked, packed, entry_list};
 
-use base::number::{Read, read_u8, read_u16, read_u32, write_u8, write_u16, write_u32};
+use base::number::{read_u16, read_u32, write_u8, write_u16, write_u32};
 
 // Up to twelve bytes as little-endian words.
 #[derive(Clone, Copy)]
@@ -26,6 +27,7 @@ pub struct Entry {
 pub(crate) const ENTRY_WORDS: usize = 5;
 
 // Whether `n` is the size of a field, and the bytes behind the first `n` are zeros.
+#[tactic(auto, unfolding(crate::specs::inner::Packing::unpacked, crate::specs::Journal::field_size, crate::specs::Journal::all_zero, base::specs::Number::le))]
 pub(crate) fn filled(n: u32, p: Packed) -> bool
     ensures { result ≡ field_size n && all_zero (drop n (unpacked p)) }
 {
@@ -61,6 +63,7 @@ pub(crate) fn put_packed(out: &mut [u8], at: usize, n: u32, p: Packed)
 }
 
 // Entry `n`.
+#[tactic(auto, using(crate::proofs::Calls::entry_read), unfolding(crate::specs::inner::Packing::entry_list))]
 pub(crate) fn entry_at(journal: &[u32], n: usize) -> Entry
     requires { entry_words * n + entry_words ≤ length journal.now }
     ensures { entry_list result ≡ entry_at journal.now n }
@@ -77,50 +80,69 @@ pub(crate) fn entry_at(journal: &[u32], n: usize) -> Entry
     }
 }
 
-pub(crate) fn read_value(r: Read) -> u32
-    ensures { result ≡ read_value r }
+// Numbers that are known to be there, of one, two and four bytes. (Kept: one for each size, since each is a read of base's.)
+
+#[tactic(auto, using(crate::proofs::FieldAt::byte_there))]
+pub(crate) fn byte_at(s: &[u8], at: usize) -> u8
+    requires { at + 1 ≤ length s.now }
+    ensures { result ≡ get 1 s.now at }
 {
-    match r {
-        Read::Value(v, _next) => v,
-        Read::Past(_offset, _requested) => 0,
-    }
+    s[at]
+}
+
+#[tactic(auto, using(base::proofs::Numbers::read_there))]
+pub(crate) fn half_at(s: &[u8], at: usize) -> u32
+    requires { at + 2 ≤ length s.now }
+    ensures { result ≡ get 2 s.now at }
+{
+    read_u16(s, at).unwrap().0
+}
+
+#[tactic(auto, using(base::proofs::Numbers::read_there))]
+pub(crate) fn word_at(s: &[u8], at: usize) -> u32
+    requires { at + 4 ≤ length s.now }
+    ensures { result ≡ get 4 s.now at }
+{
+    read_u32(s, at).unwrap().0
 }
 
 // The `n` bytes from `at` on.
+#[tactic(auto, using(crate::proofs::Calls::size_twelve))]
 pub(crate) fn packed_at(s: &[u8], at: usize, n: u32) -> Packed
     requires { (field_size n ≡ true) × (at + n ≤ length s.now) }
     ensures { result ≡ packed (take n (drop at s.now)) }
 {
     match n {
         1 => Packed {
-            a: read_value(read_u8(s, at)),
+            a: u32::from(byte_at(s, at)),
             b: 0,
             c: 0,
         },
         2 => Packed {
-            a: read_value(read_u16(s, at)),
+            a: half_at(s, at),
             b: 0,
             c: 0,
         },
         4 => Packed {
-            a: read_value(read_u32(s, at)),
+            a: word_at(s, at),
             b: 0,
             c: 0,
         },
         6 => Packed {
-            a: read_value(read_u32(s, at)),
-            b: read_value(read_u16(s, at + 4)),
+            a: word_at(s, at),
+            b: half_at(s, at + 4),
             c: 0,
         },
         _ => Packed {
-            a: read_value(read_u32(s, at)),
-            b: read_value(read_u32(s, at + 4)),
-            c: read_value(read_u32(s, at + 8)),
+            a: word_at(s, at),
+            b: word_at(s, at + 4),
+            c: word_at(s, at + 8),
         },
     }
 }
 
 // Entry `n`, stored.
+#[tactic(auto, unfolding(crate::specs::inner::Packing::entry_list))]
 pub(crate) fn put_entry(journal: &mut [u32], n: usize, e: Entry)
     requires { entry_words * n + entry_words ≤ length journal.old }
     ensures { journal.new ≡ sets journal.old (entry_words * n) (entry_list e) }

@@ -3,13 +3,13 @@
 // `locate` is a function of its own for the processor, since an edit and `field_at` both call it. An enum that goes into such a function or
 // comes out of it is stored by its parts and read in pairs, or as one number where it lies in another enum, and a processor waits until all of
 // that is stored. It does not wait for numbers.
+//
+// Kept for that speed: a place's numbers as parameters of `spot_at`, and `Way` and `SpotAt`, which say a `Place` and a `Field` in numbers.
 ghost use Rattle.std.specs.Prelude.{◌≡◌};
 ghost use Rattle.bflan.specs.pai1.Locating.{locating};
-ghost use Rattle.bflan.specs.declared.place.Located.TheVariants.{At};
-ghost use Rattle.edit.specs.inner.Packing.{place_as, field_as, located_as};
+ghost use Rattle.edit.specs.inner.Packing.{place_as, field_as, spot_as, located_as};
 
-use bflan::fault::Fault;
-use bflan::place::{Field, Located, Place, locate};
+use bflan::place::{Field, FieldSpot, LocateError, Place, locate};
 
 // Which field of the six.
 #[derive(Clone, Copy)]
@@ -33,15 +33,15 @@ pub struct Way {
     pub value: usize,
 }
 
-// What `locate` answers. Of a field its first byte, its kind, and a target's letters or a key's curve.
+// Where a field stands: its first byte, its kind, and a target's letters or a key's curve.
 #[derive(Clone, Copy)]
-pub enum SpotAt {
-    TooLong(usize),
-    Refused(Fault),
-    NoSuchPlace,
-    There(usize, Kind, u32),
+pub struct SpotAt {
+    pub at: usize,
+    pub kind: Kind,
+    pub number: u32,
 }
 
+#[tactic(auto, unfolding(crate::specs::inner::Packing::place_as))]
 pub(crate) fn way_of(place: Place) -> Way
     ensures { place ≡ place_as result.kind result.content result.info result.target result.key result.value }
 {
@@ -97,6 +97,7 @@ pub(crate) fn way_of(place: Place) -> Way
     }
 }
 
+#[tactic(auto, unfolding(crate::specs::inner::Packing::place_as))]
 fn place_as(
     kind: Kind,
     content: usize,
@@ -117,6 +118,7 @@ fn place_as(
     }
 }
 
+#[tactic(auto, unfolding(crate::specs::inner::Packing::field_as))]
 pub(crate) fn field_as(kind: Kind, n: u32) -> Field
     ensures { result ≡ field_as kind n }
 {
@@ -130,19 +132,23 @@ pub(crate) fn field_as(kind: Kind, n: u32) -> Field
     }
 }
 
-fn there(at: usize, f: Field) -> SpotAt
-    ensures { located_as result ≡ At at f }
+#[tactic(auto, unfolding(crate::specs::inner::Packing::field_as, crate::specs::inner::Packing::spot_as))]
+fn apart(spot: FieldSpot) -> SpotAt
+    ensures { spot_as result ≡ spot }
 {
-    match f {
-        Field::FrameCount => SpotAt::There(at, Kind::FrameCount, 0),
-        Field::Looping => SpotAt::There(at, Kind::Looping, 0),
-        Field::Layer => SpotAt::There(at, Kind::Layer, 0),
-        Field::Target(letters) => SpotAt::There(at, Kind::Target, letters),
-        Field::Key(curve) => SpotAt::There(at, Kind::Key, curve),
-        Field::Value => SpotAt::There(at, Kind::Value, 0),
-    }
+    let at = spot.at;
+    let (kind, number) = match spot.field {
+        Field::FrameCount => (Kind::FrameCount, 0),
+        Field::Looping => (Kind::Looping, 0),
+        Field::Layer => (Kind::Layer, 0),
+        Field::Target(letters) => (Kind::Target, letters),
+        Field::Key(curve) => (Kind::Key, curve),
+        Field::Value => (Kind::Value, 0),
+    };
+    SpotAt { at, kind, number }
 }
 
+#[tactic(auto, unfolding(crate::specs::inner::Packing::located_as))]
 pub(crate) fn spot_at(
     section: &[u8],
     kind: Kind,
@@ -151,13 +157,9 @@ pub(crate) fn spot_at(
     target: usize,
     key: usize,
     value: usize,
-) -> SpotAt
+) -> Result<SpotAt, LocateError>
     ensures { located_as result ≡ locating section.now (place_as kind content info target key value) }
 {
-    match locate(section, place_as(kind, content, info, target, key, value)) {
-        Located::TooLong(size) => SpotAt::TooLong(size),
-        Located::Refused(f) => SpotAt::Refused(f),
-        Located::NoSuchPlace => SpotAt::NoSuchPlace,
-        Located::At(at, f) => there(at, f),
-    }
+    let spot = locate(section, place_as(kind, content, info, target, key, value))?;
+    Ok(apart(spot))
 }

@@ -1,18 +1,16 @@
 // Taking back the last edit.
 ghost use Rattle.std.specs.Prelude.{◌≡◌, true, length};
-ghost use Rattle.base.specs.Outcome.{flat, in_order};
-ghost use Rattle.edit.specs.Editing.{of_undoing, restored, undoing};
+ghost use Rattle.edit.specs.Editing.{of_undo_error, of_undoing, restored, undoing};
 ghost use Rattle.edit.specs.Journal.{restorable};
 ghost use Rattle.edit.specs.inner.Packing.{entry_list};
 
 use crate::journal::{ENTRY_WORDS, Entry, entry_at, filled, put_packed};
-use base::outcome::Numbers;
+use base::outcome::{Answer, Numbers};
 use bflan::read::LIMIT;
 
+// Why nothing is undone.
 #[derive(Clone, Copy)]
-pub enum UndoAnswer {
-    // The new count of journal entries.
-    Undone(usize),
+pub enum UndoError {
     // The section's length, above the limit.
     TooLong(usize),
     NothingToUndo,
@@ -20,7 +18,21 @@ pub enum UndoAnswer {
     BadJournal(usize),
 }
 
+impl Answer for UndoError {
+    ghost outcome = { of_undo_error };
+
+    #[tactic(auto, unfolding(base::specs::Outcome::flat))]
+    fn numbers(self) -> Numbers {
+        match self {
+            UndoError::TooLong(size) => Numbers(2, size, 0, 0, 0),
+            UndoError::NothingToUndo => Numbers(13, 0, 0, 0, 0),
+            UndoError::BadJournal(count) => Numbers(14, count, 0, 0, 0),
+        }
+    }
+}
+
 // Whether an entry can be undone in a section of `size` bytes.
+#[tactic(auto, unfolding(crate::specs::Journal::restorable, crate::specs::Journal::bytes_in, crate::specs::inner::Packing::entry_list, crate::specs::inner::Packing::unpacked))]
 fn restorable(e: Entry, size: usize) -> bool
     ensures { result ≡ restorable size (entry_list e) }
 {
@@ -32,6 +44,7 @@ fn restorable(e: Entry, size: usize) -> bool
     false
 }
 
+#[tactic(auto, unfolding(crate::specs::Editing::restored, crate::specs::Journal::restorable, crate::specs::Journal::bytes_in, crate::specs::inner::Packing::entry_list, crate::specs::inner::Packing::unpacked))]
 fn restore(section: &mut [u8], e: Entry)
     requires { restorable (length section.old) (entry_list e) ≡ true }
     ensures { section.new ≡ restored section.old (entry_list e) }
@@ -42,36 +55,26 @@ fn restore(section: &mut [u8], e: Entry)
     put_packed(section, at, n, old);
 }
 
-pub fn undo(section: &mut [u8], journal: &[u32], count: usize) -> UndoAnswer
+// Takes the last edit back, and answers the new count of journal entries.
+#[tactic(auto, unfolding(crate::specs::Editing::undoing, crate::specs::Journal::capacity))]
+pub fn undo(section: &mut [u8], journal: &[u32], count: usize) -> Result<usize, UndoError>
     ensures { (of_undoing result, section.new) ≡ undoing section.old journal.now count }
 {
     let size = section.len();
     if LIMIT < size {
-        return UndoAnswer::TooLong(size);
+        return Err(UndoError::TooLong(size));
     }
     if count == 0 {
-        return UndoAnswer::NothingToUndo;
+        return Err(UndoError::NothingToUndo);
     }
     if journal.len() / ENTRY_WORDS < count {
-        return UndoAnswer::BadJournal(count);
+        return Err(UndoError::BadJournal(count));
     }
     let last = count - 1;
     let e = entry_at(journal, last);
     if restorable(e, size) {
         restore(section, e);
-        return UndoAnswer::Undone(last);
+        return Ok(last);
     }
-    UndoAnswer::BadJournal(count)
-}
-
-// The answer in numbers.
-pub fn of_undoing(a: UndoAnswer) -> Numbers
-    ensures { in_order result ≡ flat 5 (of_undoing a) }
-{
-    match a {
-        UndoAnswer::Undone(count) => Numbers(0, count, 0, 0, 0),
-        UndoAnswer::TooLong(size) => Numbers(2, size, 0, 0, 0),
-        UndoAnswer::NothingToUndo => Numbers(13, 0, 0, 0, 0),
-        UndoAnswer::BadJournal(count) => Numbers(14, count, 0, 0, 0),
-    }
+    Err(UndoError::BadJournal(count))
 }

@@ -18,6 +18,7 @@ pub enum Values {
     Three(u32, u32, u32),
 }
 
+#[tactic(auto, unfolding(crate::specs::Editing::place_of))]
 pub(crate) fn place_of(change: Change) -> Place
     ensures { result ≡ place_of change }
 {
@@ -33,6 +34,7 @@ pub(crate) fn place_of(change: Change) -> Place
 
 // (`to_bits` says the same of a float. Handed to a function, the float would be one number of eight bytes for the compiler, and wait for its parts:
 // src/spot.rt.)
+#[tactic(auto, unfolding(base::specs::Float::pattern_of, crate::specs::Editing::key_words, crate::specs::inner::Packing::values_in))]
 pub(crate) fn key_values(new: NewKey) -> Values
     ensures { values_in result ≡ key_words new }
 {
@@ -52,6 +54,7 @@ pub(crate) fn key_values(new: NewKey) -> Values
     }
 }
 
+#[tactic(auto, unfolding(crate::specs::Editing::values_of, crate::specs::inner::Packing::values_in))]
 pub(crate) fn values_of(change: Change) -> Values
     ensures { values_in result ≡ values_of change }
 {
@@ -65,6 +68,7 @@ pub(crate) fn values_of(change: Change) -> Values
     }
 }
 
+#[tactic(auto, unfolding(bflan::specs::pai1::Places::widths, bflan::specs::pai1::Places::total, bflan::specs::pai1::Record::key_widths))]
 pub(crate) fn size_of(f: Field) -> u32
     ensures { result ≡ total (widths f) }
 {
@@ -83,53 +87,43 @@ pub(crate) fn size_of(f: Field) -> u32
 }
 
 // One value, of at most `most`.
+#[tactic(auto, unfolding(crate::specs::inner::Packing::one_most, crate::specs::inner::Packing::values_in))]
 fn one_most(v: Values, most: u32) -> bool
     ensures { result ≡ one_most (values_in v) most }
 {
-    match v {
-        Values::One(a) => a <= most,
-        Values::Two(_a, _b) => false,
-        Values::Three(_a, _b, _c) => false,
-    }
+    matches!(v, Values::One(a) if a <= most)
 }
 
 // A Step key's two values, and a Hermite key's three.
 
+#[tactic(auto, unfolding(bflan::specs::pai1::Places::fit_widths, crate::specs::inner::Packing::values_in))]
 fn fits_step(v: Values) -> bool
     ensures { result ≡ fit_widths (4 ∷ 2 ∷ []) (values_in v) }
 {
-    match v {
-        Values::One(_a) => false,
-        Values::Two(_a, b) => b < 65536,
-        Values::Three(_a, _b, _c) => false,
-    }
+    matches!(v, Values::Two(_a, b) if b < 65536)
 }
 
+#[tactic(auto, unfolding(bflan::specs::pai1::Places::fit_widths, crate::specs::inner::Packing::values_in))]
 fn fits_hermite(v: Values) -> bool
     ensures { result ≡ fit_widths (4 ∷ 4 ∷ 4 ∷ []) (values_in v) }
 {
-    match v {
-        Values::One(_a) => false,
-        Values::Two(_a, _b) => false,
-        Values::Three(_a, _b, _c) => true,
-    }
+    matches!(v, Values::Three(_a, _b, _c))
 }
 
+#[tactic(auto, unfolding(bflan::specs::pai1::Places::fit, bflan::specs::pai1::Places::allowed, bflan::specs::pai1::Places::widths, bflan::specs::pai1::Places::fit_widths, crate::specs::inner::Packing::values_in))]
 fn fits_target(letters: u32, v: Values) -> bool
     ensures { result ≡ fit (Target letters) (values_in v) }
 {
-    match v {
-        Values::One(a) => {
-            if 255 < a {
-                return false;
-            }
-            target_fits(letters, a)
-        }
-        Values::Two(_a, _b) => false,
-        Values::Three(_a, _b, _c) => false,
+    let Values::One(a) = v else {
+        return false;
+    };
+    if 255 < a {
+        return false;
     }
+    target_fits(letters, a)
 }
 
+#[tactic(auto, unfolding(bflan::specs::pai1::Places::fit, bflan::specs::pai1::Places::allowed, bflan::specs::pai1::Places::widths, bflan::specs::pai1::Record::key_widths))]
 fn fits_key(curve: u32, v: Values) -> bool
     ensures { result ≡ fit (Key curve) (values_in v) }
 {

@@ -6,4 +6,4 @@ use Rattle.capi.proofs.nnbfl_find_text.Goals as goal
 pub returns : goal.returns
 returns c =
     rw (sym c.find_text-r.ensures)
-    (refl, rw (← c.of_finding.ensures) c.put5.ensures)
+    (refl, rw (← c.numbers-n.ensures) c.put.ensures)

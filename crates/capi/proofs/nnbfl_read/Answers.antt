@@ -8,4 +8,4 @@ use Rattle.capi.proofs.nnbfl_read.Goals as goal
 pub returns : goal.returns
 returns c =
     rw (sym c.read-r.ensures)
-    (refl, refl, rw (c.put4.ensures, flat_first 4 _ (omega arith) c.of_reading.ensures))
+    (refl, refl, rw (c.put.ensures, flat_first 4 _ (omega arith) c.numbers-n.ensures))

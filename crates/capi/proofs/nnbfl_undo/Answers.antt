@@ -8,4 +8,4 @@ use Rattle.capi.proofs.nnbfl_undo.Goals as goal
 pub returns : goal.returns
 returns c =
     rw (sym c.undo-r.ensures)
-    (refl, rw (c.put3.ensures, flat_first 3 _ (omega arith) c.of_undoing.ensures))
+    (refl, rw (c.put.ensures, flat_first 3 _ (omega arith) c.numbers-n.ensures))

@@ -8,4 +8,4 @@ use Rattle.capi.proofs.nnbfl_write.Goals as goal
 pub returns : goal.returns
 returns c =
     rw (sym c.write-r.ensures)
-    (refl, rw (c.put3.ensures, flat_first 3 _ (omega arith) c.of_writing.ensures))
+    (refl, rw (c.put.ensures, flat_first 3 _ (omega arith) c.numbers-n.ensures))

@@ -1,20 +1,20 @@
 -- The old bytes of a field in three words, an entry of the journal, the words of a new value, and where a field stands: each as the code holds it.
-use Rattle.std.specs.Prelude.{ℕ, Bool, false, List, [], ◌∷◌, ◌++◌, leb}
+use Rattle.std.specs.Prelude.{ℕ, Bool, false, List, [], ◌∷◌, ◌++◌, Result, Ok, Err, leb}
 use Rattle.base.specs.Number.{le, get}
-use Rattle.base.specs.declared.number.Read.{Read}
-use Rattle.base.specs.declared.number.Read.TheVariants.{Value as ReadAs, Past}
 use Rattle.bflan.specs.declared.place.Field.{Field}
 use Rattle.bflan.specs.declared.place.Field.TheVariants.{FrameCount as IsFrameCount, Looping as IsLooping, Layer as IsLayer, Target as IsTarget, Key as IsKey, Value as IsValue}
-use Rattle.bflan.specs.declared.place.Located.{Located}
-use Rattle.bflan.specs.declared.place.Located.TheVariants.{TooLong as LocatedTooLong, Refused as LocatedRefused, NoSuchPlace as LocatedNoPlace, At}
+use Rattle.bflan.specs.declared.place.FieldSpot.{FieldSpot}
+use Rattle.bflan.specs.declared.place.LocateError.{LocateError}
+use Rattle.bflan.specs.declared.place.LocateError.TheVariants.{TooLong as LocateTooLong, Fault as LocateFault, NoSuchPlace as LocateNoPlace}
 use Rattle.bflan.specs.declared.place.Place.{Place}
 use Rattle.bflan.specs.declared.place.Place.TheVariants.{FrameCount as AtFrameCount, Looping as AtLooping, Layer as AtLayer, Target as AtTarget, Key as AtKey, Value as AtValue}
+use Rattle.edit.specs.declared.edit.EditError.{EditError}
+use Rattle.edit.specs.declared.edit.EditError.TheVariants.{TooLong, Fault as Unread, NoSuchPlace}
 use Rattle.edit.specs.declared.journal.Entry.{Entry}
 use Rattle.edit.specs.declared.journal.Packed.{Packed}
 use Rattle.edit.specs.declared.spot.Kind.{Kind}
 use Rattle.edit.specs.declared.spot.Kind.TheVariants.{FrameCount, Looping, Layer, Target, Key, Value}
 use Rattle.edit.specs.declared.spot.SpotAt.{SpotAt}
-use Rattle.edit.specs.declared.spot.SpotAt.TheVariants.{TooLong, Refused, NoSuchPlace, There}
 use Rattle.edit.specs.declared.values.Values.{Values}
 use Rattle.edit.specs.declared.values.Values.TheVariants.{One, Two, Three}
 use Rattle.edit.specs.Journal.{padded}
@@ -30,11 +30,6 @@ packed old = record { a = get 4 (padded old) 0; b = get 4 (padded old) 4; c = ge
 -- the five words
 unfoldable pub entry_list : Entry → List ℕ
 entry_list e = e.at ∷ e.count ∷ e.old.a ∷ e.old.b ∷ e.old.c ∷ []
-
--- the number that a read gave
-unfoldable pub read_value : Read → ℕ
-read_value (ReadAs v next) = v
-read_value (Past offset requested) = 0
 
 -- the words of a new value
 unfoldable pub values_in : Values → List ℕ
@@ -59,11 +54,18 @@ field_as Target n = IsTarget n
 field_as Key n = IsKey n
 field_as Value n = IsValue
 
-unfoldable pub located_as : SpotAt → Located
-located_as (TooLong size) = LocatedTooLong size
-located_as (Refused f) = LocatedRefused f
-located_as NoSuchPlace = LocatedNoPlace
-located_as (There at k n) = At at (field_as k n)
+unfoldable pub spot_as : SpotAt → FieldSpot
+spot_as x = record { at = x.at; field = field_as x.kind x.number }
+
+unfoldable pub located_as : Result SpotAt LocateError → Result FieldSpot LocateError
+located_as (Ok x) = Ok (spot_as x)
+located_as (Err error) = Err error
+
+-- what locating refuses, an edit refuses
+unfoldable pub edit_error : LocateError → EditError
+edit_error (LocateTooLong size) = TooLong size
+edit_error (LocateFault f) = Unread f
+edit_error LocateNoPlace = NoSuchPlace
 
 -- one value of at most m
 unfoldable pub one_most : List ℕ → ℕ → Bool

@@ -10,4 +10,4 @@ pub returns : goal.returns
 unfolding changed
 returns c =
     let m = c.change_of-new.ensures in
-    rw (sym m.1, sym m.0, sym c.edit-r.ensures, c.put3.ensures, flat_first 3 _ (omega arith) c.of_editing.ensures)
+    rw (sym m.1, sym m.0, sym c.edit.ensures, c.put.ensures, flat_first 3 _ (omega arith) c.numbers-n.ensures)

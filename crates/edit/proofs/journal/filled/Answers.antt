@@ -1,7 +1,7 @@
 -- `journal::filled` meets its contract.
 -- Assumes nothing.
 use native.Mathlib.Omega.{arith}
-use Rattle.edit.proofs.Calls.{filled_1, filled_2, filled_4, filled_6, filled_12, filled_not}
+use Rattle.edit.proofs.Calls.{filled_1, filled_2, filled_4, filled_6}
 use Rattle.edit.proofs.journal.filled.Goals as goal
 
 pub returns-in-1 : goal.returns-in-1
@@ -15,11 +15,3 @@ returns-in-4 c = filled_4 c.args.p (omega arith) (omega arith) (omega arith) _ c
 
 pub returns-in-6 : goal.returns-in-6
 returns-in-6 c = filled_6 c.args.p (omega arith) (omega arith) (omega arith) _ c.in-6.is
-
-pub returns-in-12 : goal.returns-in-12
-returns-in-12 c = filled_12 c.args.p (omega arith) (omega arith) (omega arith) _ c.in-12.is
-
-pub returns-in_default : goal.returns-in_default
-returns-in_default c =
-    let no = c.in_default.in_default-own.rest in
-    filled_not _ _ no.0.0.0.0.1 no.0.0.0.1 no.0.0.1 no.0.1 no.1

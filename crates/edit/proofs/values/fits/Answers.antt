@@ -13,11 +13,5 @@ returns-in-Looping c = rw c.in-Looping.is (c.one_most-in-Looping.ensures ∙ fit
 pub returns-in-Layer : goal.returns-in-Layer
 returns-in-Layer c = rw c.in-Layer.is (c.one_most-in-Layer.ensures ∙ fit-layer _)
 
-pub returns-in-Target : goal.returns-in-Target
-returns-in-Target c = rw c.in-Target.is c.fits_target.ensures
-
-pub returns-in-Key : goal.returns-in-Key
-returns-in-Key c = rw c.in-Key.is c.fits_key.ensures
-
 pub returns-in-Value : goal.returns-in-Value
 returns-in-Value c = rw c.in-Value.is (c.one_most-in-Value.ensures ∙ fit-value _)
