@@ -1,2 +1,2 @@
 pub mod Hex
-pub mod Input
+pub mod Refusal

@@ -1,9 +1,9 @@
-// What the arguments ask of a program, before it looks at what they say. No contract of std says anything of the arguments of a run, so no
-// contract does here.
-ghost use Rattle.std.specs.Prelude.{◌≤◌, length};
+// The arguments of a run. No contract of std says anything of them, so no contract does here.
+ghost use Rattle.std.specs.Prelude.{◌≤◌, IfSome, length};
 
 use std::env::{Env, FillError};
 
+// What the arguments ask of a program, before it looks at what they say.
 #[derive(Clone, Copy)]
 pub enum Asked {
     // There is no argument.
@@ -14,47 +14,35 @@ pub enum Asked {
 }
 
 // How many arguments there are, the program's name among them.
+// Kept: the loop over places, since std's args allocates.
 pub fn arg_count(rt: HostRuntime) -> usize {
     let mut room = [0u8; 1];
     for i in 0..usize::MAX {
-        match rt.arg(i, &mut room) {
-            Err(FillError::NotPresent) => return i,
-            _ => {}
+        if let Err(FillError::NotPresent) = rt.arg(i, &mut room) {
+            return i;
         }
     }
     usize::MAX
 }
 
-// Puts argument i at the room's start, and gives its length: 0 where it is missing or longer than the room.
-pub fn arg(rt: HostRuntime, i: usize, room: &mut [u8]) -> usize
-    ensures { result ≤ length room.old }
+// Argument i, which is put at the room's start: none where it is missing, is longer than the room, or is no text in UTF-8.
+pub fn arg(rt: HostRuntime, i: usize, room: &mut [u8]) -> Option<&str>
+    ensures { IfSome result (λ text. length text.now ≤ length room.old) }
 {
-    match rt.arg(i, room) {
-        Ok(n) => n,
-        Err(_) => 0,
-    }
+    let n = rt.arg(i, room).ok()?;
+    str::from_utf8(&room[..n]).ok()
 }
 
 // Whether the first argument is `--help`.
 fn is_help(rt: HostRuntime) -> bool {
     let mut room = [0u8; 6];
-    let n = arg(rt, 1, &mut room);
-    n == 6
-        && room[0] == b'-'
-        && room[1] == b'-'
-        && room[2] == b'h'
-        && room[3] == b'e'
-        && room[4] == b'l'
-        && room[5] == b'p'
+    arg(rt, 1, &mut room) == Some("--help")
 }
 
 pub fn arguments(rt: HostRuntime) -> Asked {
-    let n = arg_count(rt);
-    if n < 2 {
-        return Asked::Nothing;
+    match arg_count(rt) {
+        0 | 1 => Asked::Nothing,
+        2 if is_help(rt) => Asked::Help,
+        _ => Asked::Other,
     }
-    if n == 2 && is_help(rt) {
-        return Asked::Help;
-    }
-    Asked::Other
 }

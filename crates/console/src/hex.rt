@@ -1,9 +1,8 @@
 // Hexadecimal digits, in capitals.
-ghost use Rattle.std.specs.Prelude.{◌≡◌};
-ghost use Rattle.console.specs.Hex.{hex_digit};
+ghost use Rattle.std.specs.Prelude.{◌≡◌, Some};
+ghost use Rattle.console.specs.Hex.{hex_digit, two_digits, escaped};
 
-use crate::output::say;
-use crate::streams::Streams;
+use std::fmt;
 
 // The digit of a number's last four bits.
 pub fn hex_digit(n: u8) -> u8
@@ -16,8 +15,30 @@ pub fn hex_digit(n: u8) -> u8
     55 + d
 }
 
+// A byte by its two digits.
+#[derive(Clone, Copy)]
+pub struct Hex(pub u8);
+
+impl fmt::Display for Hex {
+    ghost output = { λ h. Some (two_digits h.0) };
+
+    fn fmt<W: fmt::Write>(&self, f: &mut fmt::Formatter<W>) -> fmt::Result {
+        let high = char::from(hex_digit(self.0 / 16));
+        let low = char::from(hex_digit(self.0));
+        write!(f, "{high}{low}")
+    }
+}
+
 // A byte that is not to be printed as it is: `\x` and its two digits.
-pub fn say_escaped(streams: &mut Streams, b: u8) {
-    let text = [b'\\', b'x', hex_digit(b / 16), hex_digit(b)];
-    say(streams, &text);
+#[derive(Clone, Copy)]
+pub struct Escaped(pub u8);
+
+impl fmt::Display for Escaped {
+    ghost output = { λ e. Some (escaped e.0) };
+
+    #[tactic(auto, unfolding(crate::specs::Hex::escaped))]
+    fn fmt<W: fmt::Write>(&self, f: &mut fmt::Formatter<W>) -> fmt::Result {
+        let digits = Hex(self.0);
+        write!(f, "\\x{digits}")
+    }
 }

@@ -1,26 +1,20 @@
 // The system's words for why a call failed, as `No space left on device`. What std says of an error has its number behind them, as in
 // ` (os error 28)`, which is left out.
-use std::io::{Error, Write};
+use std::fmt::InlineText;
+use std::{fmt, io};
 
-// The room for what std says of an error.
-pub(crate) const ROOM: usize = 128;
+// The room for what std says of an error. What has no room is left out.
+const ROOM: usize = 128;
 
-const NUMBER: &[u8] = b" (os error ";
+#[derive(Clone, Copy)]
+pub(crate) struct Reason(pub(crate) io::Error);
 
-// Puts the words at the room's start, and gives their length.
-pub(crate) fn put_reason(error: Error, room: &mut [u8; ROOM]) -> usize {
-    let mut rest = &mut room[..];
-    // What has no room is left out.
-    let _ = write!(rest, "{error}");
-    words_end(room)
-}
-
-// Where the words end: before the number, or where nothing is written.
-fn words_end(text: &[u8]) -> usize {
-    for i in 0..text.len() {
-        if text[i] == 0 || text[i..].starts_with(NUMBER) {
-            return i;
+impl fmt::Display for Reason {
+    fn fmt<W: fmt::Write>(&self, f: &mut fmt::Formatter<W>) -> fmt::Result {
+        let said = InlineText::<ROOM>::of(self.0);
+        match said.as_str().split_once(" (os error ") {
+            Some((words, _number)) => f.write_str(words),
+            None => f.write_str(said.as_str()),
         }
     }
-    text.len()
 }

@@ -1,82 +1,122 @@
 // What is said of a section that does not read: the refusal's number, its values, and a sentence.
-use crate::hex::say_escaped;
-use crate::output::{say, say_number};
-use crate::room::ROOM;
-use crate::streams::Streams;
-use bflan::fault::{Fault, of_fault};
-use bflan::read::{ReadAnswer, of_reading};
+ghost use Rattle.std.specs.Prelude.{Some};
+ghost use Rattle.console.specs.Refusal.{refused_text, values_text};
 
-// Says the number and the values: `refused 3 (4, 4)`.
-pub fn say_refused(streams: &mut Streams, f: Fault) {
-    let n = of_fault(f);
-    say_number(streams, b"refused ", n.0);
-    match f {
-        Fault::OtherLetters(letters) => say_number(streams, b" (", letters as usize),
-        Fault::PastEnd(offset, requested) => {
-            say_number(streams, b" (", offset);
-            say_number(streams, b", ", requested);
+use crate::hex::Escaped;
+use crate::room::{MOST, ROOM};
+use base::outcome::Answer;
+use bflan::fault::Fault;
+use bflan::read::ReadError;
+use std::fmt;
+
+// A refusal's values: one, or two with a comma between them.
+#[derive(Clone, Copy)]
+struct Values(Fault);
+
+impl fmt::Display for Values {
+    ghost output = { λ v. Some (values_text v.0) };
+
+    #[tactic(auto, unfolding(crate::specs::Refusal::values_text))]
+    fn fmt<W: fmt::Write>(&self, f: &mut fmt::Formatter<W>) -> fmt::Result {
+        match self.0 {
+            Fault::OtherLetters(letters) => write!(f, "{letters}"),
+            Fault::PastEnd(offset, requested) => write!(f, "{offset}, {requested}"),
+            Fault::NoZero(start) => write!(f, "{start}"),
         }
-        Fault::NoZero(start) => say_number(streams, b" (", start),
     }
-    say(streams, b")");
 }
 
-// A text, and a count of bytes behind it: `1 byte`, `4 bytes`.
-fn say_bytes(streams: &mut Streams, before: &[u8], n: usize) {
-    say_number(streams, before, n);
-    if n == 1 {
-        say(streams, b" byte");
-    } else {
-        say(streams, b" bytes");
+// The number and the values: `refused 3 (4, 4)`.
+#[derive(Clone, Copy)]
+pub struct Refused(pub Fault);
+
+impl fmt::Display for Refused {
+    ghost output = { λ r. Some (refused_text r.0) };
+
+    fn fmt<W: fmt::Write>(&self, f: &mut fmt::Formatter<W>) -> fmt::Result {
+        let number = self.0.numbers().0;
+        let values = Values(self.0);
+        write!(f, "refused {number} ({values})")
     }
 }
 
 // One of the four letters within quotes, which can be any byte: escaped as show_tracks does it in a text, and where it is no ASCII.
-fn say_letter(streams: &mut Streams, b: u8) {
-    match b {
-        b'"' | b'\\' => {
-            let text = [b'\\', b];
-            say(streams, &text);
+#[derive(Clone, Copy)]
+struct Letter(u8);
+
+impl fmt::Display for Letter {
+    fn fmt<W: fmt::Write>(&self, f: &mut fmt::Formatter<W>) -> fmt::Result {
+        match self.0 {
+            b'"' => f.write_str("\\\""),
+            b'\\' => f.write_str("\\\\"),
+            0x20..=0x7E => f.write_char(char::from(self.0)),
+            _ => f.write(Escaped(self.0)),
         }
-        0x20..=0x7E => {
-            let text = [b];
-            say(streams, &text);
-        }
-        _ => say_escaped(streams, b),
     }
 }
 
 // The four letters; the first is the number's lowest byte.
-fn say_letters(streams: &mut Streams, letters: u32) {
-    say_letter(streams, (letters % 256) as u8);
-    say_letter(streams, (letters / 256 % 256) as u8);
-    say_letter(streams, (letters / 65536 % 256) as u8);
-    say_letter(streams, (letters / 16777216) as u8);
+#[derive(Clone, Copy)]
+struct Letters(u32);
+
+impl fmt::Display for Letters {
+    fn fmt<W: fmt::Write>(&self, f: &mut fmt::Formatter<W>) -> fmt::Result {
+        let [a, b, c, d] = self.0.to_le_bytes();
+        write!(f, "{}{}{}{}", Letter(a), Letter(b), Letter(c), Letter(d))
+    }
 }
 
-// Says why, up to the line's end. The crate pai1 has the same sentences.
-pub fn say_why(streams: &mut Streams, f: Fault) {
-    match f {
-        Fault::OtherLetters(letters) => {
-            say(streams, b": the section's letters are \"");
-            say_letters(streams, letters);
-            say(streams, b"\" and not \"pai1\"\n");
+// A count of bytes: `1 byte`, `4 bytes`.
+#[derive(Clone, Copy)]
+struct Bytes(usize);
+
+impl fmt::Display for Bytes {
+    fn fmt<W: fmt::Write>(&self, f: &mut fmt::Formatter<W>) -> fmt::Result {
+        match self.0 {
+            1 => f.write_str("1 byte"),
+            n => write!(f, "{n} bytes"),
         }
-        Fault::PastEnd(offset, requested) => {
-            say_bytes(streams, b": the section asks for ", requested);
-            say_number(streams, b" at offset ", offset);
-            say(streams, b", past its end\n");
-        }
-        Fault::NoZero(start) => {
-            say_number(streams, b": the text at offset ", start);
-            say(streams, b" has no zero byte at its end\n");
+    }
+}
+
+// Why, up to the line's end. The crate pai1 has the same sentences.
+#[derive(Clone, Copy)]
+pub struct Why(pub Fault);
+
+impl fmt::Display for Why {
+    fn fmt<W: fmt::Write>(&self, f: &mut fmt::Formatter<W>) -> fmt::Result {
+        match self.0 {
+            Fault::OtherLetters(letters) => {
+                let letters = Letters(letters);
+                write!(
+                    f,
+                    ": the section's letters are \"{letters}\" and not \"pai1\""
+                )
+            }
+            Fault::PastEnd(offset, requested) => {
+                let bytes = Bytes(requested);
+                write!(
+                    f,
+                    ": the section asks for {bytes} at offset {offset}, past its end"
+                )
+            }
+            Fault::NoZero(start) => {
+                write!(
+                    f,
+                    ": the text at offset {start} has no zero byte at its end"
+                )
+            }
         }
     }
 }
 
 // An input that fills the room is refused as a section over the limit is. (Where it ends is not looked for, so its length is not said.)
-pub fn say_too_long(streams: &mut Streams) {
-    let n = of_reading(ReadAnswer::TooLong(ROOM));
-    say_number(streams, b"refused ", n.0);
-    say(streams, b": the input is longer than 65536 bytes\n");
+#[derive(Clone, Copy)]
+pub struct TooLong;
+
+impl fmt::Display for TooLong {
+    fn fmt<W: fmt::Write>(&self, f: &mut fmt::Formatter<W>) -> fmt::Result {
+        let number = ReadError::TooLong(ROOM).numbers().0;
+        write!(f, "refused {number}: the input is longer than {MOST} bytes")
+    }
 }

@@ -11,32 +11,15 @@ pub const ROOM: usize = 65537;
 // The words of the table.
 pub const WORDS: usize = 16384;
 
-pub fn input_room() -> [u8; ROOM]
-    ensures { 65537 ≡ length result }
-{
-    [0; ROOM]
-}
-
-pub fn words_room() -> [u32; WORDS]
-    ensures { 16384 ≡ length result }
-{
-    [0; WORDS]
-}
-
 // The text bytes of the table, and the longest output.
 pub const BYTES: usize = 65536;
-
-pub fn bytes_room() -> [u8; BYTES]
-    ensures { 65536 ≡ length result }
-{
-    [0; BYTES]
-}
 
 // What is read at once, and the longest argument.
 pub const PIECE: usize = 4096;
 
-pub fn piece_room() -> [u8; PIECE]
-    ensures { 4096 ≡ length result }
+// A room of so many zeros. (Of a large one that is written out in place a search would count the zeros.)
+pub fn room<T: Copy + Default, const N: usize>() -> [T; N]
+    ensures { length result ≡ N }
 {
-    [0; PIECE]
+    [T::default(); N]
 }

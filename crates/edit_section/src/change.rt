@@ -1,129 +1,61 @@
-// The changes that can be said: a command by its name, and the change that it says with its numbers.
-ghost use Rattle.std.specs.Prelude.{◌≤◌};
-
+// The changes that can be said: a name, and behind it the numbers of a place and the new value.
+use crate::arguments::{Arguments, Misuse};
 use base::float::{HermiteBits, from_bits, hermite_from_bits};
-use edit::edit::{Change, EditAnswer, edit};
+use edit::edit::Change;
 use edit::key::NewKey;
 
 #[derive(Clone, Copy)]
-pub(crate) enum Command {
-    Frames,
-    Looping,
-    Layer,
-    Target,
-    Constant,
-    Step,
-    Hermite,
-    Value,
+pub(crate) enum Step {
+    Make(Change),
+    // Takes back the last change that was not taken back.
     Undo,
-    // No name of a change.
-    Unknown,
 }
 
-pub(crate) fn same(a: &[u8], b: &[u8]) -> bool {
-    if a.len() != b.len() {
-        return false;
-    }
-    let mut i = 0;
-    while i < a.len() {
-        if a[i] != b[i] {
-            return false;
+// A change of a key.
+fn key(c: u32, i: u32, t: u32, k: u32, new: NewKey) -> Step {
+    Step::Make(Change::Key(c as usize, i as usize, t as usize, k as usize, new))
+}
+
+// The step that the name at argument `i` says, with the numbers behind it. A key has its floats by their bits.
+pub(crate) fn step_at(arguments: &mut Arguments, name: &str, i: usize) -> Result<Step, Misuse> {
+    let step = match name {
+        "frames" => {
+            let [v] = arguments.numbers::<1>(i)?;
+            Step::Make(Change::FrameCount(v))
         }
-        i += 1;
-    }
-    true
-}
-
-pub(crate) fn named(name: &[u8]) -> Command {
-    if same(name, b"frames") {
-        return Command::Frames;
-    }
-    if same(name, b"looping") {
-        return Command::Looping;
-    }
-    if same(name, b"layer") {
-        return Command::Layer;
-    }
-    if same(name, b"target") {
-        return Command::Target;
-    }
-    if same(name, b"constant") {
-        return Command::Constant;
-    }
-    if same(name, b"step") {
-        return Command::Step;
-    }
-    if same(name, b"hermite") {
-        return Command::Hermite;
-    }
-    if same(name, b"value") {
-        return Command::Value;
-    }
-    if same(name, b"undo") {
-        return Command::Undo;
-    }
-    Command::Unknown
-}
-
-// How many numbers stand behind a name. (No argument is left for those of an unknown one.)
-pub(crate) fn numbers_of(c: Command) -> usize {
-    match c {
-        Command::Frames => 1,
-        Command::Looping => 1,
-        Command::Layer => 4,
-        Command::Target => 4,
-        Command::Constant => 5,
-        Command::Step => 6,
-        Command::Hermite => 7,
-        Command::Value => 6,
-        Command::Undo => 0,
-        Command::Unknown => usize::MAX,
-    }
-}
-
-pub(crate) fn at(numbers: &[u32], i: usize) -> u32 {
-    if i < numbers.len() {
-        return numbers[i];
-    }
-    0
-}
-
-// A key by the bits of its floats: the numbers behind the place.
-fn key_of(c: Command, numbers: &[u32]) -> NewKey {
-    let x = at(numbers, 4);
-    let y = at(numbers, 5);
-    match c {
-        Command::Step => NewKey::Step(from_bits(x), y),
-        Command::Hermite => {
-            NewKey::Hermite(hermite_from_bits(HermiteBits(x, y, at(numbers, 6))))
+        "looping" => {
+            let [v] = arguments.numbers::<1>(i)?;
+            Step::Make(Change::Looping(v))
         }
-        _ => NewKey::Constant(from_bits(x)),
-    }
-}
-
-// The change that a command says: the place, and behind it the new value.
-fn change_of(c: Command, numbers: &[u32]) -> Change {
-    let a = at(numbers, 0) as usize;
-    let b = at(numbers, 1) as usize;
-    let d = at(numbers, 2) as usize;
-    let e = at(numbers, 3) as usize;
-    match c {
-        Command::Frames => Change::FrameCount(at(numbers, 0)),
-        Command::Looping => Change::Looping(at(numbers, 0)),
-        Command::Layer => Change::Layer(a, b, d, at(numbers, 3)),
-        Command::Target => Change::Target(a, b, d, at(numbers, 3)),
-        Command::Value => Change::Value(a, b, d, e, at(numbers, 4) as usize, at(numbers, 5)),
-        _ => Change::Key(a, b, d, e, key_of(c, numbers)),
-    }
-}
-
-// A change of a field.
-pub(crate) fn edited(
-    section: &mut [u8],
-    journal: &mut [u32],
-    count: usize,
-    c: Command,
-    numbers: &[u32],
-) -> EditAnswer {
-    edit(section, journal, count, change_of(c, numbers))
+        "layer" => {
+            let [c, i, t, v] = arguments.numbers::<4>(i)?;
+            Step::Make(Change::Layer(c as usize, i as usize, t as usize, v))
+        }
+        "target" => {
+            let [c, i, t, v] = arguments.numbers::<4>(i)?;
+            Step::Make(Change::Target(c as usize, i as usize, t as usize, v))
+        }
+        "constant" => {
+            let [c, i, t, k, v] = arguments.numbers::<5>(i)?;
+            key(c, i, t, k, NewKey::Constant(from_bits(v)))
+        }
+        "step" => {
+            let [c, i, t, k, frame, v] = arguments.numbers::<6>(i)?;
+            key(c, i, t, k, NewKey::Step(from_bits(frame), v))
+        }
+        "hermite" => {
+            let [c, i, t, k, frame, v, slope] = arguments.numbers::<7>(i)?;
+            let h = hermite_from_bits(HermiteBits(frame, v, slope));
+            key(c, i, t, k, NewKey::Hermite(h))
+        }
+        "value" => {
+            let [c, i, d, l, n, v] = arguments.numbers::<6>(i)?;
+            Step::Make(Change::Value(
+                c as usize, i as usize, d as usize, l as usize, n as usize, v,
+            ))
+        }
+        "undo" => Step::Undo,
+        _ => return Err(Misuse::NoName(i)),
+    };
+    Ok(step)
 }

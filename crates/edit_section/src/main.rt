@@ -30,36 +30,31 @@
 // output cannot be written, standard error says so, and what is written is the beginning of the output.
 #![tactic(auto)]
 
-mod answer;
+mod arguments;
 mod change;
-mod number;
+mod refusal;
 mod show;
 
-ghost use Rattle.std.specs.Prelude.{◌≡◌, length};
-
-use crate::answer::{Step, after_edit, after_undo};
-use crate::change::{Command, edited, named, numbers_of, same};
-use crate::number::read_numbers;
-use crate::show::{Named, place_named, place_numbers, show};
-use base::part::part;
+use crate::arguments::{Arguments, Complaint};
+use crate::change::{Step, step_at};
+use crate::refusal::{Refusal, RefusedAt};
+use crate::show::{Shown, place_at};
 use console::argument::{Asked, arg, arg_count, arguments};
-use console::input::{Input, read_input};
-use console::output::{can_say, fail, finish, say, say_number_to, say_to};
-use console::refusal::say_too_long;
-use console::room::{MOST, input_room, piece_room};
-use console::streams::{Stream, Streams};
+use console::input::read_input;
+use console::program::{Failure, Program};
+use console::refusal::TooLong;
+use console::room::{MOST, PIECE, ROOM, room};
+use edit::edit::{EditError, edit};
+use edit::field::field_at;
 use edit::undo::undo;
+use std::{fmt, io};
 
 // The words of the journal: a thousand entries.
 const JOURNAL: usize = 5000;
-// The most numbers behind the name of a change.
-const NUMBERS: usize = 7;
 
-fn say_usage(streams: &mut Streams, to: Stream) {
-    say_to(
-        streams,
-        to,
-        b"usage: edit_section CHANGE.. < section, where a CHANGE is one of\n  \
+const PROGRAM: Program = Program {
+    name: "edit_section",
+    usage: "usage: edit_section CHANGE.. < section, where a CHANGE is one of\n  \
           frames V, looping V, layer C I T V, target C I T V, value C I D L N V,\n  \
           constant C I T K V, step C I T K F V, hermite C I T K F V S, undo\n\
           Content, Info, Target, Key, Datum, List and its Number count from 0. A number is\n\
@@ -71,183 +66,125 @@ fn say_usage(streams: &mut Streams, to: Stream) {
           edit_section show PLACE.. < section says what stands at places now, each as the change that\n\
           would put it there: frames, looping, layer C I T, target C I T, key C I T K, value C I D L N\n\
           example: edit_section frames 60 looping 1 < crates/round_trip/stdin > edited.pai1\n",
-    );
+    undone: "no section was written",
+};
+
+// Why not all that the arguments say is done.
+#[derive(Clone, Copy)]
+enum Stop {
+    Misused(Complaint),
+    Refused(RefusedAt),
+    Unwritten(io::Error),
 }
 
-// Says what is wrong with the change at argument `i`, which is unknown or has too few arguments behind it, and how changes are said.
-fn say_none(streams: &mut Streams, i: usize, c: Command) {
-    say_number_to(streams, Stream::Error, b"argument ", i);
-    match c {
-        Command::Unknown => say_to(streams, Stream::Error, b" is no name of a change\n"),
-        _ => say_to(
-            streams,
-            Stream::Error,
-            b" is a change with too few numbers behind it\n",
-        ),
-    }
-    say_usage(streams, Stream::Error);
-}
-
-// Makes a change that stands at argument `i`.
-fn make(
-    streams: &mut Streams,
-    section: &mut [u8],
-    journal: &mut [u32],
-    count: usize,
-    c: Command,
-    numbers: &[u32],
-    i: usize,
-) -> Step {
-    match c {
-        Command::Undo => after_undo(streams, undo(section, journal, count), i),
-        _ => after_edit(streams, edited(section, journal, count, c, numbers), i),
+impl From<io::Error> for Stop {
+    fn from(error: io::Error) -> Stop {
+        Stop::Unwritten(error)
     }
 }
 
-// Makes the changes that the arguments say, and answers whether all were made; if not, it has said why.
-fn make_all(
-    streams: &mut Streams,
-    section: &mut [u8],
-    journal: &mut [u32],
-    numbers: &mut [u32],
-    room: &mut [u8],
-) -> bool {
-    let most = arg_count(streams.rt);
-    let mut i = 1;
+// Makes the changes that the arguments say. (A proved loop has to end: there are no more of them than arguments.)
+fn make_all(rt: HostRuntime, section: &mut [u8]) -> Result<(), Stop> {
+    let mut arguments = Arguments::behind(rt, 1);
+    let mut journal = room::<u32, JOURNAL>();
     let mut count = 0;
-    while i < most {
-        let n = arg(streams.rt, i, room);
-        let c = named(part(room, 0, n));
-        let k = numbers_of(c);
-        if most - i <= k {
-            say_none(streams, i, c);
-            return false;
-        }
-        if !read_numbers(streams, i + 1, k, numbers, room) {
-            say_usage(streams, Stream::Error);
-            return false;
-        }
-        match make(streams, section, journal, count, c, numbers, i) {
-            Step::On(next) => count = next,
-            Step::Stopped => return false,
-        }
-        i += k + 1;
+    for _ in 0..arg_count(rt) {
+        let Some(i) = arguments.next() else {
+            break;
+        };
+        let mut text = [0; PIECE];
+        let name = arg(rt, i, &mut text).unwrap_or("");
+        let step = step_at(&mut arguments, name, i).map_err(|misuse| Stop::Misused(Complaint(
+            misuse, "change",
+        )))?;
+        let made = match step {
+            Step::Make(change) => edit(section, &mut journal, count, change).map_err(Refusal::Edit),
+            Step::Undo => undo(section, &journal, count).map_err(Refusal::Undo),
+        };
+        count = made.map_err(|refusal| Stop::Refused(RefusedAt(i, refusal)))?;
     }
-    true
+    Ok(())
 }
 
-// Says what is wrong with the place at argument `i`, as `say_none` does for a change.
-fn say_no_place(streams: &mut Streams, i: usize, p: Named) {
-    say_number_to(streams, Stream::Error, b"argument ", i);
-    match p {
-        Named::Unknown => say_to(streams, Stream::Error, b" is no name of a place\n"),
-        _ => say_to(
-            streams,
-            Stream::Error,
-            b" is a place with too few numbers behind it\n",
-        ),
+// Standard output, and whether each line of it was written: behind one that was not, nothing more is.
+#[derive(Clone, Copy)]
+struct Output {
+    complete: bool,
+}
+
+impl Output {
+    fn say<T: fmt::Display + Drop>(&mut self, rt: HostRuntime, line: T) {
+        if self.complete {
+            if let Err(error) = println!(rt; "{line}") {
+                PROGRAM.say_unwritten(rt, error);
+                self.complete = false;
+            }
+        }
     }
-    say_usage(streams, Stream::Error);
 }
 
 // Says what stands at the places that the arguments behind `show` say.
-fn show_all(streams: &mut Streams, section: &[u8], numbers: &mut [u32], room: &mut [u8]) {
-    let most = arg_count(streams.rt);
-    let mut i = 2;
-    while i < most {
-        let n = arg(streams.rt, i, room);
-        let p = place_named(part(room, 0, n));
-        let k = place_numbers(p);
-        if most - i <= k {
-            say_no_place(streams, i, p);
-            return;
-        }
-        if !read_numbers(streams, i + 1, k, numbers, room) {
-            say_usage(streams, Stream::Error);
-            return;
-        }
-        if !show(streams, section, p, numbers, i) {
-            return;
-        }
-        i += k + 1;
+fn show_all(rt: HostRuntime, section: &[u8], output: &mut Output) -> Result<(), Stop> {
+    let mut arguments = Arguments::behind(rt, 2);
+    for _ in 0..arg_count(rt) {
+        let Some(i) = arguments.next() else {
+            break;
+        };
+        let mut text = [0; PIECE];
+        let name = arg(rt, i, &mut text).unwrap_or("");
+        let place = place_at(&mut arguments, name, i).map_err(|misuse| Stop::Misused(Complaint(
+            misuse, "place",
+        )))?;
+        let value = field_at(section, place).map_err(|error| Stop::Refused(RefusedAt(
+            i,
+            Refusal::Edit(EditError::from(error)),
+        )))?;
+        output.say(rt, Shown(place, value));
     }
+    Ok(())
 }
 
 // Whether the first argument is `show`.
-fn shows(rt: HostRuntime, room: &mut [u8]) -> bool {
-    let n = arg(rt, 1, room);
-    same(part(room, 0, n), b"show")
+fn shows(rt: HostRuntime) -> bool {
+    let mut text = [0; PIECE];
+    arg(rt, 1, &mut text) == Some("show")
 }
 
-fn run(
-    streams: &mut Streams,
-    section: &mut [u8],
-    journal: &mut [u32],
-    numbers: &mut [u32],
-    room: &mut [u8],
-) {
-    if shows(streams.rt, room) {
-        show_all(streams, section, numbers, room);
-        return;
+// Does what the arguments say with a section that was read.
+fn run(rt: HostRuntime, section: &mut [u8], output: &mut Output) -> Result<(), Stop> {
+    if shows(rt) {
+        return show_all(rt, section, output);
     }
-    if make_all(streams, section, journal, numbers, room) {
-        say(streams, section);
-    }
+    make_all(rt, section)?;
+    rt.write_all(section)?;
+    Ok(())
 }
 
-fn journal_room() -> [u32; JOURNAL]
-    ensures { 5000 ≡ length result }
-{
-    [0; JOURNAL]
-}
-
-fn numbers_room() -> [u32; NUMBERS]
-    ensures { 7 ≡ length result }
-{
-    [0; NUMBERS]
-}
-
-// Makes the changes in a section that was read.
-fn edit_read(streams: &mut Streams, section: &mut [u8]) {
-    let mut journal = journal_room();
-    let mut numbers = numbers_room();
-    let mut word = piece_room();
-    run(streams, section, &mut journal, &mut numbers, &mut word);
-}
-
-fn run_program(streams: &mut Streams) {
-    if !can_say(
-        streams,
-        b"edit_section: no section was written, since standard output could not be written",
-    ) {
-        return;
-    }
-    let mut room = input_room();
-    let Input::Bytes(n) = read_input(streams, &mut room) else {
-        fail(
-            streams,
-            b"edit_section: no section was written, since standard input could not be read",
-        );
-        return;
-    };
+fn edit_input(rt: HostRuntime) -> Result<(), Failure> {
+    let mut bytes = room::<u8, ROOM>();
+    let n = read_input(&mut rt.stdin(), &mut bytes).map_err(Failure::Input)?;
     if MOST < n {
-        say_too_long(streams);
-    } else {
-        edit_read(streams, &mut room[0..n]);
+        println!(rt; "{TooLong}")?;
+        return Ok(());
     }
-    finish(streams, b"edit_section");
-}
-
-fn help(streams: &mut Streams) {
-    say_usage(streams, Stream::Output);
-    finish(streams, b"edit_section");
+    let mut output = Output { complete: true };
+    match run(rt, &mut bytes[..n], &mut output) {
+        Ok(()) => {}
+        Err(Stop::Misused(complaint)) => {
+            let _ = eprint!(rt; "{complaint}\n{}", PROGRAM.usage);
+        }
+        Err(Stop::Refused(refused)) => output.say(rt, refused),
+        Err(Stop::Unwritten(error)) => return Err(Failure::Output(error)),
+    }
+    if !output.complete {
+        PROGRAM.say_incomplete(rt);
+    }
+    Ok(())
 }
 
 fn main(rt: HostRuntime) {
-    let mut streams = Streams::new(rt);
     match arguments(rt) {
-        Asked::Nothing => help(&mut streams),
-        Asked::Help => help(&mut streams),
-        Asked::Other => run_program(&mut streams),
+        Asked::Nothing | Asked::Help => PROGRAM.help(rt),
+        Asked::Other => PROGRAM.run(rt, edit_input),
     }
 }

@@ -1,15 +1,14 @@
 // Finding the texts of a section that is read, into a scratch that stands among marked places.
 ghost use Rattle.std.specs.Prelude.{◌≤◌, length};
 
-use crate::compare::{BEFORE, bytes_marked, mark_bytes, same_bytes};
-use crate::input::{Case, bytes_of};
-use crate::reading::same_answer;
-use crate::record::{Met, Place, first, meet, plus};
-use crate::report::{DECODED, IN_SECTION, REPLACED, add, bump, note};
-use base::outcome::Numbers;
+use crate::compare::{BEFORE, is_right, mark};
+use crate::input::{Case, Rest};
+use crate::record::{Met, Place};
+use crate::report::Counts;
+use base::outcome::Answer;
 use base::part::part;
-use bflan::find::{FindAnswer, find_text, of_finding, text_part};
-use console::streams::Streams;
+use bflan::find::{FindError, Found, find_text, text_part};
+use std::io;
 
 // The scratch, where it ends, and all places.
 const SCRATCH: usize = 320;
@@ -18,235 +17,149 @@ const END: usize = 328;
 
 const ALL: usize = 336;
 
-// More steps than a record of the sample takes.
-const MANY: usize = 1000;
-
-// How far the texts were looked for: the place in the record's words, the number of the next text, where its bytes begin, and how many
-// replaced characters of the sum that the reading gave are still to come.
-#[derive(Clone, Copy)]
-struct Walk {
-    place: Place,
-    text: usize,
-    at: usize,
-    left: usize,
-}
-
-// Whether a text is right, and how many characters of it were replaced.
-#[derive(Clone, Copy)]
-struct Seen(bool, usize);
-
-#[derive(Clone, Copy)]
-enum Turn {
-    On(Walk),
-    // All texts are right, or one is not.
-    Done(bool),
-}
-
 // Looks for a text.
-fn find_among(section: &[u8], t: usize, places: &mut [u8]) -> FindAnswer
+fn find_among(section: &[u8], t: usize, places: &mut [u8]) -> Result<Found, FindError>
     requires { 328 ≤ length places.old }
 {
     find_text(section, t, &mut places[BEFORE..END])
 }
 
-// Whether only the first bytes of the scratch have changed, as many as the text has there.
-fn kept(places: &[u8], source: usize, start: usize, len: usize) -> bool {
-    if source == 0 {
-        return bytes_marked(places, 0, ALL);
-    }
-    if source != 1 {
-        return false;
-    }
-    if start != 0 {
-        return false;
-    }
-    if len > SCRATCH {
-        return false;
-    }
-    bytes_marked(places, 0, BEFORE) && bytes_marked(places, len + BEFORE, ALL)
+// A text that was found: whether it was decoded, and how many of its characters were replaced.
+#[derive(Clone, Copy)]
+struct Shown {
+    decoded: bool,
+    replaced: usize,
 }
 
-// Whether the text that was found is the one that is wanted.
-fn right<'a>(
-    section: &'a [u8],
-    places: &'a [u8],
-    source: usize,
-    start: usize,
-    len: usize,
-    wanted: &[u8],
-) -> bool {
-    let text = text_part(section, part(places, BEFORE, SCRATCH), source, start, len);
-    text.len() == len
-        && len == wanted.len()
-        && same_bytes(text, 0, wanted)
-        && kept(places, source, start, len)
-}
-
-// Counts a text by its source.
-fn count_text(source: usize, counts: &mut [u64]) {
-    if source == 0 {
-        bump(counts, IN_SECTION);
-    } else {
-        bump(counts, DECODED);
+// Text t, if it is the one that is wanted: it stands in the section, with no replaced character and all places as they were; or it was
+// decoded, with some, and only the first bytes of the scratch have changed, as many as it has there.
+fn find_wanted(section: &[u8], t: usize, wanted: &[u8]) -> Option<Shown> {
+    let mut places = [0; ALL];
+    mark(&mut places);
+    let Found {
+        source,
+        start,
+        len,
+        replaced,
+    } = find_among(section, t, &mut places).ok()?;
+    if text_part(section, part(&places, BEFORE, SCRATCH), source, start, len) != wanted {
+        return None;
     }
-}
-
-// Whether a text has replaced characters where it was decoded, and none where it lies in the section.
-fn replaced_right(source: usize, replaced: usize) -> bool {
-    if source == 0 {
-        return replaced == 0;
-    }
-    replaced > 0
-}
-
-// Whether the text is the one that is wanted; if so it is counted.
-fn found<'a>(
-    section: &'a [u8],
-    places: &'a [u8],
-    source: usize,
-    start: usize,
-    len: usize,
-    wanted: &[u8],
-    counts: &mut [u64],
-) -> bool {
-    if right(section, places, source, start, len, wanted) {
-        count_text(source, counts);
-        return true;
-    }
-    false
-}
-
-// Text t, held to the one that is wanted.
-fn find_one(section: &[u8], t: usize, wanted: &[u8], counts: &mut [u64]) -> Seen {
-    let mut places = [0u8; ALL];
-    mark_bytes(&mut places);
-    let answer = find_among(section, t, &mut places);
-    match answer {
-        FindAnswer::Found(source, start, len, replaced) => Seen(
-            replaced_right(source, replaced)
-                && found(section, &places, source, start, len, wanted, counts),
+    let right = match source {
+        0 => replaced == 0 && is_right(&places, b""),
+        1 => replaced > 0 && start == 0 && is_right(&places, wanted),
+        _ => false,
+    };
+    if right && len == wanted.len() {
+        Some(Shown {
+            decoded: source == 1,
             replaced,
-        ),
-        _ => Seen(false, 0),
+        })
+    } else {
+        None
     }
 }
 
 // Whether there is no text t.
 fn find_none(section: &[u8], t: usize) -> bool {
-    let mut places = [0u8; ALL];
-    mark_bytes(&mut places);
-    let answer = find_among(section, t, &mut places);
-    match answer {
-        FindAnswer::NoSuchText => bytes_marked(&places, 0, ALL),
+    let mut places = [0; ALL];
+    mark(&mut places);
+    match find_among(section, t, &mut places) {
+        Err(FindError::NoSuchText) => is_right(&places, b""),
         _ => false,
     }
 }
 
-// Looks for the next text, which has `len` bytes; the walk goes on at `place`.
-fn next_text(
-    section: &[u8],
-    texts: &[u8],
-    walk: Walk,
-    len: usize,
+// More steps than a record of the sample takes.
+const MANY: usize = 1000;
+
+// How far the texts of a record were looked for: the place in its words, its text bytes that are still to come, the number of the next text, how
+// many replaced characters of the sum that the reading gave are still to come, and how many texts were found.
+#[derive(Clone, Copy)]
+struct Walk<'a> {
+    section: &'a [u8],
     place: Place,
-    counts: &mut [u64],
-) -> Turn {
-    let t = walk.text;
-    let at = walk.at;
-    let wanted = part(texts, at, len);
-    if wanted.len() != len {
-        return Turn::Done(false);
-    }
-    let left = walk.left;
-    let seen = find_one(section, t, wanted, counts);
-    if seen.0 {
-        if seen.1 <= left {
-            return Turn::On(Walk {
-                place,
-                text: plus(t, 1),
-                at: plus(at, len),
-                left: left - seen.1,
-            });
+    texts: Rest<'a>,
+    text: usize,
+    left: usize,
+    in_section: u64,
+    decoded: u64,
+}
+
+impl Walk<'_> {
+    // Looks for the next text, which has `len` bytes. None if it is not the section's.
+    fn text(&mut self, len: usize) -> Option<()> {
+        let wanted = self.texts.take(len)?;
+        let Shown { decoded, replaced } = find_wanted(self.section, self.text, wanted)?;
+        if decoded {
+            self.decoded = self.decoded.wrapping_add(1);
+        } else {
+            self.in_section = self.in_section.wrapping_add(1);
         }
+        self.left = self.left.checked_sub(replaced)?;
+        self.text = self.text.wrapping_add(1);
+        Some(())
     }
-    Turn::Done(false)
-}
 
-// Whether the record ends where its words, its texts and the section's texts end, and no replaced character is left.
-fn ended(section: &[u8], words: &[u8], texts: &[u8], walk: Walk) -> bool {
-    let place = walk.place;
-    place.at == words.len() / 4
-        && walk.at == texts.len()
-        && walk.left == 0
-        && find_none(section, walk.text)
-}
-
-// A step through the record.
-fn step(section: &[u8], words: &[u8], texts: &[u8], walk: Walk, counts: &mut [u64]) -> Turn {
-    let met = meet(words, walk.place);
-    match met {
-        Met::Length(len, next) => next_text(section, texts, walk, len, next, counts),
-        Met::Other(next) => Turn::On(Walk {
-            place: next,
-            text: walk.text,
-            at: walk.at,
-            left: walk.left,
-        }),
-        Met::End => Turn::Done(ended(section, words, texts, walk)),
+    // Walks over the words of a record: whether each text is the section's, and the record ends where its words, its texts and the section's
+    // texts end, with no replaced character left.
+    fn record(&mut self, words: &[u8]) -> Option<bool> {
+        for _ in 0..MANY {
+            self.place = match self.place.meet(words) {
+                Met::Length(len, next) => {
+                    self.text(len)?;
+                    next
+                }
+                Met::Other(next) => next,
+                Met::End => {
+                    return Some(
+                        self.place.at == words.len() / 4
+                            && self.texts.0.is_empty()
+                            && self.left == 0
+                            && find_none(self.section, self.text),
+                    );
+                }
+            };
+        }
+        None
     }
 }
 
-// Whether the texts of a section are those of the record, and so many of their characters are replaced.
-fn find_all(
-    section: &[u8],
-    words: &[u8],
-    texts: &[u8],
-    replaced: usize,
-    counts: &mut [u64],
-) -> bool {
+// Whether the texts of a case's section are those of its record, and so many of their characters are replaced.
+fn find_all(c: &Case, replaced: usize, counts: &mut Counts) -> bool {
     let mut walk = Walk {
-        place: first(words),
+        section: c.section,
+        place: Place::first(c.record_words),
+        texts: Rest(c.record_texts),
         text: 0,
-        at: 0,
         left: replaced,
+        in_section: 0,
+        decoded: 0,
     };
-    let mut turns = 0;
-    while turns < MANY {
-        let next = step(section, words, texts, walk, counts);
-        match next {
-            Turn::On(w) => {
-                walk = w;
-            }
-            Turn::Done(right) => {
-                return right;
-            }
-        }
-        turns += 1;
-    }
-    false
-}
-
-// Whether looking for a text is refused as reading is.
-fn refused(section: &[u8], answer: Numbers) -> bool {
-    let mut places = [0u8; ALL];
-    mark_bytes(&mut places);
-    let found = find_among(section, 0, &mut places);
-    same_answer(of_finding(found), answer) && bytes_marked(&places, 0, ALL)
+    let right = walk.record(c.record_words).unwrap_or(false);
+    counts.in_section = counts.in_section.wrapping_add(walk.in_section);
+    counts.decoded = counts.decoded.wrapping_add(walk.decoded);
+    right
 }
 
 // Looks for the texts of a case. (Where the tables are too short, the sample has no texts.)
-pub(crate) fn find_texts(streams: &mut Streams, sample: &[u8], c: Case, counts: &mut [u64]) {
+pub(crate) fn find_texts(out: HostRuntime, c: &Case, counts: &mut Counts) -> io::Result<()> {
     let answer = c.answer;
-    let section = bytes_of(sample, c.section);
-    if answer.0 == 0 {
-        let words = bytes_of(sample, c.record_words);
-        let texts = bytes_of(sample, c.record_texts);
-        let right = find_all(section, words, texts, answer.3, counts);
-        note(streams, counts, right, b"texts found");
-        add(counts, REPLACED, answer.3 as u64);
-        return;
-    }
-    if answer.0 != 5 {
-        note(streams, counts, refused(section, answer), b"text refused");
+    match answer.0 {
+        0 => {
+            let right = find_all(c, answer.3, counts);
+            counts.note(out, right, "texts found")?;
+            counts.replaced = counts.replaced.wrapping_add(answer.3 as u64);
+            Ok(())
+        }
+        5 => Ok(()),
+        // looking for a text is refused as reading is
+        _ => {
+            let mut places = [0; ALL];
+            mark(&mut places);
+            let found = find_among(c.section, 0, &mut places).numbers();
+            let right = found == answer && is_right(&places, b"");
+            counts.note(out, right, "text refused")
+        }
     }
 }

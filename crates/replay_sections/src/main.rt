@@ -15,142 +15,81 @@ mod record;
 mod report;
 mod writing;
 
-ghost use Rattle.std.specs.Prelude.{◌≡◌, length};
-
 use crate::finding::find_texts;
-use crate::input::{Case, Next, Record, next_case};
+use crate::input::{Item, Rest};
 use crate::reading::read_section;
-use crate::report::{COUNTS, count_case, malformed, report};
+use crate::report::Counts;
 use crate::writing::write_record;
-use base::part::part;
-use console::argument::{Asked, arguments};
-use console::input::{Input, read_input};
-use console::output::{can_say, fail, finish, say_to};
-use console::streams::{Stream, Streams};
+use console::input::read_input;
+use console::program::{Failure, Program};
+use console::room::room;
+use std::io;
 
 // The room for the sample.
 const ROOM: usize = 1048576;
 
-// Replays the case of a section. False if it is none that the program is made for.
-fn replay_section(streams: &mut Streams, sample: &[u8], c: Case, counts: &mut [u64]) -> bool {
-    let answer = c.answer;
-    if !count_case(counts, answer.0) {
-        return false;
-    }
-    if !read_section(streams, sample, c, counts) {
-        return false;
-    }
-    find_texts(streams, sample, c, counts);
-    true
-}
-
-// The same for a record.
-fn replay_record(streams: &mut Streams, sample: &[u8], r: Record, counts: &mut [u64]) -> bool {
-    let answer = r.answer;
-    if !count_case(counts, answer.0) {
-        return false;
-    }
-    write_record(streams, sample, r, counts)
-}
-
-// The position behind a case that was replayed, or the same position.
-fn behind(right: bool, at: usize, end: usize) -> usize {
-    if right { end } else { at }
-}
-
-// Replays the case at a position and gives the position behind it; where there is no case, the same position.
-fn step(streams: &mut Streams, sample: &[u8], at: usize, counts: &mut [u64]) -> usize {
-    let next = next_case(sample, at);
-    match next {
-        Next::Bad => at,
-        Next::Case(c, end) => behind(replay_section(streams, sample, c, counts), at, end),
-        Next::Record(r, end) => behind(replay_record(streams, sample, r, counts), at, end),
-    }
-}
-
-// Replays all cases, and gives where it stopped: at the sample's end, if that is well-formed.
-fn replay(streams: &mut Streams, sample: &[u8], counts: &mut [u64]) -> usize {
-    let mut at = 0;
-    while at < sample.len() {
-        let next = step(streams, sample, at, counts);
-        if next <= at {
-            return at;
-        }
-        at = next;
-    }
-    at
-}
-
-// Replays a sample and reports.
-fn replay_all(streams: &mut Streams, sample: &[u8]) {
-    let mut counts = [0u64; COUNTS];
-    let end = replay(streams, sample, &mut counts);
-    report(streams, &counts);
-    // a sample that fills the room may have been cut
-    if end < sample.len() || sample.len() >= ROOM {
-        malformed(streams, end);
-    }
-}
-
-// The room, empty.
-fn room() -> [u8; ROOM]
-    ensures { 1048576 ≡ length result }
-{
-    [0; ROOM]
-}
-
-// Replays the first n bytes of the room.
-fn replay_read(streams: &mut Streams, bytes: &[u8], n: usize) {
-    replay_all(streams, part(bytes, 0, n));
-    finish(streams, b"replay_sections");
-}
-
-fn run_program(streams: &mut Streams) {
-    if !can_say(
-        streams,
-        b"replay_sections: nothing was replayed, since standard output could not be written",
-    ) {
-        return;
-    }
-    let mut bytes = room();
-    match read_input(streams, &mut bytes) {
-        Input::Bytes(n) => replay_read(streams, &bytes, n),
-        Input::Failed => {
-            fail(
-                streams,
-                b"replay_sections: nothing was replayed, since standard input could not be read",
-            )
-        }
-    }
-}
-
-fn say_usage(streams: &mut Streams, to: Stream) {
-    say_to(
-        streams,
-        to,
-        b"usage: replay_sections < sample\n\
+const PROGRAM: Program = Program {
+    name: "replay_sections",
+    usage: "usage: replay_sections < sample\n\
           Reads a sample of sections and records with the Rust's answers from standard input, of less\n\
           than 1048576 bytes, replays each case, and writes a report to standard output: how many\n\
           cases there are of each answer, and each difference.\n\
           example: replay_sections < crates/replay_sections/stdin\n",
-    );
+    undone: "nothing was replayed",
+};
+
+// Replays a case. False if it is none that the program is made for.
+fn replay_case(out: HostRuntime, item: &Item, counts: &mut Counts) -> io::Result<bool> {
+    match item {
+        Item::Case(c) => {
+            let right = counts.case(c.answer.0) && read_section(out, c, counts)?;
+            if right {
+                find_texts(out, c, counts)?;
+            }
+            Ok(right)
+        }
+        Item::Record(r) => Ok(counts.case(r.answer.0) && write_record(out, r, counts)?),
+    }
+}
+
+// Replays all cases, and gives what is left of the sample: nothing, if that is well-formed. (A proved loop has to end: no case is without a
+// byte.)
+fn replay<'a>(out: HostRuntime, sample: &'a [u8], counts: &mut Counts) -> io::Result<Rest<'a>> {
+    let mut rest = Rest(sample);
+    for _ in 0..sample.len() {
+        let mut behind = rest;
+        let Some(item) = behind.item() else {
+            break;
+        };
+        if !replay_case(out, &item, counts)? {
+            break;
+        }
+        rest = behind;
+    }
+    Ok(rest)
+}
+
+// Replays a sample and reports.
+fn replay_all(out: HostRuntime, sample: &[u8]) -> io::Result<()> {
+    let mut counts = Counts::new();
+    let rest = replay(out, sample, &mut counts)?;
+    print!(out; "{counts}")?;
+    let left = rest.0.len();
+    // a sample that fills the room may have been cut
+    if left > 0 || sample.len() >= ROOM {
+        let at = sample.len().saturating_sub(left);
+        println!(out; "malformed sample: no case at byte {at}")?;
+    }
+    Ok(())
+}
+
+fn replay_input(rt: HostRuntime) -> Result<(), Failure> {
+    let mut sample = room::<u8, ROOM>();
+    let n = read_input(&mut rt.stdin(), &mut sample).map_err(Failure::Input)?;
+    replay_all(rt, &sample[..n])?;
+    Ok(())
 }
 
 fn main(rt: HostRuntime) {
-    let mut streams = Streams::new(rt);
-    match arguments(rt) {
-        Asked::Nothing => run_program(&mut streams),
-        Asked::Help => {
-            say_usage(&mut streams, Stream::Output);
-            finish(&mut streams, b"replay_sections");
-        }
-        Asked::Other => {
-            say_to(
-                &mut streams,
-                Stream::Error,
-                b"replay_sections takes no argument\n",
-            );
-            say_usage(&mut streams, Stream::Error);
-        }
-    }
+    PROGRAM.start(rt, replay_input)
 }

@@ -1,101 +1,65 @@
 // What is counted, and the report.
-use console::output::{say, say_number};
-use console::streams::Streams;
-use std::num::wrapping_add_u64;
+use std::{fmt, io};
 
-// The counts: first those of the answers with each number, then these.
+// The numbers of answers.
 const ANSWERS: usize = 10;
 
-pub(crate) const IN_SECTION: usize = 10;
+#[derive(Clone, Copy)]
+pub(crate) struct Counts {
+    pub(crate) cases: u64,
+    pub(crate) records: u64,
+    // of the answers with each number
+    pub(crate) answers: [u64; ANSWERS],
+    pub(crate) in_section: u64,
+    pub(crate) decoded: u64,
+    pub(crate) replaced: u64,
+    pub(crate) differences: u64,
+}
 
-pub(crate) const DECODED: usize = 11;
+impl Counts {
+    pub(crate) fn new() -> Counts {
+        Counts {
+            cases: 0,
+            records: 0,
+            answers: [0; ANSWERS],
+            in_section: 0,
+            decoded: 0,
+            replaced: 0,
+            differences: 0,
+        }
+    }
 
-pub(crate) const REPLACED: usize = 12;
+    // Counts a case whose answer has this number. False where no answer has it.
+    pub(crate) fn case(&mut self, number: usize) -> bool {
+        let Some(answers) = self.answers.get_mut(number) else {
+            return false;
+        };
+        *answers = answers.wrapping_add(1);
+        self.cases = self.cases.wrapping_add(1);
+        true
+    }
 
-pub(crate) const RECORDS: usize = 13;
-
-const CASES: usize = 14;
-
-const DIFFERENCES: usize = 15;
-
-pub(crate) const COUNTS: usize = 16;
-
-// So many more at a place.
-pub(crate) fn add(counts: &mut [u64], place: usize, more: u64) {
-    if place < counts.len() {
-        counts[place] = wrapping_add_u64(counts[place], more);
+    // Counts and reports a difference in the present case, unless it is right.
+    pub(crate) fn note(&mut self, out: HostRuntime, right: bool, what: &str) -> io::Result<()> {
+        if right {
+            return Ok(());
+        }
+        self.differences = self.differences.wrapping_add(1);
+        println!(out; "case {}: difference in {what}", self.cases)
     }
 }
 
-// One more at a place.
-pub(crate) fn bump(counts: &mut [u64], place: usize) {
-    add(counts, place, 1);
-}
-
-fn count(counts: &[u64], place: usize) -> u64 {
-    if place < counts.len() {
-        return counts[place];
+impl fmt::Display for Counts {
+    fn fmt<W: fmt::Write>(&self, f: &mut fmt::Formatter<W>) -> fmt::Result {
+        writeln!(f, "cases {}, of these {} records", self.cases, self.records)?;
+        for (number, n) in self.answers.iter().enumerate() {
+            writeln!(f, "answer {number}: {n}")?;
+        }
+        writeln!(
+            f,
+            "texts {} in the section, {} decoded, replaced {}",
+            self.in_section, self.decoded, self.replaced
+        )?;
+        writeln!(f, "differences {}", self.differences)
     }
-    0
-}
-
-// Writes a number between two texts.
-fn line(streams: &mut Streams, before: &[u8], n: u64, after: &[u8]) {
-    say_number(streams, before, n as usize);
-    say(streams, after);
-}
-
-// Counts a case whose answer has this number. False where no answer has it.
-pub(crate) fn count_case(counts: &mut [u64], number: usize) -> bool {
-    if number >= ANSWERS {
-        return false;
-    }
-    bump(counts, CASES);
-    bump(counts, number);
-    true
-}
-
-// Counts and reports a difference in the present case, unless it is right.
-pub(crate) fn note(streams: &mut Streams, counts: &mut [u64], right: bool, what: &[u8]) {
-    if right {
-        return;
-    }
-    bump(counts, DIFFERENCES);
-    line(streams, b"case ", count(counts, CASES), b": difference in ");
-    say(streams, what);
-    say(streams, b"\n");
-}
-
-fn answers(streams: &mut Streams, counts: &[u64]) {
-    let mut k: usize = 0;
-    while k < ANSWERS {
-        line(streams, b"answer ", k as u64, b": ");
-        line(streams, b"", count(counts, k), b"\n");
-        k += 1;
-    }
-}
-
-pub(crate) fn report(streams: &mut Streams, counts: &[u64]) {
-    line(streams, b"cases ", count(counts, CASES), b", of these ");
-    line(streams, b"", count(counts, RECORDS), b" records\n");
-    answers(streams, counts);
-    line(
-        streams,
-        b"texts ",
-        count(counts, IN_SECTION),
-        b" in the section, ",
-    );
-    line(streams, b"", count(counts, DECODED), b" decoded, replaced ");
-    line(streams, b"", count(counts, REPLACED), b"\n");
-    line(streams, b"differences ", count(counts, DIFFERENCES), b"\n");
-}
-
-// Says that the sample has no whole case at a position.
-pub(crate) fn malformed(streams: &mut Streams, at: usize) {
-    line(
-        streams,
-        b"malformed sample: no case at byte ",
-        at as u64,
-        b"\n",
-    );
 }

@@ -1,21 +1,29 @@
 -- The round-trip program: for a section, the two tables and the output, what it answers and what the output holds afterwards (document 01,
 -- 'The round-trip program').
-use Rattle.std.specs.Prelude.{ℕ, zero, suc, ◌+◌, ◌/◌, ◌%◌, List, [], ◌∷◌, ◌++◌, eqb, leb, ltb, length, take, get_or}
+use Rattle.std.specs.Prelude.{ℕ, zero, suc, ◌+◌, ◌/◌, ◌%◌, List, [], ◌∷◌, ◌++◌, eqb, leb, ltb, length, take, get_or, Result, Ok, Err}
 use Rattle.std.proofs.lemmas.List.Edits.{sets}
 use Rattle.base.specs.Choice.{pick}
 use Rattle.base.specs.Outcome.{Outcome, accepted, refused}
 use Rattle.base.specs.Part.{part_of}
 use Rattle.bflan.specs.pai1.Calls.{reading, writing}
-use Rattle.console.specs.declared.input.Input.{Input}
-use Rattle.console.specs.declared.input.Input.TheVariants.{Bytes, Failed}
-use Rattle.round_trip.specs.declared.Trip.{Trip}
-use Rattle.round_trip.specs.declared.Trip.TheVariants.{Section, Refused}
+use Rattle.bflan.specs.Answer.{of_read_error}
+use Rattle.bflan.specs.Writing.{of_write_error}
+use Rattle.round_trip.specs.declared.Refused.{Refused}
+use Rattle.round_trip.specs.declared.Refused.TheVariants.{Unread, TooLong, Reading, Writing}
 
 -- ---- the number, and the length of a section that was written
 
-unfoldable pub of_trip : Trip → Outcome
-of_trip (Section len) = accepted (len ∷ [])
-of_trip (Refused number) = refused number []
+-- a refusal's number: a failed read has that of a read past the end, an input over the longest that of a section over the limit, and a
+-- reading or a writing has its own
+unfoldable pub number_of : Refused → ℕ
+number_of Unread = 3
+number_of TooLong = 2
+number_of (Reading e) = (of_read_error e).number
+number_of (Writing e) = (of_write_error e).number
+
+unfoldable pub of_trip : Result ℕ Refused → Outcome
+of_trip (Ok len) = accepted (len ∷ [])
+of_trip (Err r) = refused (number_of r) []
 
 -- of a refusal only the number is said
 unfoldable pub said : Outcome → Outcome
@@ -65,9 +73,9 @@ replied r = replied_with r.0.number r.0.values r.1
 
 -- the answer to what was read of standard input: so many bytes at the room's start; or a read failed, which is answered as a read past the
 -- end is, by 3, whatever came before (the program has only document 01's two outcomes)
-unfoldable pub answered : Input → (room words texts out : List ℕ) → ℕ × List ℕ
-answered (Bytes n) room words texts out = replied (trip (part_of room 0 n) words texts out)
-answered Failed room words texts out = replied (refused 3 [], out)
+unfoldable pub answered : {E : Type 0} → Result ℕ E → (room words texts out : List ℕ) → ℕ × List ℕ
+answered (Ok n) room words texts out = replied (trip (part_of room 0 n) words texts out)
+answered (Err e) room words texts out = replied (refused 3 [], out)
 
 -- the bytes that the program writes to standard output
 unfoldable pub printed : (section words texts out : List ℕ) → List ℕ

@@ -7,60 +7,99 @@
 
 ghost use Rattle.std.specs.Prelude.{◌≡◌, length};
 ghost use Rattle.std.proofs.lemmas.List.Edits.{sets};
-ghost use Rattle.round_trip.specs.Trip.{answered, of_trip, refusal, replied, trip, written_again};
+ghost use Rattle.round_trip.specs.declared.Refused.TheVariants.{Reading, Writing};
+ghost use Rattle.round_trip.specs.Trip.{answered, number_of, of_trip, refusal, replied, trip, written_again};
 
 use base::fill::copy;
+use base::outcome::Answer;
 use base::part::part;
-use bflan::read::{ReadAnswer, of_reading, read};
-use bflan::write::{WriteAnswer, of_writing, write};
-use console::argument::{Asked, arguments};
-use console::input::{Input, read_input};
-use console::output::{can_say, fail, finish, say, say_to};
-use console::room::{MOST, bytes_room, input_room, words_room};
-use console::streams::{Stream, Streams};
+use bflan::read::{ReadError, read};
+use bflan::write::{WriteError, write};
+use console::input::read_input;
+use console::program::{Failure, Program};
+use console::room::{BYTES, MOST, ROOM, WORDS, room};
 use itoa::Buffer;
+use std::io;
 
-// What becomes of an input.
+const PROGRAM: Program = Program {
+    name: "round_trip",
+    usage: "usage: round_trip < section\n\
+          Reads a pai1 section of at most 65536 bytes from standard input, and writes it again to\n\
+          standard output: in the order of document 01, with no gaps. A section that is turned down\n\
+          is answered by 'refused N' only, with the number of the refusal.\n\
+          example: round_trip < crates/round_trip/stdin > written.pai1\n",
+    undone: "no section was written",
+};
+
+// Why there is no section.
 #[derive(Clone, Copy)]
-enum Trip {
-    // The length of the section that was written.
-    Section(usize),
-    // The number of a refusal.
-    Refused(usize),
+enum Refused {
+    // Standard input could not be read.
+    Unread,
+    // The input is longer than the longest.
+    TooLong,
+    // The section does not read, or its record has no room in the tables.
+    Reading(ReadError),
+    // The record is not written.
+    Writing(WriteError),
 }
 
-// The record, written again.
-fn write_again(words: &[u32], texts: &[u8], out: &mut [u8]) -> Trip
-    ensures { (of_trip result, out.new) ≡ written_again words.now texts.now out.old }
-{
-    let a = write(words, texts, out);
-    match a {
-        WriteAnswer::Written(len) => Trip::Section(len),
-        _ => {
-            let n = of_writing(a);
-            Trip::Refused(n.0)
+impl From<ReadError> for Refused {
+    ghost from_gives = { λ error refused. refused ≡ Reading error };
+
+    fn from(error: ReadError) -> Refused {
+        Refused::Reading(error)
+    }
+}
+
+impl From<WriteError> for Refused {
+    ghost from_gives = { λ error refused. refused ≡ Writing error };
+
+    fn from(error: WriteError) -> Refused {
+        Refused::Writing(error)
+    }
+}
+
+impl Refused {
+    // Document 01's number.
+    fn number(self) -> usize
+        ensures { result ≡ number_of self }
+    {
+        match self {
+            Refused::Unread => 3,
+            Refused::TooLong => 2,
+            Refused::Reading(error) => error.numbers().0,
+            Refused::Writing(error) => error.numbers().0,
         }
     }
+}
+
+// The record, written again: the section's length.
+fn write_again(words: &[u32], texts: &[u8], out: &mut [u8]) -> Result<usize, Refused>
+    ensures { (of_trip result, out.new) ≡ written_again words.now texts.now out.old }
+{
+    let len = write(words, texts, out)?;
+    Ok(len)
 }
 
 // The words and text bytes that the reading filled, written again.
-fn round_trip(section: &[u8], words: &mut [u32], texts: &mut [u8], out: &mut [u8]) -> Trip
+fn round_trip(
+    section: &[u8],
+    words: &mut [u32],
+    texts: &mut [u8],
+    out: &mut [u8],
+) -> Result<usize, Refused>
     ensures { (of_trip result, out.new) ≡ trip section.now words.old texts.old out.old }
 {
     if MOST < section.len() {
-        return Trip::Refused(2);
+        return Err(Refused::TooLong);
     }
-    let a = read(section, words, texts);
-    match a {
-        ReadAnswer::Accepted(n, m, _replaced) => write_again(&words[0..n], &texts[0..m], out),
-        _ => {
-            let n = of_reading(a);
-            Trip::Refused(n.0)
-        }
-    }
+    let filled = read(section, words, texts)?;
+    write_again(&words[0..filled.words], &texts[0..filled.bytes], out)
 }
 
 // `refused N` and a newline, from the output's start on: their length.
+// Kept: three copies in place of `write!`, which says nothing of the bytes behind a `&mut [u8]`; this contract names each.
 fn refuse(number: usize, out: &mut [u8]) -> usize
     ensures { (result ≡ length (refusal number)) × (out.new ≡ sets out.old 0 (refusal number)) }
 {
@@ -74,12 +113,12 @@ fn refuse(number: usize, out: &mut [u8]) -> usize
 }
 
 // The bytes to print stand from the output's start on: their length.
-fn reply(t: Trip, out: &mut [u8]) -> usize
+fn reply(t: Result<usize, Refused>, out: &mut [u8]) -> usize
     ensures { (result, out.new) ≡ replied (of_trip t, out.old) }
 {
     match t {
-        Trip::Section(len) => len,
-        Trip::Refused(number) => refuse(number, out),
+        Ok(len) => len,
+        Err(refused) => refuse(refused.number(), out),
     }
 }
 
@@ -92,86 +131,35 @@ fn run(section: &[u8], words: &mut [u32], texts: &mut [u8], out: &mut [u8]) -> u
 }
 
 // All that the program does between its reading of standard input and its writing to standard output.
-fn answer(input: Input, room: &[u8], words: &mut [u32], texts: &mut [u8], out: &mut [u8]) -> usize
+fn answer(
+    input: io::Result<usize>,
+    room: &[u8],
+    words: &mut [u32],
+    texts: &mut [u8],
+    out: &mut [u8],
+) -> usize
     ensures { (result, out.new) ≡ answered input room.now words.old texts.old out.old }
 {
     match input {
-        Input::Bytes(n) => run(part(room, 0, n), words, texts, out),
-        Input::Failed => reply(Trip::Refused(3), out),
+        Ok(n) => run(part(room, 0, n), words, texts, out),
+        Err(_error) => reply(Err(Refused::Unread), out),
     }
 }
 
-// Reads standard input, and says so if that fails.
-fn read_section(streams: &mut Streams, room: &mut [u8]) -> Input {
-    let input = read_input(streams, room);
-    match input {
-        Input::Bytes(_n) => {}
-        Input::Failed => {
-            fail(
-                streams,
-                b"round_trip: no section was written, since standard input could not be read",
-            )
-        }
+fn answer_input(rt: HostRuntime) -> Result<(), Failure> {
+    let mut bytes = room::<u8, ROOM>();
+    let input = read_input(&mut rt.stdin(), &mut bytes);
+    if let Err(error) = input {
+        PROGRAM.say_failure(rt, Failure::Input(error));
     }
-    input
-}
-
-fn run_program(streams: &mut Streams) {
-    if !can_say(
-        streams,
-        b"round_trip: no section was written, since standard output could not be written",
-    ) {
-        return;
-    }
-    let mut room = input_room();
-    let input = read_section(streams, &mut room);
-    let mut words = words_room();
-    let mut texts = bytes_room();
-    let mut out = bytes_room();
-    let len = answer(input, &room, &mut words, &mut texts, &mut out);
-    say(streams, part(&out, 0, len));
-    finish(streams, b"round_trip");
-}
-
-fn say_usage(streams: &mut Streams, to: Stream) {
-    say_to(streams, to, b"usage: round_trip < section\n");
-    say_to(
-        streams,
-        to,
-        b"Reads a pai1 section of at most 65536 bytes from standard input, and writes it again to\n",
-    );
-    say_to(
-        streams,
-        to,
-        b"standard output: in the order of document 01, with no gaps. A section that is turned down\n",
-    );
-    say_to(
-        streams,
-        to,
-        b"is answered by 'refused N' only, with the number of the refusal.\n",
-    );
-    say_to(
-        streams,
-        to,
-        b"example: round_trip < crates/round_trip/stdin > written.pai1\n",
-    );
+    let mut words = room::<u32, WORDS>();
+    let mut texts = room::<u8, BYTES>();
+    let mut out = room::<u8, BYTES>();
+    let len = answer(input, &bytes, &mut words, &mut texts, &mut out);
+    rt.write_all(part(&out, 0, len))?;
+    Ok(())
 }
 
 fn main(rt: HostRuntime) {
-    let mut streams = Streams::new(rt);
-    match arguments(rt) {
-        Asked::Nothing => run_program(&mut streams),
-        Asked::Help => {
-            say_usage(&mut streams, Stream::Output);
-            finish(&mut streams, b"round_trip");
-        }
-        Asked::Other => {
-            say_to(
-                &mut streams,
-                Stream::Error,
-                b"round_trip takes no argument\n",
-            );
-            say_usage(&mut streams, Stream::Error);
-        }
-    }
+    PROGRAM.start(rt, answer_input)
 }

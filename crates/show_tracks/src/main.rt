@@ -25,109 +25,58 @@
 // too, on standard error and with nothing on standard output.
 #![tactic(auto)]
 
-mod decimal;
-mod hex;
+mod float;
 mod names;
 mod text;
 mod tracks;
 
 use crate::tracks::show;
-use base::outcome::Numbers;
-use base::part::part;
-use bflan::fault::Fault;
-use bflan::read::{ReadAnswer, of_reading, read};
-use console::argument::{Asked, arguments};
-use console::input::{Input, read_input};
-use console::output::{can_say, fail, finish, say, say_number, say_to};
-use console::refusal::{say_refused, say_too_long, say_why};
-use console::room::{MOST, bytes_room, input_room, words_room};
-use console::streams::{Stream, Streams};
+use base::outcome::Answer;
+use bflan::read::{ReadError, read};
+use console::input::read_input;
+use console::program::{Failure, Program};
+use console::refusal::{Refused, TooLong, Why};
+use console::room::{BYTES, MOST, ROOM, WORDS, room};
+use std::io;
 
-fn say_fault(streams: &mut Streams, f: Fault) {
-    say_refused(streams, f);
-    say_why(streams, f);
-}
-
-fn say_too_short(streams: &mut Streams, n: Numbers) {
-    say_number(streams, b"refused ", n.0);
-    say_number(streams, b" (", n.1);
-    say_number(streams, b", ", n.2);
-    say(
-        streams,
-        b"): the record has more than the 16384 words or the 65536 text bytes that there is room for\n",
-    );
-}
-
-fn answer(streams: &mut Streams, section: &[u8], words: &mut [u32], texts: &mut [u8]) {
-    if MOST < section.len() {
-        say_too_long(streams);
-        return;
-    }
-    let a = read(section, words, texts);
-    match a {
-        // the texts are found in the section again, so their table is free
-        ReadAnswer::Accepted(_n, _m, replaced) => show(streams, section, words, replaced, texts),
-        ReadAnswer::Refused(f) => say_fault(streams, f),
-        ReadAnswer::TooLong(_size) => say_too_long(streams),
-        ReadAnswer::TooShort(_n, _m) => say_too_short(streams, of_reading(a)),
-    }
-}
-
-// The answer to the first n bytes of the room.
-fn show_section(streams: &mut Streams, room: &[u8], n: usize) {
-    let mut words = words_room();
-    let mut texts = bytes_room();
-    answer(streams, part(room, 0, n), &mut words, &mut texts);
-    finish(streams, b"show_tracks");
-}
-
-fn run_program(streams: &mut Streams) {
-    if !can_say(
-        streams,
-        b"show_tracks: nothing was printed, since standard output could not be written",
-    ) {
-        return;
-    }
-    let mut room = input_room();
-    match read_input(streams, &mut room) {
-        Input::Bytes(n) => show_section(streams, &room, n),
-        Input::Failed => {
-            fail(
-                streams,
-                b"show_tracks: nothing was printed, since standard input could not be read",
-            )
-        }
-    }
-}
-
-fn say_usage(streams: &mut Streams, to: Stream) {
-    say_to(
-        streams,
-        to,
-        b"usage: show_tracks < section\n\
+const PROGRAM: Program = Program {
+    name: "show_tracks",
+    usage: "usage: show_tracks < section\n\
           Reads a pai1 section of at most 65536 bytes from standard input, and prints it to standard\n\
           output: a line for each texture, content, info, track and extended datum. `replaced` counts\n\
           the U+FFFD shown for bytes that are no UTF-8, of a text and of the section. A section that\n\
           is turned down is answered by 'refused N', its values, and what is wrong with it.\n\
           example: show_tracks < crates/show_tracks/stdin\n",
-    );
+    undone: "nothing was printed",
+};
+
+fn answer(out: HostRuntime, section: &[u8], words: &mut [u32], texts: &mut [u8]) -> io::Result<()> {
+    if MOST < section.len() {
+        return println!(out; "{TooLong}");
+    }
+    match read(section, words, texts) {
+        // the texts are found in the section again, so their table is free
+        Ok(filled) => show(out, section, words, filled.replaced, texts),
+        Err(ReadError::Fault(f)) => println!(out; "{}{}", Refused(f), Why(f)),
+        Err(ReadError::TooLong(_size)) => println!(out; "{TooLong}"),
+        Err(ReadError::TooShort(n, m)) => {
+            let number = ReadError::TooShort(n, m).numbers().0;
+            println!(out;
+                "refused {number} ({n}, {m}): the record has more than the {WORDS} words or the {BYTES} text bytes that there is room for"
+            )
+        }
+    }
+}
+
+fn show_input(rt: HostRuntime) -> Result<(), Failure> {
+    let mut input = room::<u8, ROOM>();
+    let n = read_input(&mut rt.stdin(), &mut input).map_err(Failure::Input)?;
+    let mut words = room::<u32, WORDS>();
+    let mut texts = room::<u8, BYTES>();
+    answer(rt, &input[..n], &mut words, &mut texts)?;
+    Ok(())
 }
 
 fn main(rt: HostRuntime) {
-    let mut streams = Streams::new(rt);
-    match arguments(rt) {
-        Asked::Nothing => run_program(&mut streams),
-        Asked::Help => {
-            say_usage(&mut streams, Stream::Output);
-            finish(&mut streams, b"show_tracks");
-        }
-        Asked::Other => {
-            say_to(
-                &mut streams,
-                Stream::Error,
-                b"show_tracks takes no argument\n",
-            );
-            say_usage(&mut streams, Stream::Error);
-        }
-    }
+    PROGRAM.start(rt, show_input)
 }

@@ -1,13 +1,13 @@
 -- `answer` meets its contract.
 -- Assumes nothing.
-use mathlib.Core.Path.{sym}
-use Rattle.round_trip.specs.Trip.{answered, of_trip}
+use Rattle.std.proofs.Common.{sym}
+use Rattle.round_trip.specs.Trip.{answered, number_of, of_trip}
 use Rattle.round_trip.proofs.answer.Goals as goal
 
-pub returns-in-Bytes : goal.returns-in-Bytes
+pub returns-in-Ok : goal.returns-in-Ok
 unfolding answered
-returns-in-Bytes c = rw (c.in-Bytes.is, sym c.part.ensures.0) c.run.ensures
+returns-in-Ok c = rw (c.in-Ok.is, sym c.part.ensures.0) c.run.ensures
 
-pub returns-in-Failed : goal.returns-in-Failed
-unfolding answered of_trip
-returns-in-Failed c = rw c.in-Failed.is c.reply.ensures
+pub returns-in-Err : goal.returns-in-Err
+unfolding answered of_trip number_of
+returns-in-Err c = rw c.in-Err.is c.reply.ensures

@@ -1,12 +1,13 @@
 -- `reply` meets its contract.
 -- Assumes nothing.
+use Rattle.std.proofs.Common.{sym, refl}
 use Rattle.round_trip.specs.Trip.{of_trip, replied_with, replied}
 use Rattle.round_trip.proofs.reply.Goals as goal
 
-pub returns-in-Section : goal.returns-in-Section
+pub returns-in-Ok : goal.returns-in-Ok
 unfolding of_trip replied replied_with
-returns-in-Section c = rw c.in-Section.is
+returns-in-Ok c = rw c.in-Ok.is
 
-pub returns-in-Refused : goal.returns-in-Refused
+pub returns-in-Err : goal.returns-in-Err
 unfolding of_trip replied replied_with
-returns-in-Refused c = rw (c.in-Refused.is, c.refuse.ensures.0, c.refuse.ensures.1)
+returns-in-Err c = rw (c.in-Err.is, sym c.number.ensures, c.refuse.ensures.0, c.refuse.ensures.1) refl

@@ -1,10 +1,13 @@
 -- `write_again` meets its contract.
 -- Assumes nothing.
-use Rattle.round_trip.proofs.Trips.{wrote_section, wrote_none, first_number}
+use Rattle.std.proofs.lemmas.Result.{err_from_is_err_and}
+use Rattle.round_trip.proofs.Trips.{wrote_section, wrote_none}
 use Rattle.round_trip.proofs.write_again.Goals as goal
 
-pub returns-in-Written : goal.returns-in-Written
-returns-in-Written c = wrote_section _ _ _ _ _ (rw c.in-Written.is at c.write-a.ensures)
+pub returns-in_err-len : goal.returns-in_err-len
+returns-in_err-len c =
+    let p = err_from_is_err_and c.from_residual.result c.from_residual.ensures.1 in
+    rw (p.1, p.2) (wrote_none _ _ _ _ _ (rw c.in_err-len.was at c.write.ensures))
 
-pub returns-in_default : goal.returns-in_default
-returns-in_default c = wrote_none _ _ _ _ _ _ c.write-a.ensures c.in_default.not-Written (first_number _ _ c.of_writing-n.ensures)
+pub returns : goal.returns
+returns c = wrote_section _ _ _ _ _ (rw c.in_ok-len.was at c.write.ensures)

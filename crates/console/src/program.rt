@@ -1,0 +1,116 @@
+// How a program starts and ends. No contract of std can say what is written, so none does here.
+//
+// No write is lost in silence. One that fails is said on standard error with the system's reason, and nothing more is written: what is
+// already written stays the beginning of the output. When the program ends, it says that the output is not complete.
+use crate::argument::{Asked, arguments};
+use crate::reason::Reason;
+use std::io;
+
+// The system's number for a stream that is not open (Linux).
+const NOT_OPEN: i32 = 9;
+
+// Why a program ended before its end.
+#[derive(Clone, Copy)]
+pub enum Failure {
+    // Standard input could not be read.
+    Input(io::Error),
+    // Standard output could not be written.
+    Output(io::Error),
+}
+
+impl From<io::Error> for Failure {
+    fn from(error: io::Error) -> Failure {
+        Failure::Output(error)
+    }
+}
+
+// What a program says of itself.
+#[derive(Clone, Copy)]
+pub struct Program {
+    pub name: &'static str,
+    pub usage: &'static str,
+    // What it has not done where it can neither read nor write.
+    pub undone: &'static str,
+}
+
+impl Program {
+    // Runs a program that takes no argument. `--help` is answered by the usage; any other argument too, on standard error.
+    pub fn start<F: FnOnce(HostRuntime) -> Result<(), Failure> + Drop>(
+        self,
+        rt: HostRuntime,
+        body: F,
+    )
+        requires { F.IsAlwaysCallable body }
+    {
+        match arguments(rt) {
+            Asked::Nothing => self.run(rt, body),
+            Asked::Help => self.help(rt),
+            Asked::Other => {
+                let Program { name, usage, .. } = self;
+                let _ = eprint!(rt; "{name} takes no argument\n{usage}");
+            }
+        }
+    }
+
+    // Runs a program, once standard output has taken a write of no bytes.
+    pub fn run<F: FnOnce(HostRuntime) -> Result<(), Failure> + Drop>(self, rt: HostRuntime, body: F)
+        requires { F.IsAlwaysCallable body }
+    {
+        match rt.write_some(b"") {
+            Err(error) => self.say_undone(rt, "standard output could not be written", error),
+            Ok(_) => {
+                if let Err(failure) = body(rt) {
+                    self.say_failure(rt, failure);
+                }
+            }
+        }
+    }
+
+    // Writes the usage.
+    pub fn help(self, rt: HostRuntime) {
+        if let Err(error) = rt.print(self.usage) {
+            self.say_failure(rt, Failure::Output(error));
+        }
+    }
+
+    // Says what is not done, and why. (Where standard error takes nothing, nothing can be said.)
+    fn say_undone(self, rt: HostRuntime, why: &str, error: io::Error) {
+        let Program { name, undone, .. } = self;
+        let _ = eprintln!(rt; "{name}: {undone}, since {why}: {}", Reason(error));
+    }
+
+    // Says why a program ended early.
+    pub fn say_failure(self, rt: HostRuntime, failure: Failure) {
+        match failure {
+            Failure::Input(error) => {
+                self.say_undone(rt, "standard input could not be read", error)
+            }
+            Failure::Output(error) => {
+                self.say_unwritten(rt, error);
+                self.say_incomplete(rt);
+            }
+        }
+    }
+
+    // Says why a write failed. Of an output that was not open there is no reason to say.
+    pub fn say_unwritten(self, rt: HostRuntime, error: io::Error) {
+        if error.raw_os_error() != Some(NOT_OPEN) {
+            let _ = eprintln!(rt; "standard output could not be written: {}", Reason(error));
+        }
+    }
+
+    // Says, at the end, that a write failed.
+    pub fn say_incomplete(self, rt: HostRuntime) {
+        let name = self.name;
+        let _ = eprintln!(rt; "{name}: the output is not complete");
+    }
+
+    // Says why no more is read.
+    pub fn say_unread(self, rt: HostRuntime, error: io::Error) {
+        let name = self.name;
+        let _ = eprintln!(rt;
+            "{name}: standard input could not be read: {}",
+            Reason(error)
+        );
+    }
+}

@@ -1,9 +1,0 @@
--- The position stays inside the text. The measure is what is left of it.
-use Rattle.std.proofs.Common.{◌-◌, ◌≤◌, length}
-use Rattle.show_tracks.proofs.text.plain_end.Given as goal
-
-abbrev pub invariant-loop-i : goal.invariant-loop-i
-invariant-loop-i l = (l.from ≤ l.i) × (l.i ≤ length l.text)
-
-abbrev pub decreases-loop-i : goal.decreases-loop-i
-decreases-loop-i l = length l.text - l.i
