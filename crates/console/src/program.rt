@@ -93,14 +93,14 @@ impl Program {
     }
 
     // Says why a write failed. Of an output that was not open there is no reason to say.
-    pub fn say_unwritten(self, rt: HostRuntime, error: io::Error) {
+    fn say_unwritten(self, rt: HostRuntime, error: io::Error) {
         if error.raw_os_error() != Some(NOT_OPEN) {
             let _ = eprintln!(rt; "standard output could not be written: {}", Reason(error));
         }
     }
 
     // Says, at the end, that a write failed.
-    pub fn say_incomplete(self, rt: HostRuntime) {
+    fn say_incomplete(self, rt: HostRuntime) {
         let name = self.name;
         let _ = eprintln!(rt; "{name}: the output is not complete");
     }
@@ -112,5 +112,41 @@ impl Program {
             "{name}: standard input could not be read: {}",
             Reason(error)
         );
+    }
+}
+
+// Standard output of a program that goes on behind a write that failed. Nothing more is written then.
+#[derive(Clone, Copy)]
+pub struct Output {
+    program: Program,
+    complete: bool,
+}
+
+impl Output {
+    pub fn new(program: Program) -> Output {
+        Output {
+            program,
+            complete: true,
+        }
+    }
+
+    // Whether each write so far was done.
+    pub fn is_complete(self) -> bool {
+        self.complete
+    }
+
+    // Takes what became of a write. Why one failed is said at once.
+    pub fn note(&mut self, rt: HostRuntime, written: io::Result<()>) {
+        if let Err(error) = written {
+            self.program.say_unwritten(rt, error);
+            self.complete = false;
+        }
+    }
+
+    // Says, when the program ends, that a write failed.
+    pub fn end(self, rt: HostRuntime) {
+        if !self.complete {
+            self.program.say_incomplete(rt);
+        }
     }
 }

@@ -17,7 +17,7 @@ use crate::visible::write_visible;
 use arrayvec::ArrayVec;
 use base::part::part;
 use base::utf8::decode_into;
-use console::program::{Failure, Program};
+use console::program::{Failure, Output, Program};
 use console::room::PIECE;
 use std::io;
 use std::io::Read;
@@ -84,8 +84,7 @@ struct Lines {
     line: ArrayVec<u8, ROOM>,
     // The present line's number.
     number: usize,
-    // Whether each answer was written.
-    complete: bool,
+    output: Output,
 }
 
 impl Lines {
@@ -93,14 +92,14 @@ impl Lines {
         Lines {
             line: ArrayVec::new(),
             number: 1,
-            complete: true,
+            output: Output::new(PROGRAM),
         }
     }
 
     // Answers the present line, unless an earlier answer could not be written. A newline that ended it may stand behind a carriage
     // return, which is no character of the line then.
     fn answer(&mut self, out: HostRuntime, has_newline: bool) {
-        if !self.complete {
+        if !self.output.is_complete() {
             return;
         }
         let line = self.line.as_slice();
@@ -108,10 +107,8 @@ impl Lines {
             [before @ .., b'\r'] if has_newline => before,
             _ => line,
         };
-        if let Err(error) = answer_line(out, line, self.number) {
-            PROGRAM.say_unwritten(out, error);
-            self.complete = false;
-        }
+        let written = answer_line(out, line, self.number);
+        self.output.note(out, written);
     }
 
     // Takes some input.
@@ -161,9 +158,7 @@ fn decode_input(rt: HostRuntime) -> Result<(), Failure> {
             );
         }
     }
-    if !lines.complete {
-        PROGRAM.say_incomplete(rt);
-    }
+    lines.output.end(rt);
     Ok(())
 }
 

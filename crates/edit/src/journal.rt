@@ -80,7 +80,7 @@ pub(crate) fn entry_at(journal: &[u32], n: usize) -> Entry
     }
 }
 
-// Numbers that are known to be there, of one, two and four bytes. (Kept: one for each size, since each is a read of base's.)
+// Numbers that are known to be there, of one, two and four bytes. Those of two and four are base's reads, which cannot fail here.
 
 #[tactic(auto, using(crate::proofs::FieldAt::byte_there))]
 pub(crate) fn byte_at(s: &[u8], at: usize) -> u8

@@ -41,7 +41,7 @@ use crate::refusal::{Refusal, RefusedAt};
 use crate::show::{Shown, place_at};
 use console::argument::{Asked, arg, arg_count, arguments};
 use console::input::read_input;
-use console::program::{Failure, Program};
+use console::program::{Failure, Output, Program};
 use console::refusal::TooLong;
 use console::room::{MOST, PIECE, ROOM, room};
 use edit::edit::{EditError, edit};
@@ -106,23 +106,6 @@ fn make_all(rt: HostRuntime, section: &mut [u8]) -> Result<(), Stop> {
     Ok(())
 }
 
-// Standard output, and whether each line of it was written: behind one that was not, nothing more is.
-#[derive(Clone, Copy)]
-struct Output {
-    complete: bool,
-}
-
-impl Output {
-    fn say<T: fmt::Display + Drop>(&mut self, rt: HostRuntime, line: T) {
-        if self.complete {
-            if let Err(error) = println!(rt; "{line}") {
-                PROGRAM.say_unwritten(rt, error);
-                self.complete = false;
-            }
-        }
-    }
-}
-
 // Says what stands at the places that the arguments behind `show` say.
 fn show_all(rt: HostRuntime, section: &[u8], output: &mut Output) -> Result<(), Stop> {
     let mut arguments = Arguments::behind(rt, 2);
@@ -139,7 +122,9 @@ fn show_all(rt: HostRuntime, section: &[u8], output: &mut Output) -> Result<(), 
             i,
             Refusal::Edit(EditError::from(error)),
         )))?;
-        output.say(rt, Shown(place, value));
+        if output.is_complete() {
+            output.note(rt, println!(rt; "{}", Shown(place, value)));
+        }
     }
     Ok(())
 }
@@ -167,18 +152,20 @@ fn edit_input(rt: HostRuntime) -> Result<(), Failure> {
         println!(rt; "{TooLong}")?;
         return Ok(());
     }
-    let mut output = Output { complete: true };
+    let mut output = Output::new(PROGRAM);
     match run(rt, &mut bytes[..n], &mut output) {
         Ok(()) => {}
         Err(Stop::Misused(complaint)) => {
             let _ = eprint!(rt; "{complaint}\n{}", PROGRAM.usage);
         }
-        Err(Stop::Refused(refused)) => output.say(rt, refused),
+        Err(Stop::Refused(refused)) => {
+            if output.is_complete() {
+                output.note(rt, println!(rt; "{refused}"));
+            }
+        }
         Err(Stop::Unwritten(error)) => return Err(Failure::Output(error)),
     }
-    if !output.complete {
-        PROGRAM.say_incomplete(rt);
-    }
+    output.end(rt);
     Ok(())
 }
 

