@@ -1,6 +1,6 @@
 -- A loop that stores a run v from o on, i bytes of it stored: it starts, turns, and ends where the run or the list does.
 -- Assumes nothing.
-use Prim.Native.Nat.{ℕ, zero, suc, ◌+◌, ◌-◌, ◌<◌, ◌≤◌, min}
+use Prim.Native.Nat.{ℕ, ◌+◌, ◌-◌, ◌<◌, ◌≤◌, min}
 use mathlib.Core.Path.{◌≡◌, refl, ap, sym, ◌∙◌}
 use mathlib.Core.Bool.{Bool, true, false}
 use mathlib.Core.List.{List, [], ◌∷◌}
@@ -10,7 +10,7 @@ use native.Mathlib.Numerals.{add-one}
 use native.Mathlib.Omega.{arith}
 use borrow.Author.Tests.{leb-true, leb-false}
 use lib.Dec.{leb}
-use lib.ListN.{length, get_or, set, take, drop, length-drop, take-append-drop, drop_of_length-le}
+use lib.ListN.{length, get_or, set, take, drop, length-drop, take-append-drop}
 use lib.Seq.{sets, length-sets, drop-cons, length-take-le, take-add}
 use Rattle.base.proofs.Apart.{sets_past}
 use Rattle.base.proofs.Stores.{sets_out, sets-append, sets_over}
@@ -99,34 +99,3 @@ fill_four l o n b v l₁ l₂ l₃ l₄ h g f eb e₁ e₂ e₃ e₄ = go (leb (
     go false t =
         let k = leb-false (n - 8 - b) b t in
         last (n - 8 - b + 8) (third ∙ fill_next l o (b + 8) (n - 8 - b) 8 v (omega arith) (omega arith) (omega arith)) (omega arith) (omega arith)
-
--- the n places of v from i on, one by one
-unfoldable firsts : ℕ → ℕ → List ℕ → List ℕ
-firsts zero i v = []
-firsts (suc n) i v = get_or v i 0 ∷ firsts n (suc i) v
-
-firsts_all : (n i : ℕ) (v : List ℕ) → length v ≡ i + n → firsts n i v ≡ drop i v
-unfolding firsts
-firsts_all zero i v e = let h : length v ≤ i = omega arith in sym (drop_of_length-le v h)
-firsts_all (suc n) i v e = ap (λ (l : List ℕ). get_or v i 0 ∷ l) (firsts_all n (suc i) v (omega arith)) ∙ sym (drop-cons v i 0 (omega arith))
-
--- one to four bytes, a store each
-module _ (l : List ℕ) (o : ℕ) (v : List ℕ) where
-  pub each_one : length v ≡ 1 → set l o (get_or v 0 0) ≡ sets l o v
-  unfolding firsts
-  each_one e = ap (sets l o) (firsts_all 1 0 v e)
-
-  pub each_two : length v ≡ 2 → set (set l o (get_or v 0 0)) (o + 1) (get_or v 1 0) ≡ sets l o v
-  unfolding firsts
-  each_two e = rw add-one (ap (sets l o) (firsts_all 2 0 v e))
-
-  pub each_three : length v ≡ 3 → set (set (set l o (get_or v 0 0)) (o + 1) (get_or v 1 0)) (o + 2) (get_or v 2 0) ≡ sets l o v
-  unfolding firsts
-  each_three e = let two : o + 2 ≡ suc (suc o) = omega arith in rw (add-one, two) (ap (sets l o) (firsts_all 3 0 v e))
-
-  pub each_four : length v ≡ 4 → set (set (set (set l o (get_or v 0 0)) (o + 1) (get_or v 1 0)) (o + 2) (get_or v 2 0)) (o + 3) (get_or v 3 0) ≡ sets l o v
-  unfolding firsts
-  each_four e =
-      let two : o + 2 ≡ suc (suc o) = omega arith in
-      let three : o + 3 ≡ suc (suc (suc o)) = omega arith in
-      rw (add-one, two, three) (ap (sets l o) (firsts_all 4 0 v e))

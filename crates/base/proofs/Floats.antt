@@ -11,9 +11,8 @@ use native.Mathlib.Omega.{arith}
 use borrow.Author.Tests.{leb-true, leb-false, le-leb, lt-leb}
 use lib.Dec.{T, leb}
 use lib.ListN.{length}
-use lib.Ieee.{Float, nan, inf, fin, binary32, is_nan, ne, fits, nan_bits, of_bits, to_bits}
-use lib.Ieee.Bits.{nan_bits_is, to_bits-of_bits, to_bits-lt}
-use lib.Ieee.Compare.{differs_from_itself}
+use lib.Ieee.{Float, nan, inf, fin, binary32, is_nan, fits, nan_bits, of_bits, to_bits}
+use lib.Ieee.Bits.{nan_bits_is, nan_bits_above, to_bits-of_bits, to_bits-lt}
 use Rattle.base.specs.Choice.{pick}
 use Rattle.base.specs.Number.{get, put, past_end, read_of}
 use Rattle.base.specs.Float.{float_of, pattern_of, hermite_of, patterns_of, read_float_of, patterns_at, put_patterns, read_hermite_of}
@@ -30,15 +29,15 @@ use Rattle.base.proofs.Numbers.{Bytes, Short, get_lt, get-put, put-get, length-p
 pub fails : (t : Bool) → t ≡ false → T (not t)
 fails t e = subst (λ (b : Bool). T (not b)) (sym e) tt
 
--- only a NaN differs from itself
-pub only_nan : (x : Float) → ne x x ≡ true → x ≡ nan
-only_nan x e = differs_from_itself x (subst T (sym e) tt)
+-- one NaN is like the other
+pub only_nan : (x : Float) → is_nan x ≡ true → x ≡ nan
+unfolding is_nan
+only_nan nan e = refl
+only_nan (inf s) e = absurd (true≢false (sym e))
+only_nan (fin s m k) e = absurd (true≢false (sym e))
 
-pub no_nan : (x : Float) → ne x x ≡ false → T (not (is_nan x))
-unfolding is_nan ne
-no_nan nan e = fails _ e
-no_nan (inf s) e = tt
-no_nan (fin s m k) e = tt
+-- a NaN's pattern is above the infinity's: a law of the logic's, by a name that an attribute can give
+pub ruleset nan_above = (nan_bits_above)
 
 -- none of three tests holds
 pub none_of : (a b c : Bool) → a || b || c ≡ false → (a ≡ false) × (b ≡ false) × (c ≡ false)

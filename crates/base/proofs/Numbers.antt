@@ -13,7 +13,7 @@ use borrow.Author.Tests.{leb-true, leb-false, le-leb, lt-leb}
 use lib.Dec.{leb}
 use lib.ListN.{length, get_or, set, take, drop, replicate, length-drop}
 use lib.Seq.{sets, length-sets, sets-eq, take-nil, drop-nil, drop_at, take_at, length-take-le, get_or-drop, set-get_or}
-use Rattle.std.specs.Int.{w16, w32, to_le_bytes, from_le_bytes}
+use Rattle.std.specs.Int.{w16, w32, from_le_bytes}
 use Rattle.base.specs.Choice.{pick}
 use Rattle.base.specs.Number.{le, val, get, put, read_of, past_end}
 use Rattle.base.proofs.Apart.{Apart, sets_away, sets_past}
@@ -167,15 +167,24 @@ pub put-put : (k : ℕ) (s : List ℕ) (at m n : ℕ) → put k (put k s at m) a
 unfolding put
 put-put k s at m n = sets-sets s at (le k m) (le k n) (length-le k m ∙ sym (length-le k n))
 
--- a byte is written by one store
-pub put_one : (s : List ℕ) (at v : ℕ) → v < 256 → put 1 s at v ≡ set s at v
-put_one s at v h =
-    let e : v % 256 ≡ v = omega arith in
-    rw (put_suc 0 s at v, e) (put_zero (set s at v) (at + 1) (v / 256))
+-- bytes are written by a store each
+pub put_one : (s : List ℕ) (at v : ℕ) → put 1 s at v ≡ set s at (v % 256)
+put_one s at v = put_suc 0 s at v ∙ put_zero (set s at (v % 256)) (at + 1) (v / 256)
+
+pub put_two : (s : List ℕ) (at v : ℕ) → put 2 s at v ≡ set (set s at (v % 256)) (at + 1) (v / 256 % 256)
+put_two s at v = put_suc 1 s at v ∙ put_one (set s at (v % 256)) (at + 1) (v / 256)
+
+pub put_four : (s : List ℕ) (at v : ℕ) → put 4 s at v ≡ set (set (set (set s at (v % 256)) (at + 1) (v / 256 % 256)) (at + 2) (v / 65536 % 256)) (at + 3) (v / 16777216 % 256)
+put_four s at v =
+    let two : at + 1 + 1 ≡ at + 2 = omega arith in
+    let three : at + 2 + 1 ≡ at + 3 = omega arith in
+    let third : v / 256 / 256 ≡ v / 65536 = omega arith in
+    let fourth : v / 65536 / 256 ≡ v / 16777216 = omega arith in
+    rw (put_suc 3 s at v, put_suc 2 (set s at (v % 256)) (at + 1) (v / 256), two, third, put_two, three, fourth)
 
 -- a loop that writes the k bytes of n from at on, i of them written: a turn, and the end, where the number or the list ends
-pub put-turn : (k : ℕ) (s : List ℕ) (at i n : ℕ) → i < k → put (k - (i + 1)) (set s (at + i) (n % 256)) (at + (i + 1)) (n / 256) ≡ put (k - i) s (at + i) n
-put-turn k s at i n h =
+pub put_turn : (k : ℕ) (s : List ℕ) (at i n : ℕ) → i < k → put (k - (i + 1)) (set s (at + i) (n % 256)) (at + (i + 1)) (n / 256) ≡ put (k - i) s (at + i) n
+put_turn k s at i n h =
     let e : k - i ≡ suc (k - (i + 1)) = omega arith in
     rw (e, put_suc (k - (i + 1)) s (at + i) n, add_assoc)
 
@@ -274,26 +283,7 @@ pub read_beside : (j k : ℕ) (s : List ℕ) (at n b : ℕ) → Apart j b k at �
 unfolding put
 read_beside j k s at n b h = read_away j s at (le k n) b (rw length-le h)
 
--- ---- the bytes that the library's `to_le_bytes` gives, and the number that its `from_le_bytes` does
-
-le_two : (n : ℕ) → le 2 n ≡ to_le_bytes w16 n
-unfolding le
-le_two n = refl
-
-le_four : (n : ℕ) → le 4 n ≡ to_le_bytes w32 n
-unfolding le
-le_four n =
-    let a : n / 256 / 256 / 256 ≡ n / 16777216 = omega arith in
-    let b : n / 256 / 256 ≡ n / 65536 = omega arith in
-    rw (a, b)
-
-pub sets_two : (s : List ℕ) (at n : ℕ) → sets s at (to_le_bytes w16 n) ≡ put 2 s at n
-unfolding put
-sets_two s at n = ap (sets s at) (sym (le_two n))
-
-pub sets_four : (s : List ℕ) (at n : ℕ) → sets s at (to_le_bytes w32 n) ≡ put 4 s at n
-unfolding put
-sets_four s at n = ap (sets s at) (sym (le_four n))
+-- ---- the number that the library's `from_le_bytes` gives
 
 pub from_two : (s : List ℕ) (at : ℕ) → from_le_bytes w16 (get_or s at 0 ∷ get_or s (at + 1) 0 ∷ []) ≡ get 2 s at
 from_two s at = omega (arith, get_suc 1 s at, get_suc 0 s (at + 1), get_zero s (at + 1 + 1))

@@ -23,6 +23,9 @@ unfolding numbers_at
 length-numbers zero s at = refl
 length-numbers (suc n) s at = ap suc (length-numbers n s (at + 4))
 
+-- the same, by a name that an attribute can give
+pub ruleset numbers_length = (length-numbers)
+
 pub numbers_at_lem : (n : ℕ) (s : List ℕ) (at i : ℕ) → i < n → get_or (numbers_at n s at) i 0 ≡ get 4 s (at + 4 * i)
 unfolding numbers_at
 numbers_at_lem zero s at i h = absurd (omega arith)
@@ -38,6 +41,9 @@ length_pairs (suc n) s at = let h = length_pairs n s (at + 8) in omega arith
 pub numbers-whole : (n : ℕ) (s : List ℕ) (at : ℕ) → n ≤ (length s - at) / 4 → numbers_of n s at ≡ Ok (at + 4 * n)
 unfolding numbers_of
 numbers-whole n s at h = rw (le-leb n ((length s - at) / 4) h)
+
+-- the same, by a name that an attribute can give
+pub ruleset numbers_there = (numbers-whole)
 
 pub numbers_cut : (n : ℕ) (s : List ℕ) (at : ℕ) → (length s - at) / 4 < n → numbers_of n s at ≡ Err (past_end (at + 4 * ((length s - at) / 4)) 4)
 unfolding numbers_of

@@ -7,10 +7,9 @@ use mathlib.Core.Bool.{Bool, true, false}
 use borrow.Author.Tests.{leb-true, leb-false}
 use lib.Dec.{leb}
 use native.Mathlib.Nat.{add-zero, add-suc, suc-add}
-use native.Mathlib.Numerals.{add-one}
 use native.Mathlib.Omega.{arith}
 use lib.ListN.{length, get_or, set, length-set}
-use lib.Seq.{sets, length-sets, slice, slice-cons, set_out, get_or-set_same, get_or-set_other, set_comm, set-set}
+use lib.Seq.{sets, length-sets, set_out, get_or-set_same, get_or-set_other, set_comm, set-set}
 
 -- a run, cut in two
 pub sets-append : (l : List ℕ) (o : ℕ) (a b : List ℕ) → sets l o (a ++ b) ≡ sets (sets l o a) (o + length a) b
@@ -60,10 +59,6 @@ sets-sets l o v w e = sets_over l o v w (omega arith)
 -- a loop's turn: v is still to be stored from o, and the turn stores a, its first part
 pub sets-turn : (l : List ℕ) (o : ℕ) (v a b m : List ℕ) (p : ℕ) → v ≡ a ++ b → m ≡ sets l o a → p ≡ o + length a → sets m p b ≡ sets l o v
 sets-turn l o v a b m p ev em ep = rw (ev, em, ep) (sym (sets-append l o a b))
-
--- one turn of a loop that copies
-pub sets_step : (l : List ℕ) (o i to : ℕ) (s : List ℕ) → i < to → to ≤ length s → sets l o (slice i to s) ≡ sets (set l o (get_or s i 0)) (o + 1) (slice (i + 1) to s)
-sets_step l o i to s h k = rw (add-one i, add-one o, slice-cons i to s 0 h k)
 
 -- a turn that moves on by what it stored
 pub sets_on : (l : List ℕ) (o : ℕ) (v a b m : List ℕ) (p : ℕ) → v ≡ a ++ b → m ≡ sets l o a → p ≡ o + min (length a) (length l - o) → sets m p b ≡ sets l o v

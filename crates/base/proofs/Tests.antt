@@ -111,10 +111,10 @@ module _ (test : ℕ → Bool) where
       (ed ∙ every_part s (length s - 8) 8 (omega arith) t))
 
   -- a turn of a loop that tests k bytes, of which it has tested i
-  pub every-turn : (s : List ℕ) (at k i : ℕ) (t all : Bool) → at + k ≤ length s → i < k → t && every test (take (k - i) (drop (at + i) s)) ≡ all
+  pub every_turn : (s : List ℕ) (at k i : ℕ) (t all : Bool) → at + k ≤ length s → i < k → t && every test (take (k - i) (drop (at + i) s)) ≡ all
       → (t && test (get_or s (at + i) 0)) && every test (take (k - (i + 1)) (drop (at + (i + 1)) s)) ≡ all
   unfolding every
-  every-turn s at k i t all h l e =
+  every_turn s at k i t all h l e =
       let m : k - i ≡ suc (k - (i + 1)) = omega arith in
       let p : at + (i + 1) ≡ suc (at + i) = omega arith in
       rw (and_assoc, p) (rw (m, drop-cons s (at + i) 0 (omega arith)) at e)

@@ -59,6 +59,9 @@ pub before-le : (s : List ℕ) → before_zero s ≤ length s
 before-le [] = unfold before_zero in omega arith
 before-le (b ∷ bs) = by_byte b (λ e. omega (arith, before_zero_lem b bs e)) (λ e. omega (arith, before_other b bs e, before-le bs))
 
+-- the same, by a name that an attribute can give
+pub ruleset before_within = (before-le)
+
 -- a zero in the first part is the first of the whole
 pub before-append : (a b : List ℕ) → before_zero a < length a → before_zero (a ++ b) ≡ before_zero a
 before-append [] b h = absurd (omega arith)
@@ -126,12 +129,12 @@ zero_block s i k h e =
     ∙ rw (l, drop-drop)
 
 -- no zero stands before a place, by that place or by the bytes up to it
-pub before-skip : (s : List ℕ) (k : ℕ) → k ≤ before_zero s → before_zero s ≡ k + before_zero (drop k s)
-before-skip s zero h = sym (zero-add _)
-before-skip [] (suc k) h = absurd (unfold before_zero in omega arith)
-before-skip (b ∷ bs) (suc k) h =
+pub before_skip : (s : List ℕ) (k : ℕ) → k ≤ before_zero s → before_zero s ≡ k + before_zero (drop k s)
+before_skip s zero h = sym (zero-add _)
+before_skip [] (suc k) h = absurd (unfold before_zero in omega arith)
+before_skip (b ∷ bs) (suc k) h =
     by_byte b (λ e. absurd (omega (arith, before_zero_lem b bs e)))
-    (λ e. before_other b bs e ∙ ap suc (before-skip bs k (omega (arith, before_other b bs e))) ∙ sym (suc-add k (before_zero (drop k bs))))
+    (λ e. before_other b bs e ∙ ap suc (before_skip bs k (omega (arith, before_other b bs e))) ∙ sym (suc-add k (before_zero (drop k bs))))
 
 free_nil : zero_free [] ≡ true
 unfolding every
@@ -146,7 +149,7 @@ free_take (suc n) (b ∷ bs) h =
 
 -- a block from a place on that no zero stands before
 pub block_free : (s : List ℕ) (at n : ℕ) → at ≤ before_zero s → at + n ≤ length s → zero_free (take n (drop at s)) ≡ true → at + n ≤ before_zero s
-block_free s at n h k e = omega (arith, before-skip s at h, zero_block s at n k e)
+block_free s at n h k e = omega (arith, before_skip s at h, zero_block s at n k e)
 
 pub block_zero : (s : List ℕ) (at n : ℕ) → at ≤ before_zero s → zero_free (take n (drop at s)) ≡ false → before_zero s < at + n
 block_zero s at n h e = go (leb (at + n) (before_zero s)) refl
@@ -154,7 +157,7 @@ block_zero s at n h e = go (leb (at + n) (before_zero s)) refl
     go : (t : Bool) → leb (at + n) (before_zero s) ≡ t → before_zero s < at + n
     go true q =
         let l = leb-true (at + n) (before_zero s) q in
-        let f = free_take n (drop at s) (omega (arith, before-skip s at h)) in
+        let f = free_take n (drop at s) (omega (arith, before_skip s at h)) in
         let z : true ≡ false = sym f ∙ e in
         absurd (true≢false z)
     go false q = leb-false (at + n) (before_zero s) q

@@ -41,6 +41,7 @@ impl ByteTest for Plain {
 }
 
 // Whether each of the `n` bytes from `at` on passes. There is no branch on the way, so that the loop runs on whole vectors where `n` is a constant.
+#[tactic(auto, using(crate::proofs::Tests::every_turn))]
 pub(crate) fn every_in<T: ByteTest>(s: &[u8], at: usize, n: usize) -> bool
     requires { at + n ≤ length s.now }
     ensures { result ≡ every T.passed (take n (drop at s.now)) }

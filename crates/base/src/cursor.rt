@@ -1,13 +1,13 @@
 // A slice with a position in it that reading goes on from. Each method takes the cursor apart and calls a function on slice and position, which
-// does the work. An enum cannot hold a cursor, so an answer holds the position after what was read. The functions behind the methods make a
-// cursor from plain parameters and read by it.
+// does the work. An answer holds the position after what was read, as that function's does, since who asks has the slice. The functions behind the
+// methods make a cursor from plain parameters and read by it.
 ghost use Rattle.std.specs.Prelude.{◌≡◌};
 ghost use Rattle.base.specs.Number.{read_of};
 ghost use Rattle.base.specs.Seek.{seek_of};
 ghost use Rattle.base.specs.Text.{fixed_of, ended_of};
 
 use crate::error::{PastEnd, TextError};
-use crate::number::{read_u8, read_u16, read_u32};
+use crate::number::{Number, read};
 use crate::seek::seek;
 use crate::text::{ended_text, fixed_text};
 
@@ -24,22 +24,10 @@ impl<'a> Cursor<'a> {
         Cursor { data, pos }
     }
 
-    pub fn read_u8(self) -> Result<(u32, usize), PastEnd>
-        ensures { result ≡ read_of 1 self.entry.«data».now self.entry.pos }
+    pub fn read<N: Number>(self) -> Result<(u32, usize), PastEnd>
+        ensures { result ≡ read_of N.WIDTH self.entry.«data».now self.entry.pos }
     {
-        read_u8(self.data, self.pos)
-    }
-
-    pub fn read_u16(self) -> Result<(u32, usize), PastEnd>
-        ensures { result ≡ read_of 2 self.entry.«data».now self.entry.pos }
-    {
-        read_u16(self.data, self.pos)
-    }
-
-    pub fn read_u32(self) -> Result<(u32, usize), PastEnd>
-        ensures { result ≡ read_of 4 self.entry.«data».now self.entry.pos }
-    {
-        read_u32(self.data, self.pos)
+        read::<N>(self.data, self.pos)
     }
 
     // A field of `len` bytes, read up to its first zero.
@@ -63,22 +51,10 @@ impl<'a> Cursor<'a> {
 }
 
 // The number of one, two or four bytes at a position.
-pub fn u8_at(data: &[u8], pos: usize) -> Result<(u32, usize), PastEnd>
-    ensures { result ≡ read_of 1 «data».now pos }
+pub fn number_at<N: Number>(data: &[u8], pos: usize) -> Result<(u32, usize), PastEnd>
+    ensures { result ≡ read_of N.WIDTH «data».now pos }
 {
-    Cursor::at(data, pos).read_u8()
-}
-
-pub fn u16_at(data: &[u8], pos: usize) -> Result<(u32, usize), PastEnd>
-    ensures { result ≡ read_of 2 «data».now pos }
-{
-    Cursor::at(data, pos).read_u16()
-}
-
-pub fn u32_at(data: &[u8], pos: usize) -> Result<(u32, usize), PastEnd>
-    ensures { result ≡ read_of 4 «data».now pos }
-{
-    Cursor::at(data, pos).read_u32()
+    Cursor::at(data, pos).read::<N>()
 }
 
 // The text in a field of `len` bytes, and the text that ends at a zero.

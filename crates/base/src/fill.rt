@@ -22,6 +22,7 @@ fn copy_first(src: &[u8], out: &mut [u8], at: usize, n: usize)
 }
 
 // `n` bytes from `at` on, and zeros behind them.
+// Kept: `copy_from_slice` is no plainer, since it asks for a part of each side. With `n` a constant the loop is one load.
 fn load(src: &[u8], at: usize, n: usize) -> [u8; 16]
     requires { (n ≤ 16) × (at + n ≤ length src.now) }
     ensures { (length result ≡ 16) × (take n result ≡ take n (drop at src.now)) }
@@ -43,6 +44,7 @@ fn copy_block(src: &[u8], from: usize, out: &mut [u8], at: usize, n: usize)
 }
 
 // 8 to 32 bytes as four blocks, which may overlap: one way for all these lengths, which a processor could not foresee.
+#[tactic(auto, using(crate::proofs::Filling::fill_four))]
 fn copy_four(src: &[u8], out: &mut [u8], at: usize, n: usize)
     requires { (8 ≤ n) × (n ≤ 32) × (n ≤ length src.now) × (n ≤ length out.old - at) }
     ensures { out.new ≡ sets out.old at (take n src.now) }
@@ -58,6 +60,7 @@ fn copy_four(src: &[u8], out: &mut [u8], at: usize, n: usize)
 
 // The bytes of `src`, from `at` on, and the place behind those that were stored. Short ones go by blocks: a loop, or a call that moves memory,
 // takes longer than they do.
+#[tactic(auto, using(crate::proofs::Filling::fill_room))]
 pub(crate) fn copy_on(src: &[u8], out: &mut [u8], at: usize) -> usize
     ensures { (out.new ≡ sets out.old at src.now) × (result ≡ at + min (length src.now) (length out.old - at)) }
 {
@@ -121,6 +124,7 @@ pub fn zeros(out: &mut [u8], at: usize, n: usize)
 }
 
 // How many zeros bring a position to a multiple of 4. Its two low bits say how far it is past the last multiple; the outer mask makes 0 of 4.
+#[tactic(auto, unfolding(crate::specs::Fill::padding_of))]
 pub fn padding(at: usize) -> usize
     ensures { result ≡ padding_of at }
 {

@@ -3,6 +3,7 @@ ghost use Rattle.std.specs.Prelude.{◌≡◌};
 ghost use Rattle.base.specs.Part.{part_of, part_ptr};
 
 // The `len` bytes from `start` on; where they run past the end, the empty part at the slice's start.
+#[tactic(auto, unfolding(crate::specs::Part::part_of, crate::specs::Part::part_ptr))]
 pub fn part(s: &[u8], start: usize, len: usize) -> &[u8]
     ensures { (result.now ≡ part_of s.now start len) × (result.ref_ptr ≡ part_ptr s.entry start len) }
 {

@@ -5,7 +5,7 @@ ghost use Rattle.base.specs.Number.{put};
 ghost use Rattle.base.specs.Placeholder.{entry_at};
 
 use crate::fill::zeros;
-use crate::number::write_u32;
+use crate::number::write;
 
 #[derive(Clone, Copy)]
 pub struct Placeholder32(usize);
@@ -18,7 +18,7 @@ pub struct Placeholders32(usize, usize);
 pub fn write_placeholder_u32(out: &mut [u8], at: usize) -> Placeholder32
     ensures { (result.0 ≡ at) × (out.new ≡ put 4 out.old at 0) }
 {
-    write_u32(out, at, 0);
+    write::<u32>(out, at, 0);
     Placeholder32(at)
 }
 
@@ -34,6 +34,7 @@ fn place_of(at: usize, i: usize) -> usize
 }
 
 // Four zeros for each of `n` places from `at` on. A call that fills memory takes longer than one place, or none, needs.
+#[tactic(auto, using(crate::proofs::Placeholders::gaps_one, crate::proofs::Placeholders::zeros_most))]
 fn write_gaps(out: &mut [u8], at: usize, n: usize)
     ensures { out.new ≡ sets out.old at (replicate (4 * n) 0) }
 {
@@ -41,7 +42,7 @@ fn write_gaps(out: &mut [u8], at: usize, n: usize)
         return;
     }
     if n == 1 {
-        write_u32(out, at, 0);
+        write::<u32>(out, at, 0);
         return;
     }
     let size = place_of(0, n);
@@ -57,6 +58,7 @@ pub fn write_placeholders_u32(out: &mut [u8], at: usize, n: usize) -> Placeholde
 }
 
 // Entry `i` of a table. Where there is none, the place is the largest number: no slice has a byte there, so a patch stores nothing.
+#[tactic(auto, using(crate::proofs::Placeholders::entry_within, crate::proofs::Placeholders::entry_none))]
 pub fn placeholder_of(table: Placeholders32, i: usize) -> Placeholder32
     ensures { result.0 ≡ entry_at table.0 table.1 i }
 {
@@ -70,5 +72,5 @@ pub fn patch_u32(out: &mut [u8], p: Placeholder32, v: u32)
     ensures { out.new ≡ put 4 out.old p.0 v }
 {
     let at = p.0;
-    write_u32(out, at, v);
+    write::<u32>(out, at, v);
 }

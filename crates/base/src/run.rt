@@ -7,7 +7,7 @@ ghost use Rattle.base.specs.Run.{numbers_at, numbers_of, pairs_at, pairs_of, cut
 
 use crate::error::PastEnd;
 use crate::fill::room;
-use crate::number::{four, store_four, two, write_u32};
+use crate::number::{Stored, write};
 
 // One word at `at`.
 pub fn put_word(out: &mut [u32], at: usize, v: u32)
@@ -26,6 +26,7 @@ fn whole_numbers(s: &[u8], at: usize) -> usize
 }
 
 // The answer of a run of `n` numbers of four bytes, which are not read.
+#[tactic(auto, using(crate::proofs::Runs::numbers_cut, crate::proofs::Runs::numbers_there))]
 pub fn numbers_end(s: &[u8], at: usize, n: usize) -> Result<usize, PastEnd>
     ensures { result ≡ numbers_of n s.now at }
 {
@@ -40,6 +41,7 @@ pub fn numbers_end(s: &[u8], at: usize, n: usize) -> Result<usize, PastEnd>
 }
 
 // `n` numbers of four bytes from `at` on, stored from `o` on.
+// Kept: the test of `numbers_end` again. With a call of it and `?` extended data took 4 % more instructions to read.
 pub fn read_numbers(
     s: &[u8],
     at: usize,
@@ -58,7 +60,7 @@ pub fn read_numbers(
     }
     let m = room(n, o, out.len());
     for k in 0..m {
-        out[o + k] = four(s, at + 4 * k);
+        out[o + k] = u32::get(s, at + 4 * k);
     }
     Ok(at + 4 * n)
 }
@@ -81,19 +83,20 @@ pub fn read_pairs(
     let m = room(2 * n, o, out.len());
     let full = m / 2;
     for k in 0..full {
-        out[o + 2 * k] = four(s, at + 8 * k);
-        out[o + 2 * k + 1] = two(s, at + 8 * k + 4);
+        out[o + 2 * k] = u32::get(s, at + 8 * k);
+        out[o + 2 * k + 1] = u16::get(s, at + 8 * k + 4);
     }
     // The first number of the next pair may have room. The answer is the same either way; each way has its own `return`, since they leave different
     // lists and are proved apart.
     if full < n {
-        put_word(out, o + 2 * full, four(s, at + 8 * full));
+        put_word(out, o + 2 * full, u32::get(s, at + 8 * full));
         return Ok(at + 8 * n);
     }
     Ok(at + 8 * n)
 }
 
 // The answer where the pair at `at` is not whole.
+#[tactic(auto, unfolding(crate::specs::Run::cut_pair))]
 fn cut_pair(s: &[u8], at: usize) -> Result<usize, PastEnd>
     ensures { result ≡ cut_pair s.now at }
 {
@@ -117,30 +120,32 @@ pub fn write_numbers(words: &[u32], from: usize, n: usize, out: &mut [u8], at: u
     let m = room(n, from, words.len());
     let full = room(m, 0, out.len().saturating_sub(at) / 4);
     for k in 0..full {
-        store_four(out, at + 4 * k, words[from + k]);
+        u32::put(out, at + 4 * k, words[from + k]);
     }
     if full < m {
-        write_u32(out, at + 4 * full, words[from + full]);
+        write::<u32>(out, at + 4 * full, words[from + full]);
     }
 }
 
 // A pair at a place that has room for it. Its second number and the two zeros go as one number of four bytes: a loop over two equal
 // stores becomes wide moves, one over three unequal ones does not.
+#[tactic(auto, using(crate::proofs::Runs::pair_le))]
 fn store_pair(out: &mut [u8], at: usize, a: u32, b: u32)
     requires { at + 8 ≤ length out.old }
     ensures { out.new ≡ sets out.old at (pairs_le (a ∷ b ∷ [])) }
 {
-    store_four(out, at, a);
-    store_four(out, at + 4, b % 65536);
+    u32::put(out, at, a);
+    u32::put(out, at + 4, b % 65536);
 }
 
 // A pair, as much of it as has room.
+#[tactic(auto, using(crate::proofs::Runs::pair_le, crate::proofs::Stores::sets_out))]
 fn clip_pair(out: &mut [u8], at: usize, a: u32, b: u32)
     ensures { out.new ≡ sets out.old at (pairs_le (a ∷ b ∷ [])) }
 {
     if at < out.len() {
-        write_u32(out, at, a);
-        write_u32(out, at + 4, b % 65536);
+        write::<u32>(out, at, a);
+        write::<u32>(out, at + 4, b % 65536);
     }
 }
 

@@ -10,12 +10,13 @@ use crate::utf8::scan::is_plain;
 
 // A place that no zero stands before: behind the blocks of `size` bytes from `from` on that have none. Fewer than `size` bytes on, a zero or the
 // end stands; which place it is is left open, since `first_zero` finds the same zero from each.
+#[tactic(auto, using(crate::proofs::Zeros::before_within, crate::proofs::Zeros::block_free, crate::proofs::Zeros::block_zero))]
 fn clear_blocks(text: &[u8], from: usize, size: usize) -> usize
     requires { (0 < size) × (from ≤ before_zero text.now) }
     ensures { (from ≤ result) × (result ≤ before_zero text.now) × (result + size ≤ length text.now → before_zero text.now < result + size) }
 {
     let mut at: usize = from;
-    // Kept: the index goes on by blocks, and where it stops is the answer; `chunks` would have to be counted.
+    // Kept: `from + size * chunks_exact(size).take_while(..).count()` is no plainer: it needs a slice, a product and a sum to say the same place.
     while size <= text.len() - at && every_in::<NotZero>(text, at, size) {
         at += size;
     }
@@ -24,6 +25,7 @@ fn clear_blocks(text: &[u8], from: usize, size: usize) -> usize
 
 // Which half of the `2 * n` bytes from `at` on has the first zero: where it starts. Nothing branches on the answer: where a name ends is nothing
 // that a processor could foresee. (Where the zero is in that half is left open: `zero_in` halves until one byte is left.)
+#[tactic(auto, using(crate::proofs::Zeros::block_free, crate::proofs::Zeros::block_zero))]
 fn half(text: &[u8], at: usize, n: usize) -> usize
     requires { (at + 2 * n ≤ length text.now) × (at ≤ before_zero text.now) × (before_zero text.now < at + 2 * n) }
     ensures { (result ≤ before_zero text.now) × (before_zero text.now < result + n) × (result + n ≤ length text.now) }
@@ -45,7 +47,7 @@ fn zero_in(text: &[u8], at: usize) -> usize
     half(text, b, 1)
 }
 
-// Kept: `8 * usize::from(test)` was tried. The compiler then adds the three tests up before it multiplies, and the search takes up to 3 % longer.
+// Kept: `8 * usize::from(test)` is no plainer than `if`. (It was tried, and the search took up to 3 % longer.)
 fn eight_if(test: bool) -> usize
     ensures { (result ≡ pick test 8 0) × (result ≤ 8) }
 {
@@ -65,6 +67,7 @@ fn zero_block(text: &[u8], at: usize) -> usize
 }
 
 // The first zero at or after `at`, or the text's length.
+#[tactic(auto, using(crate::proofs::Zeros::zero_here, crate::proofs::Zeros::zero_later, crate::proofs::Zeros::zero_none))]
 fn zero_from(text: &[u8], at: usize) -> usize
     requires { at ≤ length text.now }
     ensures { result ≡ at + before_zero (drop at text.now) }
@@ -78,6 +81,7 @@ fn zero_from(text: &[u8], at: usize) -> usize
 }
 
 // The same where fewer than 8 bytes are left, and no zero stands before them: the last 8 bytes are tested together.
+#[tactic(auto, using(crate::proofs::Zeros::before_within, crate::proofs::Zeros::before_skip))]
 fn zero_behind(text: &[u8], at: usize) -> usize
     requires { (at ≤ before_zero text.now) × (length text.now < at + 8) }
     ensures { result ≡ before_zero text.now }
@@ -93,6 +97,7 @@ fn zero_behind(text: &[u8], at: usize) -> usize
 }
 
 // How many bytes stand before the first zero; all, where there is none.
+#[tactic(auto, using(crate::proofs::Zeros::before_within))]
 pub fn first_zero(text: &[u8]) -> usize
     ensures { result ≡ before_zero text.now }
 {
@@ -108,6 +113,7 @@ pub fn first_zero(text: &[u8]) -> usize
 }
 
 // Where the first zero or the first ill-formed subpart stands, whichever is earlier; the length, where there is neither.
+#[tactic(auto, using(crate::proofs::utf8::Turns::plain_fault), unfolding(crate::specs::Text::first_fault))]
 pub fn first_fault(text: &[u8]) -> usize
     ensures { result ≡ first_fault text.now }
 {
@@ -161,6 +167,7 @@ pub fn ended_text(s: &[u8], at: usize) -> Result<(usize, usize), TextError>
 
 // Whether a text of `n` bytes stands at `at` with a zero behind it, and is plain: 8 to 32 bytes of ASCII without a zero. Where a text's length is
 // foreseen this is one test in place of a search for its zero, and the text needs no further one.
+#[tactic(auto, unfolding(crate::specs::Text::plain_at))]
 pub fn plain_text(s: &[u8], at: usize, n: usize) -> bool
     ensures { result ≡ plain_at s.now at n }
 {

@@ -39,6 +39,7 @@ fn put_replacement(out: &mut [u8], at: usize) -> usize
 
 // Whether a short text is well-formed, by one way through the automaton. A no is left open: the caller then goes through the text as if nothing
 // had been asked.
+#[tactic(auto, using(crate::proofs::utf8::Automaton::zero_state))]
 fn short_valid(text: &[u8], automaton: Automaton) -> bool
     ensures { result ≡ true → valid_up_to text.now ≡ length text.now }
 {
@@ -51,6 +52,7 @@ fn short_valid(text: &[u8], automaton: Automaton) -> bool
 
 // Where the first ill-formed subpart starts, or the length. A short text is looked at as a whole first: names are well-formed. It is asked of a text
 // of which `is_ascii` says no, and is no part of what asks: an ASCII text then has nothing to do with the room for the tables.
+#[tactic(auto, using(crate::proofs::utf8::Tables::classes_hold, crate::proofs::utf8::Tables::rows_hold))]
 #[inline(never)]
 fn ill_mixed(text: &[u8]) -> usize
     ensures { result ≡ valid_up_to text.now }
@@ -65,6 +67,7 @@ fn ill_mixed(text: &[u8]) -> usize
 }
 
 // Where the first ill-formed subpart starts, or the length. A text that is seen to be ASCII has none.
+#[tactic(auto, using(crate::proofs::utf8::Turns::ascii_valid, crate::proofs::utf8::Turns::seen_ascii))]
 pub fn first_ill(text: &[u8]) -> usize
     ensures { result ≡ valid_up_to text.now }
 {
@@ -74,6 +77,7 @@ pub fn first_ill(text: &[u8]) -> usize
     ill_mixed(text)
 }
 
+#[tactic(auto, using(crate::proofs::utf8::Laws::well_valid))]
 pub fn well_formed(text: &[u8]) -> bool
     ensures { result ≡ well_formed text.now }
 {
@@ -81,6 +85,7 @@ pub fn well_formed(text: &[u8]) -> bool
 }
 
 // A byte that begins nothing is an ill-formed subpart by itself.
+#[tactic(auto, using(crate::proofs::utf8::Steps::class_row, crate::proofs::utf8::Steps::class_tail))]
 fn lone(text: &[u8], at: usize, classes: ClassTable) -> bool
     ensures { result ≡ (nat_lt at (length text.now) && class_of (slice_index text.now at) == 0) }
 {
@@ -106,7 +111,7 @@ fn put_lone(text: &[u8], i: usize, out: &mut [u8], o: usize, classes: ClassTable
 {
     let mut end = i;
     let mut next = o;
-    // Kept: where the lone bytes end is the answer, and a `for` over what is left would have to carry it as well.
+    // Kept: each turn stores too, so that a `take_while(..).count()` is not enough; and a `for` has to carry both places as well.
     while lone(text, end, classes) {
         next = put_replacement(out, next);
         end += 1;
@@ -130,7 +135,7 @@ fn decode_runs(
     let mut o = at;
     let mut extra: usize = 0;
     let mut count: usize = 0;
-    // Kept: each turn goes on by as many bytes as it took.
+    // Kept: each turn goes on by as many bytes as it took, so no `for` has its steps.
     loop {
         let lones = put_lone(text, i, out, o, automaton.classes);
         let from = lones.end;
@@ -151,6 +156,7 @@ fn decode_runs(
 }
 
 // A short text as a whole first here too. It goes on with a part that is all of the text, for the reason that `is_ascii` does.
+#[tactic(auto, using(crate::proofs::utf8::Tables::classes_hold, crate::proofs::utf8::Tables::rows_hold))]
 fn decode_mixed(text: &[u8], out: &mut [u8], at: usize, replaced: &mut usize) -> usize
     ensures { (result ≡ decoded_size text.now) × (replaced.new ≡ added replaced.old (replacements text.now))
         × (out.new ≡ sets out.old at (decode text.now)) }
@@ -168,6 +174,7 @@ fn decode_mixed(text: &[u8], out: &mut [u8], at: usize, replaced: &mut usize) ->
 }
 
 // How many bytes the text decodes to: it is decoded into nothing.
+#[tactic(auto, using(crate::proofs::utf8::Turns::ascii_size, crate::proofs::utf8::Turns::seen_ascii))]
 pub fn decoded_len(text: &[u8]) -> usize
     ensures { result ≡ decoded_size text.now }
 {
@@ -195,6 +202,7 @@ pub fn decode_into(text: &[u8], out: &mut [u8], at: usize, replaced: &mut usize)
 
 // The same where the text may be known to be shown as it is: then it is stored as it is. `replaced` is the sum of `before` and the U+FFFD put in.
 // It is in the loop over a section's texts. For one that is ASCII `before` is handed back, so that the compiler can keep the sum in a register.
+// Kept: `plain` is a parameter that says one thing of the text, with no value beside it. An enum of two names says no more.
 pub fn decode_known(
     text: &[u8],
     plain: bool,
@@ -221,6 +229,7 @@ pub fn decode_known(
 }
 
 // The same, one character at a time: the plain form that the other one is measured against.
+#[tactic(auto, using(crate::proofs::utf8::Tables::classes_hold))]
 pub fn decode_plain(text: &[u8], out: &mut [u8], at: usize, replaced: &mut usize) -> usize
     ensures { (result ≡ decoded_size text.now) × (replaced.new ≡ replacements text.now)
         × (out.new ≡ sets out.old at (decode text.now)) }
@@ -231,7 +240,7 @@ pub fn decode_plain(text: &[u8], out: &mut [u8], at: usize, replaced: &mut usize
     let mut o = at;
     let mut extra: usize = 0;
     let mut count: usize = 0;
-    // Kept: each turn goes on by as many bytes as its piece has.
+    // Kept: each turn goes on by as many bytes as its piece has, so no `for` has its steps.
     while i < text.len() {
         match step_at(text, i, classes) {
             Step::Good(k) => {

@@ -13,7 +13,7 @@ use lib.Seq.{slice, slice-cons, slice_empty, length-slice, length-take-le, drop-
 use Rattle.base.specs.Choice.{pick}
 use Rattle.base.specs.Utf8.{Range, rows, within, class_of, byte_class, later_of, matched, more, valid_up_to, well_formed}
 use Rattle.base.specs.inner.Flow.{awaits, entered, passed, first_fits, state_after, flows, state_of, State, Rows, Flow}
-use Rattle.base.proofs.utf8.Steps.{class_below, matched-none}
+use Rattle.base.proofs.utf8.Steps.{class_below, matched_none}
 use Rattle.base.proofs.utf8.Pieces.{well_nil, well_good}
 use Rattle.base.proofs.utf8.Laws.{before, good_from}
 
@@ -108,7 +108,7 @@ flowed_first x xs (suc c) h e f ih =
     let n : more x xs ≡ length (awaits (get_or entered (suc c) 1)) = more_is x xs (suc c) e ∙ rw (← a) r.full in
     let m : more x xs ≡ length (later_of (class_of x)) = rw (e, ← a) n in
     let g = good_from x xs (rw e (le-leb 1 (suc c) (omega arith))) m in
-    record { full = sym (matched-none (x ∷ xs)); rest = well_good x xs g ∙ rw n r.rest }
+    record { full = sym (matched_none (x ∷ xs)); rest = well_good x xs g ∙ rw n r.rest }
 
 flowed_later : (x : ℕ) (xs : List ℕ) (q : ℕ) (a : Awaiting q) (b : Bool) → within a.first x ≡ b → flows (pick b (get_or passed (suc (suc q)) 1) 1) xs ≡ true
     → ((p : ℕ) → p < 9 → flows p xs ≡ true → Flowed p xs) → Flowed (suc (suc q)) (x ∷ xs)
@@ -119,7 +119,7 @@ flowed_later x xs q a false e f ih = absurd (not_both (flows 1 xs) f (stuck xs))
 
 flowed : (xs : List ℕ) (q : ℕ) → q < 9 → flows q xs ≡ true → Flowed q xs
 unfolding flows state_after
-flowed [] zero h f = record { full = sym (matched-none []); rest = well_nil }
+flowed [] zero h f = record { full = sym (matched_none []); rest = well_nil }
 flowed [] (suc q) h f = absurd (not_both (eqb (suc q) 0) f (ne_eqb (suc q) 0 (λ e. omega arith)))
 flowed (x ∷ xs) zero h f = flowed_first x xs (class_of x) (class_below x) refl f (flowed xs)
 flowed (x ∷ xs) (suc zero) h f = absurd (not_both (flows 1 xs) f (stuck xs))

@@ -55,11 +55,11 @@ unfolding later_of
 class_small zero = tt
 class_small (suc c) = later-small rows c rows-small
 
-matched-small : (rs : List Range) (xs : List ℕ) → T (small_ranges rs) → Bytes (take (matched rs xs) xs)
+matched_small : (rs : List Range) (xs : List ℕ) → T (small_ranges rs) → Bytes (take (matched rs xs) xs)
 unfolding matched
-matched-small [] xs h = λ i. omega arith
-matched-small (r ∷ rs) [] h = λ i. omega arith
-matched-small (r ∷ rs) (x ∷ xs) h = go (within r x) refl (matched-small rs xs (both_right (leb r.hi 255) (small_ranges rs) h))
+matched_small [] xs h = λ i. omega arith
+matched_small (r ∷ rs) [] h = λ i. omega arith
+matched_small (r ∷ rs) (x ∷ xs) h = go (within r x) refl (matched_small rs xs (both_right (leb r.hi 255) (small_ranges rs) h))
   where
     go : (b : Bool) → within r x ≡ b → Bytes (take (matched rs xs) xs) → Bytes (take (pick b (suc (matched rs xs)) 0) (x ∷ xs))
     go true e k zero = within-small r x (both_left (leb r.hi 255) (small_ranges rs) h) (subst T (sym e) tt)
@@ -72,7 +72,7 @@ character-small : (x : ℕ) (xs : List ℕ) → good x xs ≡ true → (x < 256)
 unfolding good more class_of
 character-small x xs e = (
   first_small 1 rows x rows-small (both_left (leb 1 (row_from 1 rows x)) (eqb (matched (later_of (row_from 1 rows x)) xs) (length (later_of (row_from 1 rows x)))) (subst T (sym e) tt)),
-  matched-small (later_of (row_from 1 rows x)) xs (class_small (row_from 1 rows x)),
+  matched_small (later_of (row_from 1 rows x)) xs (class_small (row_from 1 rows x)),
 )
 
 bytes_cons : (x : ℕ) (xs : List ℕ) → x < 256 → Bytes xs → Bytes (x ∷ xs)

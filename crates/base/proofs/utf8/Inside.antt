@@ -15,7 +15,7 @@ use Rattle.base.specs.Choice.{pick}
 use Rattle.base.specs.declared.utf8.step.Step.TheVariants.{Good, Bad}
 use Rattle.base.specs.Utf8.{Range, within, class_of, later_of, matched, more, good, step_of, valid_up_to}
 use Rattle.base.specs.inner.Flow.{awaits, entered, passed, state_after}
-use Rattle.base.proofs.utf8.Steps.{class_below, matched-none, step_none}
+use Rattle.base.proofs.utf8.Steps.{class_below, matched_none, step_none}
 use Rattle.base.proofs.utf8.Laws.{good_from}
 use Rattle.base.proofs.utf8.Automaton.{entered-awaits, entered_below, entered_known, Awaiting, awaiting, more_is, matched_on}
 use Rattle.base.proofs.utf8.Turns.{GoodAt, BadAt, good_at, bad_at}
@@ -85,7 +85,7 @@ module _ (s : List ℕ) where
         small = rw q (entered_below (suc c) l);
         lost = λ k. absurd (entered_known c (omega arith) (sym q ∙ k));
         done = λ k.
-            let z : more (get_or s j 0) (drop (j + 1) s) ≡ 0 = rw k at n ∙ sym (matched-none _) in
+            let z : more (get_or s j 0) (drop (j + 1) s) ≡ 0 = rw k at n ∙ sym (matched_none _) in
             let y : length (later_of (class_of (get_or s j 0))) ≡ 0 = rw k at w in
             good_at s j (j + 1 - j) h _ refl (row-whole _ _ (j + 1 - j) r (z ∙ sym y) (omega arith));
         later = λ k. record { some = omega arith; row = r; read = omega arith; whole = omega arith };
@@ -102,7 +102,7 @@ module _ (s : List ℕ) where
         small = rw q a.small;
         lost = λ k. absurd (a.known (sym q ∙ k));
         done = λ k.
-            let z : matched (awaits p) (drop (j + 1) s) ≡ 0 = rw k (sym (matched-none _)) in
+            let z : matched (awaits p) (drop (j + 1) s) ≡ 0 = rw k (sym (matched_none _)) in
             let y : length (awaits p) ≡ 0 = rw k refl in
             good_at s i (j + 1 - i) hi _ refl
             (row-whole _ _ (j + 1 - i) t.row (omega (arith, t.read, t.whole, f, g, z, y)) (omega (arith, t.read, t.some, f, z)));

@@ -31,9 +31,9 @@ module _ (r : Range) (rs : List Range) (s : List ℕ) (at : ℕ) where
   unfolding matched
   matched_miss h e = rw (drop-cons s at 0 h, e)
 
-pub matched-none : (xs : List ℕ) → 0 ≡ matched [] xs
+pub matched_none : (xs : List ℕ) → 0 ≡ matched [] xs
 unfolding matched
-matched-none xs = refl
+matched_none xs = refl
 
 pub matched-le : (rs : List Range) (xs : List ℕ) → matched rs xs ≤ length rs
 unfolding matched
@@ -44,9 +44,6 @@ matched-le (r ∷ rs) (x ∷ xs) = go (within r x) (matched-le rs xs)
     go : (b : Bool) → matched rs xs ≤ length rs → pick b (suc (matched rs xs)) 0 ≤ suc (length rs)
     go true h = omega arith
     go false h = omega arith
-
-pub matched-small : (n : ℕ) (rs : List Range) (xs : List ℕ) → n ≡ matched rs xs → n ≤ length rs
-matched-small n rs xs e = rw e (matched-le rs xs)
 
 -- ---- classes
 
@@ -160,4 +157,4 @@ step_by x xs c rs cls n r el ec ek h en er = step_row x xs c rs n r el (class_ro
 
 pub step_one : (x : ℕ) (xs : List ℕ) → class_of x ≡ 1 → Good 1 ≡ step_of x xs
 unfolding later_of rows
-step_one x xs e = step_row x xs 0 [] 0 (Good 1) refl e (matched-none xs) refl
+step_one x xs e = step_row x xs 0 [] 0 (Good 1) refl e (matched_none xs) refl

@@ -21,7 +21,7 @@ use Rattle.base.specs.inner.Scan.{ill_size, ascii_seen, added, Lones}
 use Rattle.base.proofs.Stores.{sets_on}
 use Rattle.base.proofs.Tests.{every_at}
 use Rattle.base.proofs.Zeros.{byte_some, free_of, ended_there}
-use Rattle.base.proofs.utf8.Steps.{matched-none, ascii_class, step_none}
+use Rattle.base.proofs.utf8.Steps.{matched_none, ascii_class, step_none}
 use Rattle.base.proofs.utf8.Pieces.{more_within, step_good, step_bad, decode_nil, decode-good, valid_nil, valid_good, valid_bad, ill_nil, ill_bad, count_nil, count-good}
 use Rattle.base.proofs.utf8.Laws.{both_true, good_from, whole_well, decode_well, valid_le, decode_front, ill-short, ill-within, ill_or_end, decode-ill, count_front, count-ill, well_none}
 
@@ -106,7 +106,7 @@ ascii-good : (x : ℕ) (xs : List ℕ) → x < 128 → (good x xs ≡ true) × (
 unfolding more
 ascii-good x xs h =
     let e = ascii_class x h in
-    let m : matched (later_of (class_of x)) xs ≡ 0 = rw e (unfold later_of rows in sym (matched-none xs)) in
+    let m : matched (later_of (class_of x)) xs ≡ 0 = rw e (unfold later_of rows in sym (matched_none xs)) in
     (good_from x xs (rw e refl) (m ∙ rw e (unfold later_of rows in refl)), m)
 
 pub ascii_run : (s : List ℕ) (i m : ℕ) → i + m ≤ length s → ((j : ℕ) → j < m → get_or s (i + j) 0 < 128) → i + m + valid_up_to (drop (i + m) s) ≡ i + valid_up_to (drop i s)
@@ -160,15 +160,15 @@ plain_fault s e =
     let a = ascii_valid s (λ k h. (f k h).1) in
     omega (arith, z, a)
 
-pub ascii-decode : (s : List ℕ) → ((j : ℕ) → j < length s → get_or s j 0 < 128) → decode s ≡ s
-ascii-decode s f = decode_well s (whole_well s (ascii_valid s f))
+pub ascii_decode : (s : List ℕ) → ((j : ℕ) → j < length s → get_or s j 0 < 128) → decode s ≡ s
+ascii_decode s f = decode_well s (whole_well s (ascii_valid s f))
 
-pub ascii-size : (s : List ℕ) → length s < 18446744073709551616 → ((j : ℕ) → j < length s → get_or s j 0 < 128) → length s ≡ decoded_size s
+pub ascii_size : (s : List ℕ) → length s < 18446744073709551616 → ((j : ℕ) → j < length s → get_or s j 0 < 128) → length s ≡ decoded_size s
 unfolding decoded_size
-ascii-size s h f = rw (ascii-decode s f) (omega arith)
+ascii_size s h f = rw (ascii_decode s f) (omega arith)
 
-pub ascii-none : (s : List ℕ) → ((j : ℕ) → j < length s → get_or s j 0 < 128) → 0 ≡ replacements s
-ascii-none s f = well_none s (whole_well s (ascii_valid s f))
+pub ascii_none : (s : List ℕ) → ((j : ℕ) → j < length s → get_or s j 0 < 128) → 0 ≡ replacements s
+ascii_none s f = well_none s (whole_well s (ascii_valid s f))
 
 -- ---- a walk that came to an ill-formed subpart or to the end
 
@@ -268,10 +268,7 @@ added_is before n h = go (eqb n 0) refl
     go true e = let z = eqb-true n 0 e in omega arith
     go false e = refl
 
--- lone bytes: none yet, one more, and all of them passed
-pub no_lones : (s : List ℕ) (i : ℕ) → i ≤ length s → Lones s i i
-no_lones s i h = (omega arith, h, omega arith, omega arith)
-
+-- lone bytes: one more, and all of them passed
 pub one_lone : (s : List ℕ) (i j : ℕ) → Lones s i j → RunAt s j j 1 → Lones s i (j + 1)
 one_lone s i j l r =
     let a = ap length (r.split (omega arith)) in
@@ -330,7 +327,7 @@ plain-text s at n e =
     sym (take-append-drop n (drop at s))
     ∙ ap₂ (λ (a b : List ℕ). a ++ b) p (drop-drop n at s ∙ drop-cons s (at + n) 0 h ∙ ap (λ (b : ℕ). b ∷ drop (suc (at + n)) s) (eqb-true _ _ v.1)) in
     let b : before_zero t ≡ length t = free_of t (λ k m e. let q = (f k m).0 in omega (arith, q, e)) in
-    record { fits = h; ended = rw l at (ended_there s at t (drop (suc (at + n)) s) d b); shown = ascii-decode t (λ k m. (f k m).1) }
+    record { fits = h; ended = rw l at (ended_there s at t (drop (suc (at + n)) s) d b); shown = ascii_decode t (λ k m. (f k m).1) }
 
 -- ---- the same for one step at a time
 

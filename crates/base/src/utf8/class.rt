@@ -3,6 +3,7 @@
 ghost use Rattle.std.specs.Prelude.{◌≡◌};
 ghost use Rattle.base.specs.Utf8.{byte_class, Classes};
 
+// Kept: a class is a number and no enum, since it is the entry of one table (document 01 names a table of 256 byte classes) and the index of the other.
 // The compiler builds a table wherever the code names it. So a function that needs many classes names it once and passes it on.
 // Kept: a static, which nothing has to pass on, was tried, and a table within the struct. With a static ill-formed texts are decoded 5 to 10 % slower;
 // a table within the struct is built and then moved, and short texts are decoded 15 to 25 % slower.

@@ -7,6 +7,7 @@ use crate::utf8::class::ClassTable;
 
 // For each class of a byte the states behind it, six bits for each state before it. A state is held as six times its number, so that it is
 // the shift.
+// Kept: so a state is a number and no enum, here and in scan.rt.
 pub(crate) const ROWS: [u64; 16] = [
     1715657000903046,
     1715657000903040,
@@ -45,6 +46,7 @@ impl<'a> Automaton<'a> {
     }
 
     // The state behind a byte. The bits above the lowest six are left as they are: the next shift takes no notice of them.
+    #[tactic(auto, using(crate::proofs::utf8::Automaton::next_held, crate::proofs::utf8::Steps::byte_below))]
     pub(crate) fn next_state(self, state: u64, b: u8) -> u64
         requires { State state }
         ensures { State result × (state_of result ≡ state_after (state_of state) b) }

@@ -10,6 +10,7 @@ use crate::byte_test::{Ascii, Plain, every_in};
 use crate::utf8::flow::Automaton;
 
 // The end of the characters, and the number of bytes of the ill-formed subpart there; 0 at the text's end.
+// Kept: `skip` is a number and no Option. A subpart has one byte at least, so 0 is free, and the callers add `skip` up.
 #[derive(Clone, Copy)]
 pub struct Run {
     pub end: usize,
@@ -35,7 +36,7 @@ fn ascii_long(s: &[u8]) -> bool
 {
     let n = s.len();
     let mut i = 0;
-    // Kept: a block is told by its place, since the last one overlaps; `chunks_exact` gives slices, and the last would be cut by itself.
+    // Kept: `chunks_exact` is no plainer. The last block overlaps the one before it, so it would be a slice of its own with a test of its own.
     while 64 <= n - i {
         if every_in::<Ascii>(s, i, 64) {
             i += 64;
@@ -48,6 +49,7 @@ fn ascii_long(s: &[u8]) -> bool
 
 // Whether a whole text of 8 to 32 bytes is ASCII and without a zero. It is four blocks whatever the length, so that the processor has no length
 // to foresee.
+#[tactic(auto, using(crate::proofs::Tests::every_four))]
 fn plain_four(s: &[u8]) -> bool
     requires { (8 ≤ length s.now) × (length s.now ≤ 32) }
     ensures { result ≡ every plain s.now }
@@ -65,6 +67,7 @@ fn plain_four(s: &[u8]) -> bool
 // that is right for every text.
 // It looks at a part, which is all of the text: the text's address is then read at once whatever its length, and so the compiler passes address and
 // length in registers. Without that a caller stores both, and they are read back.
+#[tactic(auto, using(crate::proofs::Parts::part_all), unfolding(crate::specs::inner::Scan::ascii_seen))]
 pub(crate) fn is_ascii(s: &[u8]) -> bool
     ensures { result ≡ ascii_seen s.now }
 {
@@ -83,6 +86,7 @@ pub(crate) fn is_ascii(s: &[u8]) -> bool
 }
 
 // Whether a text has 8 to 32 bytes and is ASCII without a zero. It asks `is_ascii`, so that this stays one function.
+#[tactic(auto, unfolding(crate::specs::Text::is_plain, crate::specs::inner::Scan::ascii_seen))]
 pub(crate) fn is_plain(s: &[u8]) -> bool
     ensures { result ≡ is_plain s.now }
 {
@@ -110,6 +114,7 @@ fn plain_block(s: &[u8], at: usize, state: u64) -> bool
 
 // The end of the text where the automaton comes to it between two characters, or `good`. Which of the two is left open: from either it is as far
 // to the first ill-formed subpart.
+#[tactic(auto, using(crate::proofs::utf8::Automaton::flow_join, crate::proofs::utf8::Automaton::flow_end, crate::proofs::utf8::Automaton::state_zero))]
 fn last_block(s: &[u8], good: usize, at: usize, state: u64, automaton: Automaton) -> usize
     requires { Flow s.now good 0 at state }
     ensures { (good ≤ result) × (result ≤ length s.now) × (result + valid_up_to (drop result s.now) ≡ good + valid_up_to (drop good s.now)) }
@@ -124,6 +129,7 @@ fn last_block(s: &[u8], good: usize, at: usize, state: u64, automaton: Automaton
 
 // Whole characters, 32 bytes at a time, as far as that goes. `good` is the last end of a block that stands between two characters. How far it goes
 // is left open: the caller walks on from there, byte by byte.
+#[tactic(auto, using(crate::proofs::utf8::Automaton::flow_start, crate::proofs::utf8::Automaton::zero_state, crate::proofs::utf8::Automaton::flow_join, crate::proofs::utf8::Automaton::flow_end, crate::proofs::utf8::Automaton::flow_here, crate::proofs::utf8::Automaton::state_zero))]
 fn blocks(s: &[u8], from: usize, automaton: Automaton) -> usize
     requires { (from ≤ length s.now) }
     ensures { (from ≤ result) × (result ≤ length s.now) × (result + valid_up_to (drop result s.now) ≡ from + valid_up_to (drop from s.now)) }

@@ -1,18 +1,20 @@
 // One piece of a text: a character, or a maximal ill-formed subpart.
 ghost use Rattle.std.specs.Prelude.{◌==◌, slice_index};
-ghost use Rattle.std.specs.Prelude.{◌≡◌, [], ◌∷◌, suc, ◌+◌, ◌<◌, eqb, length, get_or, drop};
+ghost use Rattle.std.specs.Prelude.{◌≡◌, [], ◌∷◌, suc, ◌+◌, ◌<◌, ◌≤◌, eqb, length, get_or, drop};
 ghost use Rattle.base.specs.Choice.{pick};
 ghost use Rattle.base.specs.Utf8.{range, tail, within, matched, step_of};
 
 use crate::utf8::class::ClassTable;
 
 // A piece, by its number of bytes.
+// Kept: a `Result` is no plainer. An ill-formed piece is no failure: no `?` hands it up, and the text goes on behind it as behind a character.
 #[derive(Clone, Copy)]
 pub enum Step {
     Good(usize),
     Bad(usize),
 }
 
+#[tactic(auto, unfolding(crate::specs::Utf8::within))]
 fn inside(b: u8, lo: u8, hi: u8) -> bool
     ensures { result ≡ within (range lo hi) b }
 {
@@ -21,8 +23,9 @@ fn inside(b: u8, lo: u8, hi: u8) -> bool
 
 // How many bytes from `at` on are, one by one, in their ranges: one, two or three ranges, of which the later ones are 80..BF.
 // Kept: one function over the number of the ranges was tried, and `decode_plain` took 10 to 25 % longer.
+#[tactic(auto, using(crate::proofs::utf8::Steps::matched_hit, crate::proofs::utf8::Steps::matched_miss, crate::proofs::utf8::Steps::matched_past, crate::proofs::utf8::Steps::matched_none))]
 fn match1(s: &[u8], at: usize, lo: u8, hi: u8) -> usize
-    ensures { result ≡ matched (range lo hi ∷ []) (drop at s.now) }
+    ensures { (result ≡ matched (range lo hi ∷ []) (drop at s.now)) × (result ≤ 1) }
 {
     if at < s.len() {
         if inside(s[at], lo, hi) { 1 } else { 0 }
@@ -31,8 +34,9 @@ fn match1(s: &[u8], at: usize, lo: u8, hi: u8) -> usize
     }
 }
 
+#[tactic(auto, using(crate::proofs::utf8::Steps::matched_hit, crate::proofs::utf8::Steps::matched_miss, crate::proofs::utf8::Steps::matched_past))]
 fn match2(s: &[u8], at: usize, lo: u8, hi: u8) -> usize
-    ensures { result ≡ matched (range lo hi ∷ tail ∷ []) (drop at s.now) }
+    ensures { (result ≡ matched (range lo hi ∷ tail ∷ []) (drop at s.now)) × (result ≤ 2) }
 {
     if at < s.len() {
         if inside(s[at], lo, hi) {
@@ -45,8 +49,9 @@ fn match2(s: &[u8], at: usize, lo: u8, hi: u8) -> usize
     }
 }
 
+#[tactic(auto, using(crate::proofs::utf8::Steps::matched_hit, crate::proofs::utf8::Steps::matched_miss, crate::proofs::utf8::Steps::matched_past))]
 fn match3(s: &[u8], at: usize, lo: u8, hi: u8) -> usize
-    ensures { result ≡ matched (range lo hi ∷ tail ∷ tail ∷ []) (drop at s.now) }
+    ensures { (result ≡ matched (range lo hi ∷ tail ∷ tail ∷ []) (drop at s.now)) × (result ≤ 3) }
 {
     if at < s.len() {
         if inside(s[at], lo, hi) {
@@ -72,6 +77,7 @@ fn judged(n: usize, of: usize) -> Step
 }
 
 // The piece that begins at `at`.
+#[tactic(auto, using(crate::proofs::utf8::Steps::step_one, crate::proofs::utf8::Steps::ascii_class, crate::proofs::utf8::Steps::class_row, crate::proofs::utf8::Steps::step_none, crate::proofs::utf8::Steps::class_none))]
 pub(crate) fn step_at(s: &[u8], at: usize, classes: ClassTable) -> Step
     requires { at < length s.now }
     ensures { result ≡ step_of (slice_index s.now at) (drop (at + 1) s.now) }

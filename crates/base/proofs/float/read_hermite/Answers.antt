@@ -63,4 +63,4 @@ pub returns-in_err-slope : goal.returns-in_err-slope
 returns-in_err-slope c = handed_on _ c.from_residual-in_err-slope.ensures.1 ∙ past_3 _ _ (sym c.in_ok-frame.ensures) (sym c.in_ok-value.ensures) (sym c.in_err-slope.ensures)
 
 pub returns : goal.returns
-returns c = whole _ _ (sym c.in_ok-frame.ensures) (sym c.in_ok-value.ensures) (sym c.in_ok-slope.ensures) c.hermite_from_bits.ensures
+returns c = whole _ _ (sym c.in_ok-frame.ensures) (sym c.in_ok-value.ensures) (sym c.in_ok-slope.ensures) c.from_bits.ensures

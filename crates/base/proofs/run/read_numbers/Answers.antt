@@ -18,7 +18,7 @@ pub loop-k-preserved : goal.loop-k-preserved
 loop-k-preserved c =
     let v = numbers_at c.args.n c.args.s.now c.args.at in
     let h : c.loop-k.k < length v = rw (length-numbers c.args.n c.args.s.now c.args.at) (omega arith) in
-    let e : c.four.result ≡ get_or v c.loop-k.k 0 = c.four.ensures ∙ sym (numbers_at_lem _ _ _ _ (omega arith)) in
+    let e : c.get.result ≡ get_or v c.loop-k.k 0 = c.get.ensures ∙ sym (numbers_at_lem _ _ _ _ (omega arith)) in
     (c.loop-k.invariant.0, simp length-set c.loop-k.invariant.1, ap (λ (x : ℕ). sets (set c.loop-k.out (c.args.o + c.loop-k.k) x) (c.args.o + (c.loop-k.k + 1)) (drop (c.loop-k.k + 1) v)) e ∙ fill_turn _ _ _ v h ∙ c.loop-k.invariant.2)
 
 pub returns : goal.returns

@@ -24,7 +24,7 @@ loop-k-preserved c =
       c.loop-k.invariant.0,
       omega arith,
       simp length-set c.loop-k.invariant.2,
-      pair_turn c.loop-k.out c.args.o c.loop-k.k _ _ v (omega (arith, l, c.loop-k.invariant.0)) (c.four.ensures ∙ sym (pairs_first _ _ _ _ (omega arith))) (c.two.ensures.0 ∙ sym (pairs_second _ _ _ _ (omega arith))) ∙ c.loop-k.invariant.3,
+      pair_turn c.loop-k.out c.args.o c.loop-k.k _ _ v (omega (arith, l, c.loop-k.invariant.0)) (c.get.ensures ∙ sym (pairs_first _ _ _ _ (omega arith))) (c.get-in-loop-k.ensures ∙ sym (pairs_second _ _ _ _ (omega arith))) ∙ c.loop-k.invariant.3,
     )
 
 pub returns-then-full-n : goal.returns-then-full-n
@@ -35,7 +35,7 @@ returns-then-full-n c =
     let e : full ≡ c.loop-k.k = omega arith in
     let d = c.loop-k.invariant.2 in
     let w : min (2 * c.args.n) (length c.loop-k.out - c.args.o) / 2 ≤ full = omega (arith, d, c.room-m.ensures) in
-    let x = pair_last c.loop-k.out c.args.o full c.args.n _ v l (omega arith) w (c.four-then-full-n.ensures ∙ sym (pairs_first _ _ _ _ (omega arith))) in
+    let x = pair_last c.loop-k.out c.args.o full c.args.n _ v l (omega arith) w (c.get-then-full-n.ensures ∙ sym (pairs_first _ _ _ _ (omega arith))) in
     (sym (pairs_whole _ _ _ (omega arith)), c.put_word.ensures ∙ x ∙ ap (λ (k : ℕ). sets c.loop-k.out (c.args.o + 2 * k) (drop (2 * k) v)) e ∙ c.loop-k.invariant.3 ∙ sym (stored_next _ _ _ _))
 
 pub returns : goal.returns

@@ -15,8 +15,8 @@ loop-k-preserved c =
     let h : c.loop-k.k < length vs = omega (arith, n) in
     let e = words_at c.args.n c.args.from c.loop-k.k c.args.words.now h in (
       omega arith,
-      c.store_four.auto.out ∙ c.loop-k.invariant.1,
-      ap (λ (l : List ℕ). sets l (c.args.at + 4 * (c.loop-k.k + 1)) (numbers_le (drop (c.loop-k.k + 1) vs))) c.store_four.ensures ∙ numbers_le-turn c.loop-k.out c.args.at c.loop-k.k _ vs h e ∙ c.loop-k.invariant.2,
+      c.put.auto.out ∙ c.loop-k.invariant.1,
+      ap (λ (l : List ℕ). sets l (c.args.at + 4 * (c.loop-k.k + 1)) (numbers_le (drop (c.loop-k.k + 1) vs))) c.put.ensures ∙ numbers_le-turn c.loop-k.out c.args.at c.loop-k.k _ vs h e ∙ c.loop-k.invariant.2,
     )
 
 pub returns-then-full-m : goal.returns-then-full-m
@@ -27,7 +27,7 @@ returns-then-full-m c =
     let h : c.room-full.result < length vs = omega (arith, n) in
     let r : length c.loop-k.out ≤ c.args.at + 4 * (c.room-full.result + 1) = omega arith in
     let e = words_at c.args.n c.args.from c.room-full.result c.args.words.now h in
-    c.write_u32.ensures ∙ numbers_le_last c.loop-k.out c.args.at c.room-full.result _ vs h r e ∙ ap (λ (k : ℕ). sets c.loop-k.out (c.args.at + 4 * k) (numbers_le (drop k vs))) q ∙ c.loop-k.invariant.2
+    c.write.ensures ∙ numbers_le_last c.loop-k.out c.args.at c.room-full.result _ vs h r e ∙ ap (λ (k : ℕ). sets c.loop-k.out (c.args.at + 4 * k) (numbers_le (drop k vs))) q ∙ c.loop-k.invariant.2
 
 pub returns-else-full-m : goal.returns-else-full-m
 returns-else-full-m c =

@@ -5,23 +5,11 @@ use Prim.Native.Nat.{◌+◌, ◌-◌, ◌≤◌}
 use native.Mathlib.Omega.{arith}
 use lib.ListN.{length}
 use Rattle.base.specs.Text.{before_zero}
-use Rattle.base.proofs.Zeros.{before-le, before-skip, block_free}
+use Rattle.base.proofs.Zeros.{before-le, block_free}
 use Rattle.base.proofs.text.zero_behind.Goals as goal
-
-pub zero_from-requires : goal.zero_from-requires
-zero_from-requires c = omega (arith, c.requires.0, before-le c.args.text.now)
-
-pub returns-then-n-lt8 : goal.returns-then-n-lt8
-returns-then-n-lt8 c = c.zero_from.ensures ∙ sym (before-skip _ _ c.requires.0)
 
 pub returns-then-every_in : goal.returns-then-every_in
 returns-then-every_in c =
     let s = c.args.text.now in
     let b : length s - 8 + 8 ≤ before_zero s = block_free s (length s - 8) 8 (omega (arith, c.requires.0, c.requires.1)) (omega (arith, c.if-n-lt8.false)) (sym c.every_in.ensures ∙ c.if-every_in.true) in
     omega (arith, b, before-le s, c.if-n-lt8.false)
-
-pub zero_from-requires-2 : goal.zero_from-requires-2
-zero_from-requires-2 c = omega (arith, c.requires.0, before-le c.args.text.now)
-
-pub returns : goal.returns
-returns c = c.zero_from-2.ensures ∙ sym (before-skip _ _ c.requires.0)

@@ -9,7 +9,7 @@ use lib.Seq.{sets}
 use Rattle.base.specs.Utf8.{replacements}
 use Rattle.base.specs.inner.Scan.{added}
 use Rattle.base.proofs.utf8.Laws.{count-le}
-use Rattle.base.proofs.utf8.Turns.{seen_ascii, ascii-decode, ascii-size, ascii-none, added_is}
+use Rattle.base.proofs.utf8.Turns.{seen_ascii, ascii_decode, ascii_size, ascii_none, added_is}
 use Rattle.base.proofs.utf8.decode_into.Goals as goal
 
 -- counted from 0
@@ -19,7 +19,7 @@ added_none t h = let m = count-le t in sym (added_is 0 (replacements t) (omega a
 pub returns-then-is_ascii : goal.returns-then-is_ascii
 returns-then-is_ascii c =
     let f = seen_ascii _ (sym c.is_ascii.ensures ∙ c.if-is_ascii.true) in
-    (ascii-size _ (omega (arith, c.well_formed)) f, ascii-none _ f, c.copy.ensures ∙ ap (λ (l : List ℕ). sets c.args.out.now c.args.at l) (sym (ascii-decode _ f)))
+    (ascii_size _ (omega (arith, c.well_formed)) f, ascii_none _ f, c.copy.ensures ∙ ap (λ (l : List ℕ). sets c.args.out.now c.args.at l) (sym (ascii_decode _ f)))
 
 pub returns : goal.returns
 returns c = let e = c.decode_mixed.ensures in (e.0, e.1 ∙ added_none _ (omega (arith, c.well_formed)), e.2)

@@ -10,7 +10,7 @@ use lib.Seq.{sets}
 use Rattle.base.specs.Choice.{pick}
 use Rattle.base.specs.Utf8.{decode, decoded_size, replacements}
 use Rattle.base.specs.inner.Scan.{ascii_seen}
-use Rattle.base.proofs.utf8.Turns.{seen_ascii, ascii-decode, ascii-size, ascii-none}
+use Rattle.base.proofs.utf8.Turns.{seen_ascii, ascii_decode, ascii_size, ascii_none}
 use Rattle.base.proofs.utf8.decode_known.Goals as goal
 use Rattle.base.proofs.utf8.decode_known.Goals.{then-not-plain+else-not-is_ascii, else-not-plain}
 
@@ -18,7 +18,7 @@ use Rattle.base.proofs.utf8.decode_known.Goals.{then-not-plain+else-not-is_ascii
 as_it_is : (s : List ℕ) (plain : Bool) (before : ℕ) → length s < 18446744073709551616 → before ≤ 18446744073709551615 → (plain ≡ false → ascii_seen s ≡ true)
     → (length s ≡ pick plain (length s) (decoded_size s)) × (before ≡ min (before + pick plain 0 (replacements s)) 18446744073709551615) × (s ≡ pick plain s (decode s))
 as_it_is s true before h b e = (refl, omega arith, refl)
-as_it_is s false before h b e = let f = seen_ascii s (e refl) in let n = ascii-none s f in (ascii-size s h f, omega arith, sym (ascii-decode s f))
+as_it_is s false before h b e = let f = seen_ascii s (e refl) in let n = ascii_none s f in (ascii_size s h f, omega arith, sym (ascii_decode s f))
 
 pub returns : goal.returns
 returns c =

@@ -6,7 +6,6 @@ use lib.Seq.{sets}
 use Rattle.base.specs.Utf8.{decoded_size}
 use Rattle.base.proofs.Parts.{part_all}
 use Rattle.base.proofs.utf8.Laws.{whole_well, well_none, decode_well}
-use Rattle.base.proofs.utf8.Tables.{classes_hold, rows_hold}
 use Rattle.base.proofs.utf8.decode_mixed.Goals as goal
 
 pub returns-then-short_valid : goal.returns-then-short_valid
@@ -16,6 +15,3 @@ returns-then-short_valid c =
     let w = whole_well _ (rw p at (c.short_valid.ensures c.if-short_valid.true)) in
     let d = decode_well _ w in
     (rw d (omega (arith, c.well_formed)), rw (← well_none _ w) refl, c.copy.ensures ∙ ap (sets c.args.out.now c.args.at) (p ∙ sym d))
-
-pub new-automaton-requires : goal.new-automaton-requires
-new-automaton-requires c = (classes_hold, rows_hold)

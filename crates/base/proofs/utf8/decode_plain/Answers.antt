@@ -5,7 +5,6 @@ use native.Mathlib.Omega.{arith}
 use lib.Seq.{sets}
 use Rattle.base.proofs.utf8.Turns.{part_is, GoodAt, BadAt, good_at, bad_at, run_bad, counted-good, counted_run, counted_end, counted-size, decode_end, sets-good, sets_bad}
 use borrow.Author.Rules.{rules}
-use Rattle.base.proofs.utf8.Tables.{classes_hold}
 use Rattle.base.proofs.utf8.decode_plain.Goals as goal
 use Rattle.base.proofs.utf8.decode_plain.Goals.{In-Bad, In-Good}
 
@@ -39,9 +38,6 @@ overflow_sub-extra c = let b = bad_arm (goal.at.overflow_sub-extra c).In-Bad in 
 pub overflow_add-extra : goal.overflow_add-extra
 overflow_add-extra c = let b = bad_arm (goal.at.overflow_add-extra c).In-Bad in let k = counted_run _ _ _ _ _ _ c.loop-i.invariant.0 (run_bad _ _ _ b) b.some in omega (arith, k.0, k.2, c.well_formed)
 
-pub overflow_add-count : goal.overflow_add-count
-overflow_add-count c = let b = bad_arm (goal.at.overflow_add-count c).In-Bad in let k = counted_run _ _ _ _ _ _ c.loop-i.invariant.0 (run_bad _ _ _ b) b.some in omega (arith, k.0, k.2, c.well_formed)
-
 pub overflow_add-i : goal.overflow_add-i
 overflow_add-i c = let b = bad_arm (goal.at.overflow_add-i c).In-Bad in omega (arith, b.reach)
 
@@ -56,12 +52,6 @@ loop-i-preserved c =
       sets_bad _ _ _ _ _ _ _ b c.put_replacement-o.ensures.0 c.put_replacement-o.ensures.1 ∙ c.loop-i.invariant.2,
     )
 
-pub overflow_mul-count : goal.overflow_mul-count
-overflow_mul-count c = let k = c.loop-i.invariant.0 in omega (arith, k.0, k.2, c.well_formed)
-
-pub overflow_sub-count : goal.overflow_sub-count
-overflow_sub-count c = let k = c.loop-i.invariant.0 in omega (arith, k.4)
-
 pub returns : goal.returns
 returns c =
     let n = counted_end _ _ _ _ c.loop-i.invariant.0 c.loop-i-test.false in (
@@ -69,6 +59,3 @@ returns c =
       n.1,
       ap (λ (l : List ℕ). sets c.loop-i.out c.loop-i.o l) (sym (decode_end _ _ c.loop-i-test.false)) ∙ c.loop-i.invariant.2,
     )
-
-pub new-classes-requires : goal.new-classes-requires
-new-classes-requires c = classes_hold

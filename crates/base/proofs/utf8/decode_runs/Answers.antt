@@ -17,35 +17,20 @@ run c = run_at _ _ _ _ ((let its : Counted c.args.text.now c.put_lone-lones.resu
 some : (n : ℕ) → (n ≡ 0 → ⊥) → 0 < n
 some n h = omega arith
 
-pub overflow_sub-count : goal.overflow_sub-count
-overflow_sub-count c = omega (arith, c.put_lone-lones.ensures.0.0)
-
-pub overflow_add-count : goal.overflow_add-count
-overflow_add-count c = let k = lones (goal.at.overflow_add-count c).After-put_lone-lones in omega (arith, k.0, k.2, c.well_formed)
-
 pub slice_bounds-copy_on-end : goal.slice_bounds-copy_on-end
 slice_bounds-copy_on-end c = let r = run (goal.at.slice_bounds-copy_on-end c).After-next_run-run in omega (arith, r.reach)
-
-pub overflow_mul-count : goal.overflow_mul-count
-overflow_mul-count c = let k = lones (goal.at.overflow_mul-count c).After-put_lone-lones in omega (arith, k.0, k.2, c.well_formed)
-
-pub overflow_sub-count-then-skip-eq0 : goal.overflow_sub-count-then-skip-eq0
-overflow_sub-count-then-skip-eq0 c = omega (arith, c.loop-replaced.invariant.0.4)
 
 pub returns-then-skip-eq0 : goal.returns-then-skip-eq0
 returns-then-skip-eq0 c =
     let r = run (goal.at.returns-then-skip-eq0 c).After-next_run-run in
     let n = counted_last _ _ _ _ _ _ (lones (goal.at.returns-then-skip-eq0 c).After-put_lone-lones) r c.if-skip-eq0.true in (
       counted-size _ _ _ n.0 c.saturating_add-then-skip-eq0.ensures,
-      c.saturating_add.ensures ∙ ap₂ (λ (a b : ℕ). min (a + b) 18446744073709551615) c.loop-replaced.invariant.3 n.1 ∙ added_is _ _ (omega (arith, c.loop-replaced.invariant.3, c.row_known-1.given)),
+      c.saturating_add.ensures ∙ ap₂ (λ (a b : ℕ). min (a + b) 18446744073709551615) c.loop-replaced.invariant.3 n.1 ∙ added_is _ _ (omega (arith, c.loop-replaced.invariant.3)),
       c.copy_on-next.ensures.0 ∙ ap (sets c.put_lone-lones.new.out c.put_lone-lones.result.next) (part_is _ _ _ r.start ∙ sym (r.whole c.if-skip-eq0.true)) ∙ c.put_lone-lones.ensures.1 ∙ c.loop-replaced.invariant.2,
     )
 
 pub overflow_add-extra : goal.overflow_add-extra
 overflow_add-extra c = let k = counted_run _ _ _ _ _ _ (lones (goal.at.overflow_add-extra c).After-put_lone-lones) (run (goal.at.overflow_add-extra c).After-next_run-run) (some _ c.if-skip-eq0.false) in omega (arith, k.0, k.2, c.well_formed)
-
-pub overflow_add-count-in-loop-replaced : goal.overflow_add-count-in-loop-replaced
-overflow_add-count-in-loop-replaced c = let k = counted_run _ _ _ _ _ _ (lones (goal.at.overflow_add-count-in-loop-replaced c).After-put_lone-lones) (run (goal.at.overflow_add-count-in-loop-replaced c).After-next_run-run) (some _ c.if-skip-eq0.false) in omega (arith, k.0, k.2, c.well_formed)
 
 pub overflow_add-i : goal.overflow_add-i
 overflow_add-i c = let r = run (goal.at.overflow_add-i c).After-next_run-run in omega (arith, r.reach)

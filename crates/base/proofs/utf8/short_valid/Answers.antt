@@ -3,12 +3,9 @@
 use native.Mathlib.Omega.{arith}
 use borrow.Author.Tests.{eqb-true}
 use lib.ListN.{length}
-use Rattle.base.proofs.utf8.Automaton.{zero_state, state_zero, flow_end}
+use Rattle.base.proofs.utf8.Automaton.{state_zero, flow_end}
 use Rattle.base.proofs.utf8.Turns.{valid_end}
 use Rattle.base.proofs.utf8.short_valid.Goals as goal
-
-pub flow_over-requires : goal.flow_over-requires
-flow_over-requires c = (omega arith, omega arith, zero_state)
 
 pub returns : goal.returns
 returns c = λ e.
