@@ -1,4 +1,5 @@
 pub mod Calls
+pub mod Curves
 pub mod FieldValues
 pub mod Judge
 pub mod Layout

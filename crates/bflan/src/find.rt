@@ -100,7 +100,7 @@ pub fn find_text(section: &[u8], text: usize, scratch: &mut [u8]) -> Result<Foun
         return Err(FindError::TooLong(size));
     }
     let s = Section { bytes: section };
-    let (t, _end) = measure(s, text)?;
+    let t = measure(s, text)?;
     if t.left <= text {
         return Err(FindError::NoSuchText);
     }

@@ -4,14 +4,11 @@ ghost use Rattle.bflan.specs.Judge.{ends};
 ghost use Rattle.bflan.specs.pai1.Judge.{pane, section};
 ghost use Rattle.bflan.specs.Layout.{size};
 ghost use Rattle.bflan.specs.pai1.Layout.{section_lay};
-ghost use Rattle.bflan.specs.inner.Measure.{verdict_of, filled_up, mark_grown, mark_padded, past};
+ghost use Rattle.bflan.specs.inner.Measure.{verdict_of, next, measured, filled_up, mark_grown, mark_padded, past, behind};
 ghost use Rattle.bflan.specs.inner.JudgeParts.{after_head};
 ghost use Rattle.bflan.specs.pai1.Record.{PaneAnimInfo};
 ghost use Rattle.bflan.specs.inner.Walk.{sat};
 
-use crate::judge::content::contents;
-use crate::judge::text::textures;
-use crate::judge::word::word_below;
 use base::fill::padding;
 
 mod content;
@@ -23,23 +20,40 @@ mod text;
 mod times;
 pub mod word;
 
-// Where a part of the record starts: at the next word, and the next text byte.
-// Kept: the words and the texts as two slices beside it. A struct of the two would stand in each `ensures` as `record.entry.words.now` for
-// `words.now`.
+// A place in a record: the next word, and the next text byte.
 #[derive(Clone, Copy)]
-pub struct Place {
+pub struct Position {
     pub word: usize,
     pub byte: usize,
 }
 
-impl Place {
-    // Behind `n` more words.
-    pub(crate) fn past(self, n: usize) -> Place
-        requires { self.word + n < 18446744073709551616 }
-        ensures { result ≡ past n self }
+// A record from a place on, which is judged part by part.
+#[derive(Clone, Copy)]
+pub struct Rest<'r> {
+    pub words: &'r [u32],
+    pub texts: &'r [u8],
+    pub at: Position,
+}
+
+impl<'r> Rest<'r> {
+    // Behind its next `n` words.
+    fn past(self, n: usize) -> Rest<'r>
+        requires { self.at.word + n < 18446744073709551616 }
+        ensures { result ≡ past n self.entry }
     {
-        Place {
-            word: self.word + n,
+        let at = Position {
+            word: self.at.word + n,
+            ..self.at
+        };
+        Rest { at, ..self }
+    }
+
+    // Behind a part.
+    fn behind(self, part: Mark) -> Rest<'r>
+        ensures { result ≡ behind part self.entry }
+    {
+        Rest {
+            at: part.at,
             ..self
         }
     }
@@ -49,7 +63,7 @@ impl Place {
 // hold is the largest one.
 #[derive(Clone, Copy)]
 pub struct Mark {
-    pub at: Place,
+    pub at: Position,
     pub size: usize,
 }
 
@@ -85,23 +99,11 @@ pub enum Misfit {
 }
 
 // A size with its zeros up to a multiple of 4.
+#[tactic(auto, unfolding(crate::specs::inner::Measure::filled_up))]
 fn up_to_four(n: usize) -> usize
     ensures { result ≡ sat (filled_up n) }
 {
     n.saturating_add(padding(n))
-}
-
-// That no word and then no text byte is over.
-fn ends(words: &[u32], texts: &[u8], at: Place) -> Result<Mark, Misfit>
-    ensures { result ≡ verdict_of (λ z. 0) (ends words.now texts.now at.word at.byte) }
-{
-    if at.word < words.len() {
-        return Err(Misfit::Word(at.word));
-    }
-    if at.byte < texts.len() {
-        return Err(Misfit::Text(at.byte));
-    }
-    Ok(Mark { at, size: 0 })
 }
 
 // Where the content table stands behind `n` texture names of `size` bytes.
@@ -112,35 +114,58 @@ fn table_behind(n: usize, size: usize) -> usize
     up_to_four((20 + 4 * n).saturating_add(size))
 }
 
-// What is behind a record's first four words: `nt` texture names and `nc` contents.
-// Inlined, as it was before the walks were closures: without that a mixture of parts takes 6 % longer to write.
-#[inline(always)]
-fn headed(words: &[u32], texts: &[u8], at: Place, nt: usize, nc: usize) -> Result<Mark, Misfit>
-    requires { (nt < 65536) × (nc < 65536) }
-    ensures { (frames looping : ℕ) → result ≡ verdict_of (λ (a : PaneAnimInfo). size (section_lay a)) (after_head frames looping nt nc words.now texts.now at.word at.byte) }
-{
-    let names = textures(words, texts, at, nt)?;
-    let table = table_behind(nt, names.size);
-    let rest = contents(words, texts, names.at, nc)?;
-    Ok(rest.grown(table.saturating_add(4 * nc)))
-}
+impl Rest<'_> {
+    // That no word and then no text byte is over.
+    fn ends(self) -> Result<Mark, Misfit>
+        ensures { result ≡ verdict_of (λ z. 0) (next ends self.entry) }
+    {
+        if self.at.word < self.words.len() {
+            return Err(Misfit::Word(self.at.word));
+        }
+        if self.at.byte < self.texts.len() {
+            return Err(Misfit::Text(self.at.byte));
+        }
+        Ok(Mark {
+            at: self.at,
+            size: 0,
+        })
+    }
 
-// The record that the words and the texts make from a place on, whatever follows.
-fn judge_info(words: &[u32], texts: &[u8], at: Place) -> Result<Mark, Misfit>
-    ensures { result ≡ verdict_of (λ (a : PaneAnimInfo). size (section_lay a)) (pane words.now texts.now at.word at.byte) }
-{
-    word_below(words, at.word, 65536)?;
-    word_below(words, at.word + 1, 2)?;
-    let nt = word_below(words, at.word + 2, 65536)?;
-    let nc = word_below(words, at.word + 3, 65536)?;
-    headed(words, texts, at.past(4), nt as usize, nc as usize)
+    // What is behind a record's first four words: `nt` texture names and `nc` contents.
+    // Inlined: without that a mixture of parts takes 6 % longer to write.
+    #[inline(always)]
+    fn headed(self, nt: usize, nc: usize) -> Result<Mark, Misfit>
+        requires { (nt < 65536) × (nc < 65536) }
+        ensures { (frames looping : ℕ) → result ≡ measured section_lay (after_head frames looping nt nc) self.entry }
+    {
+        let names = self.textures(nt)?;
+        let table = table_behind(nt, names.size);
+        let rest = self.behind(names).contents(nc)?;
+        Ok(rest.grown(table.saturating_add(4 * nc)))
+    }
+
+    // The record that is next, whatever follows.
+    fn pane(self) -> Result<Mark, Misfit>
+        ensures { result ≡ measured section_lay pane self.entry }
+    {
+        self.word_below(0, 65536)?;
+        self.word_below(1, 2)?;
+        let nt = self.word_below(2, 65536)?;
+        let nc = self.word_below(3, 65536)?;
+        self.past(4).headed(nt as usize, nc as usize)
+    }
 }
 
 // The section that all the words and texts make.
 pub(crate) fn judge_section(words: &[u32], texts: &[u8]) -> Result<Mark, Misfit>
     ensures { result ≡ verdict_of (λ (a : PaneAnimInfo). size (section_lay a)) (section words.now texts.now 0 0) }
 {
-    let info = judge_info(words, texts, Place { word: 0, byte: 0 })?;
-    let end = ends(words, texts, info.at)?;
+    let all = Rest {
+        words,
+        texts,
+        at: Position { word: 0, byte: 0 },
+    };
+    let info = all.pane()?;
+    let end = all.behind(info).ends()?;
     Ok(end.grown(info.size))
 }

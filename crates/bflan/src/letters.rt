@@ -56,6 +56,7 @@ pub enum AnimInfoType {
     Invalid,
 }
 
+#[tactic(auto, using(crate::proofs::letters::Codes::unlisted), unfolding(crate::specs::pai1::Letters::kind_of, crate::specs::pai1::Letters::listings, crate::specs::pai1::Letters::fleu, base::specs::Number::val))]
 pub fn kind_of(letters: u32) -> AnimInfoType
     ensures { result ≡ kind_of letters }
 {
@@ -84,6 +85,7 @@ pub fn kind_of(letters: u32) -> AnimInfoType
 }
 
 // The letters' word in the record: 0 for letters that are not listed.
+#[tactic(auto, unfolding(crate::specs::pai1::Letters::letters_of))]
 pub fn letters_of(letters: u32) -> u32
     ensures { result ≡ letters_of letters }
 {
@@ -96,6 +98,7 @@ pub fn letters_of(letters: u32) -> u32
 
 // A target's number as it is read. Each range ends one below its letters' number.
 // Kept: by `kind_of` this would be five lines. But then it is a call, and a small section takes 10 % longer to read.
+#[tactic(auto, using(crate::proofs::letters::Codes::target_below, crate::proofs::letters::Codes::target_above, crate::proofs::letters::Codes::target_by, crate::proofs::letters::Codes::unlisted), unfolding(crate::specs::pai1::Letters::kind_of, crate::specs::pai1::Letters::listings, crate::specs::pai1::Letters::fleu, base::specs::Number::val))]
 pub fn resolve(letters: u32, raw: u8) -> u8
     ensures { result ≡ target_of letters raw }
 {
@@ -178,6 +181,7 @@ pub fn resolve(letters: u32, raw: u8) -> u8
 }
 
 // Whether a record may have this target number under these letters.
+#[tactic(auto, using(crate::proofs::letters::Codes::target_fits_by))]
 pub fn target_fits(letters: u32, number: u32) -> bool
     ensures { result ≡ target_fits letters number }
 {

@@ -1,6 +1,7 @@
 // The pai1 section: read into a flat record, and written from one.
 #![tactic(auto)]
 
+pub mod curve;
 pub mod fault;
 pub mod find;
 mod judge;

@@ -2,13 +2,13 @@
 ghost use Rattle.std.specs.Prelude.{◌≡◌, [], ◌≤◌, length};
 ghost use Rattle.bflan.specs.Answer.{of_filled, of_read_error, of_reading};
 ghost use Rattle.bflan.specs.pai1.Calls.{reading};
-ghost use Rattle.bflan.specs.pai1.Reading.{section};
+ghost use Rattle.bflan.specs.pai1.Reading.{flag_of, section};
 ghost use Rattle.bflan.specs.declared.read.ReadError.TheVariants.{Fault as ReadFault};
-ghost use Rattle.bflan.specs.inner.Walk.{empty_tally, walk_of};
+ghost use Rattle.bflan.specs.inner.Walk.{read_into, told};
 
 use crate::fault::Fault;
 use crate::reader::section::section_at;
-use crate::reader::tally::{Walk, fresh};
+use crate::reader::tally::{Tables, Tally, fresh};
 use crate::section::Section;
 use base::outcome::{Answer, Numbers};
 
@@ -59,17 +59,40 @@ impl Answer for ReadError {
     }
 }
 
+// The word of the looping byte: any but 0 is yes.
+#[tactic(auto, unfolding(crate::specs::pai1::Reading::flag_of))]
+#[inline(always)]
+pub fn flag_of(b: u32) -> u32
+    ensures { result ≡ flag_of b }
+{
+    u32::from(b != 0)
+}
+
 // The longest section.
 pub const LIMIT: usize = 16777216;
 
+// The walk over a section into two tables, and what it counted; text `want` is looked for. What stores is compiled into this function: so the fields
+// of `into` are in registers. In memory, a word that was stored by itself is read in a pair, which a processor has to wait for.
+fn walk(s: Section, words: &mut [u32], texts: &mut [u8], want: usize) -> Result<Tally, Fault>
+    ensures { told result words.new texts.new ≡ read_into s.entry.bytes.now want words.old texts.old (section s.entry.bytes.now 0) }
+{
+    let mut into = Tables {
+        words,
+        texts,
+        tally: fresh(want),
+    };
+    let _end = section_at(s, &mut into)?;
+    Ok(into.tally)
+}
+
 // The walk over a section, storing nothing; text `want` is looked for.
 #[tactic(auto, using(crate::proofs::read::Answers::measured))]
-pub(crate) fn measure(s: Section, want: usize) -> Walk
-    ensures { result ≡ (walk_of s.entry.bytes.now (empty_tally want) [] [] (section s.entry.bytes.now 0)).0 }
+pub(crate) fn measure(s: Section, want: usize) -> Result<Tally, Fault>
+    ensures { result ≡ (read_into s.entry.bytes.now want [] [] (section s.entry.bytes.now 0)).0 }
 {
     let mut words = [0u32; 0];
     let mut texts = [0u8; 0];
-    section_at(s, &mut words, &mut texts, fresh(want))
+    walk(s, &mut words, &mut texts, want)
 }
 
 // Measured over no tables, and then filled. No text is looked for: any number serves.
@@ -81,14 +104,14 @@ pub fn read(section: &[u8], words: &mut [u32], texts: &mut [u8]) -> Result<Fille
         return Err(ReadError::TooLong(size));
     }
     let s = Section { bytes: section };
-    let (needs, _end) = measure(s, 0)?;
+    let needs = measure(s, 0)?;
     if words.len() < needs.words {
         return Err(ReadError::TooShort(needs.words, needs.bytes));
     }
     if texts.len() < needs.bytes {
         return Err(ReadError::TooShort(needs.words, needs.bytes));
     }
-    let _ = section_at(s, words, texts, fresh(0));
+    let _ = walk(s, words, texts, 0);
     Ok(Filled {
         words: needs.words,
         bytes: needs.bytes,

@@ -8,11 +8,13 @@ mod listed;
 pub mod section;
 mod target;
 
-// Where the writing stands: the next word, the next text byte, and the next byte of the section.
-// Kept: it goes by value, with the record's two slices and the output beside it. A struct of them would stand in each clause as
-// `writer.old.pen.word` for `pen.word`, and `writer.new.out.now` for `out.new`.
-#[derive(Clone, Copy)]
-pub struct Pen {
+// A record's words and texts, the section that is written, and where the writing stands: the next word, the next text byte, and the next byte of
+// the section.
+#[derive(Drop)]
+pub struct Writer<'r, 'o> {
+    pub words: &'r [u32],
+    pub texts: &'r [u8],
+    pub out: &'o mut [u8],
     pub word: usize,
     pub byte: usize,
     pub at: usize,

@@ -14,12 +14,16 @@ use Rattle.std.proofs.lemmas.Result.{err_from_is_err_and}
 use Rattle.base.specs.Choice.{pick}
 use Rattle.base.specs.Fill.{padding_of}
 use Rattle.base.proofs.utf8.Laws.{both_true}
+use Rattle.bflan.specs.declared.curve.Curve.{Curve}
+use Rattle.bflan.specs.declared.curve.Curve.TheVariants.{Constant, Step, Hermite}
 use Rattle.bflan.specs.declared.judge.Mark.{Mark}
 use Rattle.bflan.specs.declared.judge.Misfit.{Misfit}
 use Rattle.bflan.specs.declared.judge.Misfit.TheVariants.{Word}
+use Rattle.bflan.specs.declared.judge.Rest.{Rest}
 use Rattle.bflan.specs.Judge.{Judged, fine, bad_word, bad_text, J, and_then, ret, next_word, times, wide, row}
 use Rattle.bflan.specs.Layout.{Layout, number, size, parts}
-use Rattle.bflan.specs.inner.Measure.{verdict_of, fits, word_if, mark_grown, grown, filled_up, mark_padded, padded, onward, each}
+use Rattle.bflan.specs.inner.Measure.{verdict_of, next, measured, fits, word_if, behind, mark_grown, grown, filled_up, mark_padded, padded, onward, each}
+use Rattle.bflan.specs.pai1.Curves.{curve_number}
 use Rattle.bflan.specs.inner.Walk.{sat}
 
 -- ---- sums as a usize
@@ -193,6 +197,18 @@ pub word_if_out : (test : ℕ → Bool) (w : List ℕ) (i : ℕ) → length w �
 unfolding word_if
 word_if_out test w i h = rw (sym (fits_out test w i h))
 
+-- a curve by its number, and a number that no curve has
+pub curve_in : (curve : Curve) (w : List ℕ) (i : ℕ) → i < length w → curve_number curve ≡ get_or w i 0 → Ok (curve_number curve) ≡ word_if (λ v. ltb v 3) w i
+curve_in curve w i h e = ap Ok e ∙ word_if_in (λ v. ltb v 3) w i h (lt-ltb _ _ (rw (sym e) (below curve)))
+  where
+    below : (c : Curve) → curve_number c < 3
+    below Constant = omega arith
+    below Step = omega arith
+    below Hermite = omega arith
+
+pub curve_over : (w : List ℕ) (i : ℕ) → i < length w → 2 < get_or w i 0 → Err (Word i) ≡ word_if (λ v. ltb v 3) w i
+curve_over w i h l = word_if_unfit (λ v. ltb v 3) w i h (le-ltb _ _ l)
+
 -- and what that says, where the code goes on and where it does not, the place being one that equals the code's
 module _ (test : ℕ → Bool) (w : List ℕ) where
   choice : (i : ℕ) (b : Bool) → fits test w i ≡ b → word_if test w i ≡ pick b (Ok (get_or w i 0)) (Err (Word i))
@@ -295,54 +311,52 @@ module _ {A : Type 0} (p : J A) (w x : List ℕ) where
 
 -- ---- n parts, by what is answered of each
 
-module _ {A : Type 0} (p : J A) (lay : A → Layout) (w x : List ℕ) where
-  abbrev part_of : ℕ → ℕ → Verdict
-  part_of i j = verdict_of (λ a. size (lay a)) (p w x i j)
-
-  pub each_measured : (n i j : ℕ) → each part_of n i j ≡ verdict_of (λ ps. size (parts lay ps)) (times n p w x i j)
+module _ {A : Type 0} (p : J A) (lay : A → Layout) where
+  pub each_measured : (n : ℕ) (r : Rest) → each (measured lay p) n r ≡ measured (parts lay) (times n p) r
   unfolding each onward times verdict_of parts size
-  each_measured zero i j = refl
-  each_measured (suc n) i j = go (p w x i j) (each_measured n)
+  each_measured zero r = refl
+  each_measured (suc n) r = go (next p r) (each_measured n)
     where
-      go : (r : Judged A) → ((k l : ℕ) → each part_of n k l ≡ verdict_of (λ ps. size (parts lay ps)) (times n p w x k l)) → onward (verdict_of (λ a. size (lay a)) r) (λ m. each part_of n m.at.word m.at.byte) ≡ verdict_of (λ ps. size (parts lay ps)) (and_then r (λ a w x i j. and_then (times n p w x i j) (λ ps. ret (a ∷ ps)) w x) w x)
+      go : (q : Judged A) → ((s : Rest) → each (measured lay p) n s ≡ measured (parts lay) (times n p) s)
+          → onward (verdict_of (λ a. size (lay a)) q) (λ m. each (measured lay p) n (behind m r)) ≡ verdict_of (λ ps. size (parts lay ps)) (and_then q (λ a w x i j. and_then (times n p w x i j) (λ ps. ret (a ∷ ps)) w x) r.words.now r.texts.now)
       go (fine a k l) h =
-          ap (grown (sat (size (lay a)))) (h k l) ∙ grown-sat (size (lay a)) _
-          ∙ then_grown (λ ps. size (parts lay ps)) (λ ps. size (parts lay ps)) (times n p w x k l) w x (size (lay a)) _ (λ ps. a ∷ ps) refl (λ ps u v z. refl)
+          ap (grown (sat (size (lay a)))) (h (record r { at = record { word = k; byte = l } })) ∙ grown-sat (size (lay a)) _
+          ∙ then_grown (λ ps. size (parts lay ps)) (λ ps. size (parts lay ps)) (times n p r.words.now r.texts.now k l) r.words.now r.texts.now (size (lay a)) _ (λ ps. a ∷ ps) refl (λ ps u v z. refl)
       go (bad_word k) h = refl
       go (bad_text k) h = refl
 
--- a loop over such parts from i₀ and j₀ on, with `left` parts to come and the mark m behind it: what is left, with m's bytes, is the whole
-pub record Repeating (f : ℕ → ℕ → Verdict) (n i₀ j₀ left : ℕ) (m : Mark) : Type 0 where
+-- a loop over such parts of r, with `left` parts to come and the mark m behind it: what is left, with m's bytes, is the whole
+pub record Repeating (f : Rest → Verdict) (n : ℕ) (r : Rest) (left : ℕ) (m : Mark) : Type 0 where
   pub small : m.size ≤ 18446744073709551615
-  pub same : grown m.size (each f left m.at.word m.at.byte) ≡ each f n i₀ j₀
+  pub same : grown m.size (each f left (behind m r)) ≡ each f n r
 
-each-none : (f : ℕ → ℕ → Verdict) (n i j : ℕ) → grown 0 (each f n i j) ≡ each f n i j
+each-none : (f : Rest → Verdict) (n : ℕ) (r : Rest) → grown 0 (each f n r) ≡ each f n r
 unfolding each onward grown
-each-none f zero i j = refl
-each-none f (suc n) i j = go (f i j)
+each-none f zero r = refl
+each-none f (suc n) r = go (f r)
   where
-    go : (r : Verdict) → grown 0 (onward r (λ m. each f n m.at.word m.at.byte)) ≡ onward r (λ m. each f n m.at.word m.at.byte)
-    go (Ok m) = grown-grown 0 m.size (each f n m.at.word m.at.byte) ∙ ap (λ (k : ℕ). grown k (each f n m.at.word m.at.byte)) (omega arith)
+    go : (v : Verdict) → grown 0 (onward v (λ m. each f n (behind m r))) ≡ onward v (λ m. each f n (behind m r))
+    go (Ok m) = grown-grown 0 m.size (each f n (behind m r)) ∙ ap (λ (k : ℕ). grown k (each f n (behind m r))) (omega arith)
     go (Err e) = refl
 
-module _ {f : ℕ → ℕ → Verdict} {n i₀ j₀ : ℕ} where
-  pub repeating_start : Repeating f n i₀ j₀ n (record { at = record { word = i₀; byte = j₀ }; size = 0 })
-  repeating_start = record { small = omega arith; same = each-none f n i₀ j₀ }
+module _ {f : Rest → Verdict} {n : ℕ} {r : Rest} where
+  pub repeating_start : Repeating f n r n (record { at = r.at; size = 0 })
+  repeating_start = record { small = omega arith; same = each-none f n r }
 
-  module _ {left : ℕ} {m : Mark} (h : Repeating f n i₀ j₀ left m) where
-    step : 0 < left → each f left m.at.word m.at.byte ≡ onward (f m.at.word m.at.byte) (λ o. each f (left - 1) o.at.word o.at.byte)
+  module _ {left : ℕ} {m : Mark} (h : Repeating f n r left m) where
+    step : 0 < left → each f left (behind m r) ≡ onward (f (behind m r)) (λ o. each f (left - 1) (behind o r))
     unfolding each
     step l = go left l
       where
-        go : (k : ℕ) → 0 < k → each f k m.at.word m.at.byte ≡ onward (f m.at.word m.at.byte) (λ o. each f (k - 1) o.at.word o.at.byte)
+        go : (k : ℕ) → 0 < k → each f k (behind m r) ≡ onward (f (behind m r)) (λ o. each f (k - 1) (behind o r))
         go zero l = absurd (omega arith)
         go (suc k) l = let e : suc k - 1 ≡ k = omega arith in rw e
 
-    pub repeating_bad : 0 < left → {e : Misfit} → f m.at.word m.at.byte ≡ Err e → Err e ≡ each f n i₀ j₀
+    pub repeating_bad : 0 < left → {e : Misfit} → f (behind m r) ≡ Err e → Err e ≡ each f n r
     unfolding onward grown
     repeating_bad l d = rw (step l, d) at h.same
 
-    pub repeating_turn : 0 < left → {p o : Mark} → f m.at.word m.at.byte ≡ Ok p → o ≡ mark_grown m.size p → Repeating f n i₀ j₀ (left - 1) o
+    pub repeating_turn : 0 < left → {p o : Mark} → f (behind m r) ≡ Ok p → o ≡ mark_grown m.size p → Repeating f n r (left - 1) o
     unfolding onward
     repeating_turn l {p} {o} d e =
         record {
@@ -350,11 +364,11 @@ module _ {f : ℕ → ℕ → Verdict} {n i₀ j₀ : ℕ} where
           same = rw e (grown-sat (m.size + p.size) _ ∙ sym (grown-grown m.size p.size _) ∙ (rw (step l, d) at h.same));
         }
 
-    pub repeating_end : left ≤ 0 → Ok m ≡ each f n i₀ j₀
+    pub repeating_end : left ≤ 0 → Ok m ≡ each f n r
     unfolding each grown
     repeating_end l = go left l h.same
       where
-        go : (k : ℕ) → k ≤ 0 → grown m.size (each f k m.at.word m.at.byte) ≡ each f n i₀ j₀ → Ok m ≡ each f n i₀ j₀
+        go : (k : ℕ) → k ≤ 0 → grown m.size (each f k (behind m r)) ≡ each f n r → Ok m ≡ each f n r
         go zero l e = ap (marked m.at.word m.at.byte) (omega (arith, h.small)) ∙ e
         go (suc k) l e = absurd (omega arith)
 

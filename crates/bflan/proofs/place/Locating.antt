@@ -3,42 +3,44 @@ use Prim.Native.Nat.{ℕ, zero, suc, ◌+◌, ◌*◌, ◌<◌, ◌≤◌}
 use mathlib.Core.Path.{◌≡◌, refl, ap, sym, subst, ◌∙◌}
 use mathlib.Core.Bool.{Bool, true, false, ◌&&◌}
 use mathlib.Core.List.{List, [], ◌∷◌, map}
-use Rattle.std.specs.Prelude.{Option, Some, None, Result, Ok, Err}
+use Rattle.std.specs.Prelude.{Option, Some, None, Ok, Err}
 use Rattle.std.specs.Option.{ok_or}
 use Rattle.std.specs.Result.{result_ok}
-use Rattle.std.proofs.lemmas.Option.{none-some}
 use native.Mathlib.Nat.{zero-add, suc-mul, mul-le-mul_right}
 use native.Mathlib.Omega.{arith}
-use borrow.Author.Tests.{leb-true, le-leb, lt-leb, lt-ltb, le-ltb, ltb-true, eqb-true, eqb-false, eq-eqb, ne_eqb}
+use borrow.Author.Tests.{leb-true, le-leb, lt-leb, ltb-true, eqb-true, eqb-false}
 use lib.Dec.{eqb, leb, ltb}
 use lib.ListN.{length}
 use Rattle.base.specs.Number.{get}
 use Rattle.base.specs.Run.{numbers_at}
 use Rattle.bflan.specs.declared.fault.Fault.{Fault}
 use Rattle.bflan.specs.declared.fault.Fault.TheVariants.{OtherLetters}
+use Rattle.bflan.specs.declared.curve.Curve.{Curve}
+use Rattle.bflan.specs.declared.curve.Curve.TheVariants.{Constant, Step, Hermite}
 use Rattle.bflan.specs.declared.place.Field.{Field}
 use Rattle.bflan.specs.declared.place.Field.TheVariants.{FrameCount as frames, Looping as looping, Layer as layer, Target as number', Key as key, Value as value}
 use Rattle.bflan.specs.declared.place.Place.{Place}
-use Rattle.bflan.specs.declared.place.Track.{Track}
 use Rattle.bflan.specs.declared.place.Place.TheVariants.{FrameCount, Looping, Layer, Target, Key, Value}
 use Rattle.bflan.specs.declared.place.FieldSpot.{FieldSpot}
 use Rattle.bflan.specs.declared.place.LocateError.TheVariants.{TooLong, Fault as Unread, NoSuchPlace}
+use Rattle.bflan.specs.pai1.Curves.{curve_number}
 use Rattle.bflan.specs.pai1.FieldValues.{numbers_in}
 use Rattle.bflan.specs.pai1.Layout.{key_skip}
 use Rattle.base.specs.Choice.{pick}
 use Rattle.bflan.specs.pai1.Letters.{fleu, letters_of}
 use Rattle.bflan.specs.Limits.{limit}
 use Rattle.bflan.specs.pai1.Locating.{of_spot, locating_in, locating}
-use Rattle.bflan.specs.inner.Path.{spot_of, content_base, info_base, info_under, target_base, after_base, datum_base, TargetAt, DatumAt, InfoAt, ContentAt, SectionAt}
-use Rattle.bflan.specs.pai1.Places.{Spot, nowhere, spot, after as behind, widths, total, stride, track_at, key_in, value_in, target_in, datum_in, info_table_in, info_in, content_in, locate}
+use Rattle.bflan.specs.inner.Path.{spot_of, content_base, info_base, target_base, after_base, datum_base, TargetAt, DatumAt, InfoAt, ContentAt, SectionAt}
+use Rattle.bflan.specs.pai1.Places.{Spot, nowhere, spot, after as behind, widths, total, stride, curve_by, key_in, value_in, target_in, datum_in, info_table_in, info_in, content_in, locate}
 use Rattle.bflan.specs.Reader.{Res, ok, stop, ◌>>=◌, ret, given, fail, Item, word, text, skip, numbers, many, visit}
 use Rattle.bflan.specs.pai1.Reading.{key_of, curve_of, count_of, keys, target, datum, info, type_of, info_table, content, texture, own_letters, contents, body, section}
 use Rattle.bflan.specs.pai1.Record.{key_widths}
-use Rattle.bflan.specs.inner.Walk.{Walk, empty_tally, walk_of, walked}
+use Rattle.bflan.specs.inner.Walk.{Walk, read_into, walk_of, walked}
 use Rattle.bflan.specs.declared.reader.tally.Tally.{Tally}
+use Rattle.bflan.specs.declared.reader.tally.Tables.{Tables}
 use Rattle.std.specs.Prelude.{Ok, Err}
 use Rattle.bflan.proofs.Layouts.{stride_three}
-use Rattle.bflan.proofs.read.Answers.{told_answer, stopped, whole}
+use Rattle.bflan.proofs.read.Answers.{stopped, whole}
 use Rattle.bflan.specs.pai1.RecordAt.{name_size}
 use Rattle.bflan.specs.inner.SectionParts.{after_head}
 use Rattle.bflan.proofs.reader.ContentParts.{name, content_after, content_widths, table_if}
@@ -50,7 +52,7 @@ use Rattle.bflan.proofs.reader.Rows.{row_then, fields_at}
 use Rattle.bflan.proofs.reader.SectionParts.{head_of, head_widths}
 use Rattle.bflan.proofs.reader.TargetParts.{target_after, target_widths}
 use Rattle.bflan.proofs.reader.Unstopped.{If, if_ok, yes, no, weaker, sure, next, after, number, head, sought, table, listed, visited}
-use Rattle.bflan.proofs.reader.Walks.{before, on_no, on_place}
+use Rattle.bflan.proofs.reader.Walks.{before, first, on_no, on_place}
 
 -- ---- keys
 
@@ -183,33 +185,42 @@ module _ (s : List ℕ) where
 
 -- ---- a path by its steps
 
-abbrev under : Option ℕ → (ℕ → Spot) → Spot
+unfoldable pub under : Option ℕ → (ℕ → Spot) → Spot
 under (Some b) f = f b
 under None f = nowhere
 
+pub under_some : {x : Option ℕ} {b : ℕ} (f : ℕ → Spot) → x ≡ Some b → under x f ≡ f b
+unfolding under
+under_some f e = rw e
+
+pub under_none : {x : Option ℕ} (f : ℕ → Spot) → x ≡ None → under x f ≡ nowhere
+unfolding under
+under_none f e = rw e
+
 pick_under : (t : Bool) (b : ℕ) (f : ℕ → Spot) → pick t (f b) nowhere ≡ under (pick t (Some b) None) f
+unfolding under
 pick_under true b f = refl
 pick_under false b f = refl
 
 module _ (s : List ℕ) where
-  content_under : (c : ℕ) (f : ℕ → Spot) → content_in s c f ≡ under (content_base s c) f
+  pub content_under : (c : ℕ) (f : ℕ → Spot) → content_in s c f ≡ under (content_base s c) f
   unfolding content_in content_base
   content_under c f = pick_under (ltb c (get 2 s 14)) (get 4 s (get 4 s 16 + 4 * c)) f
 
-  info_under_lem : (b i : ℕ) (f : ℕ → Spot) → info_in s b i f ≡ under (info_base s b i) f
+  pub info_under_lem : (b i : ℕ) (f : ℕ → Spot) → info_in s b i f ≡ under (info_base s b i) f
   unfolding info_in info_base
   info_under_lem b i f = pick_under (ltb i (get 1 s (b + 28))) (b + get 4 s (info_table_in s b + 4 * i)) f
 
-  target_under_lem : (b t : ℕ) (f : ℕ → Spot) → target_in s b t f ≡ under (target_base s b t) f
-  unfolding target_in target_base
+  pub target_under_lem : (b t : ℕ) (f : ℕ → Spot) → target_in s b t f ≡ under (target_base s b t) f
+  unfolding under target_in target_base
   target_under_lem b t f = go (eqb (get 4 s b) fleu) (ltb t (get 1 s (b + 4)))
     where
       go : (x y : Bool) → pick x nowhere (pick y (f (b + get 4 s (b + 8 + 4 * t))) nowhere) ≡ under (pick x None (pick y (Some (b + get 4 s (b + 8 + 4 * t))) None)) f
       go true y = refl
       go false y = pick_under y (b + get 4 s (b + 8 + 4 * t)) f
 
-  datum_under : (b d : ℕ) (f : ℕ → Spot) → datum_in s b d f ≡ under (datum_base s b d) f
-  unfolding datum_in datum_base after_base
+  pub datum_under : (b d : ℕ) (f : ℕ → Spot) → datum_in s b d f ≡ under (datum_base s b d) f
+  unfolding under datum_in datum_base after_base
   datum_under b d f = go (eqb (get 4 s b) fleu) (ltb d (get 1 s (b + 4))) (many d datum s (b + 8))
     where
       go : (x y : Bool) (r : Res (List Item)) → pick x (pick y (behind r f) nowhere) nowhere ≡ under (pick x (pick y (after_base r) None) None) f
@@ -218,14 +229,8 @@ module _ (s : List ℕ) where
       go true false r = refl
       go false y r = refl
 
-  -- to an info
-  pub path_under : (c i : ℕ) (f : ℕ → Spot) → content_in s c (λ b. info_in s b i f) ≡ under (info_under s (content_base s c) i) f
-  unfolding info_under
-  path_under c i f = content_under c (λ b. info_in s b i f) ∙ go (content_base s c)
-    where
-      go : (x : Option ℕ) → under x (λ b. info_in s b i f) ≡ under (info_under s x i) f
-      go (Some b) = info_under_lem b i f
-      go None = refl
+-- where a path leads, by its steps
+pub ruleset path_steps = (content_under, info_under_lem, target_under_lem, datum_under, under_some, under_none)
 
 -- ---- what stands where it leads
 
@@ -243,7 +248,7 @@ picked Good n k a b e f = go (ltb k n) refl e
     go false u d = absurd (from_missing b d)
 
 module _ (s : List ℕ) where
-  pub content_from : (c b : ℕ) → SectionAt s → content_base s c ≡ Some b → ContentAt s b
+  content_from : (c b : ℕ) → SectionAt s → content_base s c ≡ Some b → ContentAt s b
   unfolding content_base
   content_from c b h e = picked (ContentAt s) (get 2 s 14) c (get 4 s (get 4 s 16 + 4 * c)) b e (h.contents c)
 
@@ -251,15 +256,7 @@ module _ (s : List ℕ) where
   unfolding info_base
   info_from a i b h e = picked (InfoAt s) (get 1 s (a + 28)) i (a + get 4 s (info_table_in s a + 4 * i)) b e (h.infos i)
 
-  pub path_from : (c i b : ℕ) → SectionAt s → info_under s (content_base s c) i ≡ Some b → InfoAt s b
-  unfolding info_under
-  path_from c i b h = go (content_base s c) refl
-    where
-      go : (x : Option ℕ) → content_base s c ≡ x → info_under s x i ≡ Some b → InfoAt s b
-      go (Some a) d e = info_from a i b (content_from c a h d) e
-      go None d e = absurd (from_missing b e)
-
-  pub target_from : (a t b : ℕ) → InfoAt s a → target_base s a t ≡ Some b → TargetAt s b
+  target_from : (a t b : ℕ) → InfoAt s a → target_base s a t ≡ Some b → TargetAt s b
   unfolding target_base
   target_from a t b h = go (eqb (get 4 s a) fleu) refl
     where
@@ -267,28 +264,37 @@ module _ (s : List ℕ) where
       go true d e = absurd (from_missing b e)
       go false d e = picked (TargetAt s) (get 1 s (a + 4)) t (a + get 4 s (a + 8 + 4 * t)) b e (h.targets (eqb-false (get 4 s a) fleu d) t)
 
-  pub datum_from : (a d b : ℕ) → InfoAt s a → datum_base s a d ≡ Some b → DatumAt s b
-  unfolding datum_base after_base
-  datum_from a d b h = go (eqb (get 4 s a) fleu) refl (ltb d (get 1 s (a + 4))) refl (many d datum s (a + 8)) refl
+  -- the datum behind d others
+  pub datum_there : (a d b : ℕ) → InfoAt s a → get 4 s a ≡ fleu → d < get 1 s (a + 4) → after_base (many d datum s (a + 8)) ≡ Some b → DatumAt s b
+  unfolding after_base
+  datum_there a d b h u v = go (many d datum s (a + 8)) refl
     where
-      go : (x : Bool) → eqb (get 4 s a) fleu ≡ x → (y : Bool) → ltb d (get 1 s (a + 4)) ≡ y → (r : Res (List Item)) → many d datum s (a + 8) ≡ r
-          → pick x (pick y (after_base r) None) None ≡ Some b → DatumAt s b
-      go true u true v (ok is q) w e = subst (DatumAt s) (from_from q b e) (h.extended (eqb-true (get 4 s a) fleu u) d (ltb-true d (get 1 s (a + 4)) v) is q w)
-      go true u true v (stop g) w e = absurd (from_missing b e)
-      go true u false v r w e = absurd (from_missing b e)
-      go false u y v r w e = absurd (from_missing b e)
+      go : (r : Res (List Item)) → many d datum s (a + 8) ≡ r → after_base r ≡ Some b → DatumAt s b
+      go (ok is q) w e = subst (DatumAt s) (from_from q b e) (h.extended u d v is q w)
+      go (stop g) w e = absurd (from_missing b e)
+
+  datum_from : (a d b : ℕ) → InfoAt s a → datum_base s a d ≡ Some b → DatumAt s b
+  unfolding datum_base
+  datum_from a d b h = go (eqb (get 4 s a) fleu) refl (ltb d (get 1 s (a + 4))) refl
+    where
+      go : (x : Bool) → eqb (get 4 s a) fleu ≡ x → (y : Bool) → ltb d (get 1 s (a + 4)) ≡ y
+          → pick x (pick y (after_base (many d datum s (a + 8))) None) None ≡ Some b → DatumAt s b
+      go true u true v e = datum_there a d b h (eqb-true (get 4 s a) fleu u) (ltb-true d (get 1 s (a + 4)) v) e
+      go true u false v e = absurd (from_missing b e)
+      go false u y v e = absurd (from_missing b e)
 
 -- ---- the field that a path leads to lies in the section
 
 -- a value of one of a datum's three lists
 module _ (s : List ℕ) (b l v : ℕ) (x : DatumAt s b) (hl : l < 3) where
-  pub lists-most : l * get 4 s (b + 8) ≤ 2 * get 4 s (b + 8)
+  lists-most : l * get 4 s (b + 8) ≤ 2 * get 4 s (b + 8)
   lists-most = mul-le-mul_right (get 4 s (b + 8)) (omega arith)
 
-  pub value-fits : v < get 4 s (b + 8) → b + 16 + 4 * (l * get 4 s (b + 8) + v) + 4 ≤ length s
+  value-fits : v < get 4 s (b + 8) → b + 16 + 4 * (l * get 4 s (b + 8) + v) + 4 ≤ length s
   value-fits hv = omega (arith, x.lists, lists-most, hv)
 
 under_at : (x : Option ℕ) (f : ℕ → Spot) {at : ℕ} {g : Field} {X : Type 0} → under x f ≡ spot at g → ((b : ℕ) → x ≡ Some b → f b ≡ spot at g → X) → X
+unfolding under
 under_at (Some b) f e k = k b refl e
 under_at None f e k = absurd (let z : ◌≡◌ {A = ℕ} 0 1 = cc in omega arith)
 
@@ -307,7 +313,9 @@ module _ (s : List ℕ) (h : SectionAt s) (at : ℕ) (f : Field) where
   known a g e l = subst (λ (k : ℕ). k + total (widths f) ≤ length s) (spot_place e) (subst (λ (x : Field). a + total (widths x) ≤ length s) (spot_field e) l)
 
   along : (c i : ℕ) (g : ℕ → Spot) → content_in s c (λ b. info_in s b i g) ≡ spot at f → ((b : ℕ) → InfoAt s b → g b ≡ spot at f → Inside) → Inside
-  along c i g e k = under_at (info_under s (content_base s c) i) g (sym (path_under s c i g) ∙ e) (λ b d x. k b (path_from s c i b h d) x)
+  along c i g e k =
+      under_at (content_base s c) _ (sym (content_under s c _) ∙ e) (λ a d x.
+      under_at (info_base s a i) g (sym (info_under_lem s a i g) ∙ x) (λ b z y. k b (info_from s a i b (content_from s c a h d) z) y))
 
   to_target : (a t : ℕ) (g : ℕ → Spot) → InfoAt s a → target_in s a t g ≡ spot at f → ((b : ℕ) → TargetAt s b → g b ≡ spot at f → Inside) → Inside
   to_target a t g x e k = under_at (target_base s a t) g (sym (target_under_lem s a t g) ∙ e) (λ b d y. k b (target_from s a t b x d) y)
@@ -343,176 +351,45 @@ module _ (s : List ℕ) (h : SectionAt s) (at : ℕ) (f : Field) where
   located_inside (Key c i t k) e = along c i _ e (λ a x d. to_target a t _ x d (λ b y z. key-inside b k y z))
   located_inside (Value c i d l v) e = along c i _ e (λ a x z. to_datum a d _ x z (λ b y w. value-inside b l v y w))
 
--- ---- the steps and the fields as the code has them
+-- ---- the curve that reading has for a number
 
-ok_some : {A E : Type 0} (r : Result A E) (v : A) → result_ok r ≡ Some v → r ≡ Ok v
-ok_some (Ok x) v e = cc
-ok_some (Err f) v e = absurd (none-some v e)
+pub number_by : (n : ℕ) → curve_number (curve_by n) ≡ curve_of n
+unfolding curve_of
+number_by zero = refl
+number_by (suc zero) = refl
+number_by (suc (suc zero)) = refl
+number_by (suc (suc (suc n))) = rw (lt-leb (suc (suc (suc n))) 2 (omega arith))
 
-ok_none : {A E : Type 0} (r : Result A E) → result_ok r ≡ None → (f : E) × (r ≡ Err f)
-ok_none (Ok x) e = absurd (none-some x (sym e))
-ok_none (Err f) e = (f, refl)
+-- a curve by its number
+pub curve_is : (curve : Curve) (n : ℕ) → curve_number curve ≡ curve_of n → curve ≡ curve_by n
+unfolding curve_of
+curve_is curve n e = sym (back curve) ∙ ap curve_by e ∙ same n
+  where
+    back : (curve : Curve) → curve_by (curve_number curve) ≡ curve
+    back Constant = refl
+    back Step = refl
+    back Hermite = refl
+
+    same : (n : ℕ) → curve_by (curve_of n) ≡ curve_by n
+    same zero = refl
+    same (suc zero) = refl
+    same (suc (suc zero)) = refl
+    same (suc (suc (suc n))) = rw (lt-leb (suc (suc (suc n))) 2 (omega arith))
+
+-- ---- the steps and the call as the code has them
 
 module _ (s : List ℕ) where
-  pub content_yes : (c : ℕ) {n table off : ℕ} → n ≡ get 2 s 14 → c < n → table ≡ get 4 s 16 → off ≡ get 4 s (table + 4 * c) → Some off ≡ content_base s c
-  unfolding content_base
-  content_yes c en h et eo = let e : ltb c (get 2 s 14) ≡ true = lt-ltb c (get 2 s 14) (rw en at h) in rw (e, eo, et)
-
-  pub content_no : (c : ℕ) {n : ℕ} → n ≡ get 2 s 14 → n ≤ c → None ≡ content_base s c
-  unfolding content_base
-  content_no c en h = let e : ltb c (get 2 s 14) ≡ false = le-ltb c (get 2 s 14) (rw en at h) in rw e
-
-  pub info_off : (c i : ℕ) → content_base s c ≡ None → None ≡ info_under s (content_base s c) i
-  unfolding info_under
-  info_off c i e = rw e
-
-  module _ (b : ℕ) where
-    pub table-user : {type off : ℕ} → type ≡ get 1 s (b + 29) → type ≡ 2 → off ≡ get 4 s (b + 32) → b + off ≡ info_table_in s b
-    unfolding info_table_in
-    table-user et e eo = rw (eq-eqb (get 1 s (b + 29)) 2 (sym et ∙ e), eo)
-
-    pub table-plain : {type : ℕ} → type ≡ get 1 s (b + 29) → (type ≡ 2 → ⊥) → b + 32 ≡ info_table_in s b
-    unfolding info_table_in
-    table-plain et e = rw (ne_eqb (get 1 s (b + 29)) 2 (λ z. e (et ∙ z)))
-
-    pub info_yes : (i : ℕ) {n table off : ℕ} → n ≡ get 1 s (b + 28) → i < n → table ≡ info_table_in s b → off ≡ get 4 s (table + 4 * i) → Some (b + off) ≡ info_base s b i
-    unfolding info_base
-    info_yes i en h et eo = let e : ltb i (get 1 s (b + 28)) ≡ true = lt-ltb i (get 1 s (b + 28)) (rw en at h) in rw (e, eo, et)
-
-    pub info_no : (i : ℕ) {n : ℕ} → n ≡ get 1 s (b + 28) → n ≤ i → None ≡ info_base s b i
-    unfolding info_base
-    info_no i en h = let e : ltb i (get 1 s (b + 28)) ≡ false = le-ltb i (get 1 s (b + 28)) (rw en at h) in rw e
-
-    pub info_on : (c i : ℕ) (r : Option ℕ) → content_base s c ≡ Some b → r ≡ info_base s b i → r ≡ info_under s (content_base s c) i
-    unfolding info_under
-    info_on c i r e d = rw e d
-
-    module _ {letters : ℕ} (el : letters ≡ get 4 s b) where
-      pub target-fleu : (t : ℕ) → letters ≡ fleu → None ≡ target_base s b t
-      unfolding target_base
-      target-fleu t e = rw (eq-eqb (get 4 s b) fleu (sym el ∙ e))
-
-      pub datum_other : (d : ℕ) → (letters ≡ fleu → ⊥) → None ≡ datum_base s b d
-      unfolding datum_base
-      datum_other d e = rw (ne_eqb (get 4 s b) fleu (λ z. e (el ∙ z)))
-
-      module _ {n : ℕ} (en : n ≡ get 1 s (b + 4)) where
-        pub target_yes : (t : ℕ) {off : ℕ} → (letters ≡ fleu → ⊥) → t < n → off ≡ get 4 s (b + 8 + 4 * t) → Some (b + off) ≡ target_base s b t
-        unfolding target_base
-        target_yes t e h eo = let u : ltb t (get 1 s (b + 4)) ≡ true = lt-ltb t (get 1 s (b + 4)) (rw en at h) in rw (ne_eqb (get 4 s b) fleu (λ z. e (el ∙ z)), u, eo)
-
-        pub target_no : (t : ℕ) → (letters ≡ fleu → ⊥) → n ≤ t → None ≡ target_base s b t
-        unfolding target_base
-        target_no t e h = let u : ltb t (get 1 s (b + 4)) ≡ false = le-ltb t (get 1 s (b + 4)) (rw en at h) in rw (ne_eqb (get 4 s b) fleu (λ z. e (el ∙ z)), u)
-
-        pub datum_yes : (d : ℕ) (r : Option ℕ) → letters ≡ fleu → d < n → r ≡ after_base (many d datum s (b + 8)) → r ≡ datum_base s b d
-        unfolding datum_base
-        datum_yes d r e h er = let u : ltb d (get 1 s (b + 4)) ≡ true = lt-ltb d (get 1 s (b + 4)) (rw en at h) in rw (eq-eqb (get 4 s b) fleu (sym el ∙ e), u, er)
-
-        pub datum_no : (d : ℕ) → letters ≡ fleu → n ≤ d → None ≡ datum_base s b d
-        unfolding datum_base
-        datum_no d e h = let u : ltb d (get 1 s (b + 4)) ≡ false = le-ltb d (get 1 s (b + 4)) (rw en at h) in rw (eq-eqb (get 4 s b) fleu (sym el ∙ e), u)
-
   -- where a walk over data stands
-  module _ (t : Tally) (w x w' x' : List ℕ) (r : Walk) where
-    after_ok : (u : Tally) (p : ℕ) (res : Res (List Item)) → walked r w' x' ≡ walk_of s t w x res → r ≡ Ok (u, p) → Some p ≡ after_base res
-    unfolding walk_of after_base
-    after_ok u p (ok is q) e d = ap Some (on_place _ _ _ _ (sym d ∙ sym (told_answer r w' x') ∙ ap (λ (z : Walk × List ℕ × List ℕ). z.0) e))
-    after_ok u p (stop g) e d = absurd (on_no _ _ _ (sym d ∙ sym (told_answer r w' x') ∙ ap (λ (z : Walk × List ℕ × List ℕ). z.0) e))
+  pub data_behind : (t u : Tables) (r : Walk) (res : Res (List Item)) → walked r u ≡ walk_of s t res → result_ok r ≡ after_base res
+  unfolding walked walk_of after_base
+  data_behind t u (Ok p) (ok is q) e = ap Some (on_place p q (first e))
+  data_behind t u (Ok p) (stop g) e = absurd (on_no p g (first e))
+  data_behind t u (Err f) (ok is q) e = absurd (on_no q f (sym (first e)))
+  data_behind t u (Err f) (stop g) e = refl
 
-    after_err : (f : Fault) (res : Res (List Item)) → walked r w' x' ≡ walk_of s t w x res → r ≡ Err f → None ≡ after_base res
-    unfolding walk_of after_base
-    after_err f (ok is q) e d = absurd (on_no _ _ _ (sym (sym d ∙ sym (told_answer r w' x') ∙ ap (λ (z : Walk × List ℕ × List ℕ). z.0) e)))
-    after_err f (stop g) e d = refl
-
-    pub after_on : (u : Tally) (p : ℕ) (res : Res (List Item)) → walked r w' x' ≡ walk_of s t w x res → result_ok r ≡ Some (u, p) → Some p ≡ after_base res
-    after_on u p res e d = after_ok u p res e (ok_some r (u, p) d)
-
-    pub after_no : (res : Res (List Item)) → walked r w' x' ≡ walk_of s t w x res → result_ok r ≡ None → None ≡ after_base res
-    after_no res e d = let f = ok_none r d in after_err f.0 res e f.1
-
-  -- the bytes from one key to the next
-  pub stride_rest : (c : ℕ) → (c ≡ 0 → ⊥) → (c ≡ 1 → ⊥) → 12 ≡ stride c
-  stride_rest zero a b = absurd (a refl)
-  stride_rest (suc zero) a b = absurd (b refl)
-  stride_rest (suc (suc c)) a b = sym (stride_three c)
-
-  -- a target, a key and a value
-  module _ (b : ℕ) {curve n off : ℕ} (ec : curve ≡ get 1 s (b + 2)) (en : n ≡ get 2 s (b + 4)) (eo : off ≡ get 4 s (b + 8)) where
-    pub track_above : 2 < curve → ◌≡◌ {A = Track} (record { start = b; curve = 0; count = 0; keys = b + off }) (track_at s b)
-    unfolding curve_of count_of
-    track_above h = rw (lt-leb (get 1 s (b + 2)) 2 (rw ec at h), eo)
-
-    pub track_low : curve ≤ 2 → ◌≡◌ {A = Track} (record { start = b; curve = curve; count = n; keys = b + off }) (track_at s b)
-    unfolding curve_of count_of
-    track_low h = rw (le-leb (get 1 s (b + 2)) 2 (rw ec at h), eo, ec, en)
-
-  module _ (b k : ℕ) {t : Track} (e : t ≡ track_at s b) where
-    pub key-none : t.count ≤ k → None ≡ spot_of (key_in s b k)
-    unfolding key_in spot_of
-    key-none l = rw (le-ltb k (track_at s b).count (rw e at l))
-
-    pub key_there : k < t.count → {gap : ℕ} → gap ≡ stride t.curve → Some (record { at = t.keys + k * gap; field = key t.curve }) ≡ spot_of (key_in s b k)
-    unfolding key_in spot_of
-    key_there l eg = rw (lt-ltb k (track_at s b).count (rw e at l), eg, e)
-
-    -- it lies in the section, so that its place is a number
-    pub key_fits : TargetAt s b → k < t.count → {gap : ℕ} → gap ≡ stride t.curve → t.keys + k * gap ≤ length s
-    key_fits x l {gap} eg =
-        let f = x.keys k (rw e at l) in
-        let d : (track_at s b).keys + k * stride (track_at s b).curve ≡ t.keys + k * gap = rw (eg, e) in
-        omega (arith, f, d)
-
-  module _ (b l v : ℕ) {n : ℕ} (en : n ≡ get 4 s (b + 8)) where
-    pub value_list : 3 ≤ l → None ≡ spot_of (value_in s b l v)
-    unfolding value_in spot_of
-    value_list h = rw (le-ltb l 3 h)
-
-    module _ (h : l < 3) where
-      pub value_none : n ≤ v → None ≡ spot_of (value_in s b l v)
-      unfolding value_in spot_of
-      value_none k = let e : ltb v (get 4 s (b + 8)) ≡ false = le-ltb v (get 4 s (b + 8)) (rw en at k) in rw (lt-ltb l 3 h, e)
-
-      pub value_there : v < n → Some (record { at = b + 16 + 4 * (l * n + v); field = value }) ≡ spot_of (value_in s b l v)
-      unfolding value_in spot_of
-      value_there k = let e : ltb v (get 4 s (b + 8)) ≡ true = lt-ltb v (get 4 s (b + 8)) (rw en at k) in rw (lt-ltb l 3 h, e, en)
-
-      pub value-most : DatumAt s b → l * n ≤ 2 * n
-      value-most x = rw en (lists-most s b l v x h)
-
-  -- the field of a place, by the steps of its path
-  module _ (c i : ℕ) where
-    pub no_info : (f : ℕ → Spot) → info_under s (content_base s c) i ≡ None → None ≡ spot_of (content_in s c (λ b. info_in s b i f))
-    unfolding spot_of
-    no_info f e =
-        let z : content_in s c (λ b. info_in s b i f) ≡ nowhere = path_under s c i f ∙ rw e in
-        sym (ap spot_of z)
-
-    module _ (b : ℕ) (e : info_under s (content_base s c) i ≡ Some b) where
-      info_to : (f : ℕ → Spot) → content_in s c (λ b. info_in s b i f) ≡ f b
-      info_to f = path_under s c i f ∙ rw e
-
-      pub no_target : (t : ℕ) (f : ℕ → ℕ → Spot) → target_base s b t ≡ None → None ≡ spot_of (content_in s c (λ b. info_in s b i (λ a. target_in s a t (f a))))
-      unfolding spot_of
-      no_target t f d =
-          let z : content_in s c (λ b. info_in s b i (λ a. target_in s a t (f a))) ≡ nowhere = info_to (λ a. target_in s a t (f a)) ∙ target_under_lem s b t (f b) ∙ rw d in
-          sym (ap spot_of z)
-
-      pub target_to : (t q : ℕ) (f : ℕ → ℕ → Spot) {r : Option FieldSpot} → target_base s b t ≡ Some q → r ≡ spot_of (f b q)
-          → r ≡ spot_of (content_in s c (λ b. info_in s b i (λ a. target_in s a t (f a))))
-      target_to t q f d x = x ∙ sym (ap spot_of (info_to (λ a. target_in s a t (f a)) ∙ target_under_lem s b t (f b) ∙ rw d))
-
-      pub no_datum : (d : ℕ) (f : ℕ → Spot) → datum_base s b d ≡ None → None ≡ spot_of (content_in s c (λ b. info_in s b i (λ a. datum_in s a d f)))
-      unfolding spot_of
-      no_datum d f x =
-          let z : content_in s c (λ b. info_in s b i (λ a. datum_in s a d f)) ≡ nowhere = info_to (λ a. datum_in s a d f) ∙ datum_under s b d f ∙ rw x in
-          sym (ap spot_of z)
-
-      pub datum_to : (d q : ℕ) (f : ℕ → Spot) {r : Option FieldSpot} → datum_base s b d ≡ Some q → r ≡ spot_of (f q)
-          → r ≡ spot_of (content_in s c (λ b. info_in s b i (λ a. datum_in s a d f)))
-      datum_to d q f x y = y ∙ sym (ap spot_of (info_to (λ a. datum_in s a d f) ∙ datum_under s b d f ∙ rw x))
-
-  -- ---- the call
+  -- the call
+  pub whole_section : (t : Tally) → (read_into s 0 [] [] (section s 0)).0 ≡ Ok t → SectionAt s
+  whole_section t e = let w = whole section s 0 t e in section_at s w.items w.last w.reads
 
   -- a field that has to be there
   required : (x : Spot) → ok_or (spot_of x) NoSuchPlace ≡ of_spot x
@@ -521,21 +398,18 @@ module _ (s : List ℕ) where
   required (spot at f) = refl
 
   module _ (p : Place) where
-    pub locating-long : 16777216 < length s → Err (TooLong (length s)) ≡ locating s p
+    pub locating_long : 16777216 < length s → locating s p ≡ Err (TooLong (length s))
     unfolding locating
-    locating-long h = rw (lt-leb (length s) limit h)
+    locating_long h = rw (lt-leb (length s) limit h)
 
-    module _ (h : length s ≤ 16777216) (r : Walk) (em : r ≡ (walk_of s (empty_tally 0) [] [] (section s 0)).0) where
-      pub locating-stop : (f : Fault) → r ≡ Err f → Err (Unread f) ≡ locating s p
+    pub locating_stop : length s ≤ 16777216 → (f : Fault) → (read_into s 0 [] [] (section s 0)).0 ≡ Err f → locating s p ≡ Err (Unread f)
+    unfolding locating locating_in
+    locating_stop h f e = rw (le-leb (length s) limit h, stopped s 0 (section s 0) f e)
+
+    module _ (t : Tally) (e : (read_into s 0 [] [] (section s 0)).0 ≡ Ok t) where
+      pub locating_on : length s ≤ 16777216 → {x : Option FieldSpot} → x ≡ spot_of (locate s p) → locating s p ≡ ok_or x NoSuchPlace
       unfolding locating locating_in
-      locating-stop f e = rw (le-leb (length s) limit h, stopped s (empty_tally 0) (section s 0) f (sym em ∙ e))
-
-      pub locating_on : (t : Tally) (q : ℕ) (x : Option FieldSpot) → r ≡ Ok (t, q) → x ≡ spot_of (locate s p) → ok_or x NoSuchPlace ≡ locating s p
-      unfolding locating locating_in
-      locating_on t q x e d = rw (le-leb (length s) limit h, (whole section s 0 t q (sym em ∙ e)).reads, d) (required (locate s p))
-
-      pub locating-section : (t : Tally) (q : ℕ) → r ≡ Ok (t, q) → SectionAt s
-      locating-section t q e = let w = whole section s 0 t q (sym em ∙ e) in section_at s w.items w.last w.reads
+      locating_on h d = rw (le-leb (length s) limit h, (whole section s 0 t e).reads, d) (sym (required (locate s p)))
 
     -- what an answer says
     pub record Spotted (at : ℕ) (f : Field) : Type 0 where

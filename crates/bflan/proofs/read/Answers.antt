@@ -18,50 +18,77 @@ use Rattle.base.specs.Utf8.{decode, replacements, well_formed}
 use Rattle.bflan.specs.declared.fault.Fault.{Fault}
 use Rattle.bflan.specs.declared.fault.Fault.TheVariants.{PastEnd, NoZero, OtherLetters}
 use Rattle.bflan.specs.declared.reader.tally.Tally.{Tally}
-use Rattle.std.specs.Prelude.{Ok, Err}
+use Rattle.std.specs.Prelude.{Result, Ok, Err, Option, Some}
 use Rattle.bflan.specs.declared.read.ReadError.TheVariants.{Fault as ReadFault, TooLong, TooShort}
 use Rattle.bflan.specs.declared.find.FindError.TheVariants.{Fault as FindFault, TooLong as FindTooLong, NoSuchText, ScratchTooShort}
 use Rattle.bflan.specs.Reader.{Res, ok, stop, P, Item}
 use Rattle.bflan.specs.Items.{words_of, texts_of, replacements_of}
-use Rattle.bflan.specs.inner.Walk.{Walk, empty_tally, tallied, walk_of, walked}
+use Rattle.bflan.specs.inner.Walk.{empty_tally, tallied, after, walk_of, walked, read_into, told}
+use Rattle.bflan.specs.declared.reader.tally.Tables.{Tables}
+use Rattle.bflan.proofs.reader.Walks.{first, second, on_no, on_tables, no_case}
 use Rattle.bflan.specs.Limits.{limit}
 use Rattle.bflan.specs.Answer.{too_long, too_short, of_fault, of_reading, of_finding, shown, shown_in, filled, found, text_part, text_ptr, finding_by, reading_by}
 use Rattle.bflan.specs.Items.{texts_in}
 use Rattle.bflan.proofs.reader.Bounds.{Gives, given_ok, Countable}
-use Rattle.bflan.proofs.reader.Walks.{on_no, on_tally, no_fault}
 use Rattle.bflan.proofs.reader.Counts.{Fresh, whole_words, whole-bytes, whole-replaced, whole_met, whole-none, whole-start, whole_len, whole-inside}
 
--- ---- a walk's answer, without the tables
+-- ---- a walk into two lists, by the walk into the tables that they are
 
-pub told_answer : (r : Walk) (w x : List ℕ) → (walked r w x).0 ≡ r
-unfolding walked
-told_answer (Ok on) w x = refl
+pub walk_on : (s : List ℕ) (k : ℕ) {w x : List ℕ} (t u : Tables) (q : ℕ) (res : Res (List Item)) (w' x' : List ℕ) → t.tally ≡ empty_tally k → t.words.now ≡ w → t.texts.now ≡ x
+    → walked (Ok q) u ≡ walk_of s t res → ((is : List Item) → u ≡ after s t is → (w' ≡ u.words.now) × (x' ≡ u.texts.now)) → told (Ok u.tally) w' x' ≡ read_into s k w x res
+unfolding walked told read_into
+walk_on s k {w} {x} t u q (ok is p) w' x' et ew ex e f = same (on_tables _ _ (unfold walk_of in second e))
+  where
+    same : u ≡ after s t is → ◌≡◌ {A = Result Tally Fault × Option (List ℕ × List ℕ)} (Ok u.tally, Some (w', x')) (Ok (tallied s (empty_tally k) is), Some (sets w 0 (words_of s is), sets x 0 (texts_of s is)))
+    same d = let b = f is d in rw (b.0, b.1, d, ← ew, ← ex, et)
+walk_on s k t u q (stop f) w' x' et ew ex e g = absurd (on_no q f (unfold walk_of in first e))
+
+pub walk_no : (s : List ℕ) (k : ℕ) (w x : List ℕ) (t u : Tables) (f : Fault) (res : Res (List Item)) (w' x' : List ℕ) → walked (Err f) u ≡ walk_of s t res → told (Err f) w' x' ≡ read_into s k w x res
+walk_no s k w x t u f res w' x' e = let d = no_case s t res f u e in rw d (unfold told read_into in refl)
+
+-- ---- a walk's answer, without the lists
+
+told_answer : (r : Result Tally Fault) (w x : List ℕ) → (told r w x).0 ≡ r
+unfolding told
+told_answer (Ok t) w x = refl
 told_answer (Err f) w x = refl
 
-pub measured : (r : Walk) (s : List ℕ) (k : ℕ) (t : Tally) (w x : List ℕ) (res : Res (List Item)) → t ≡ empty_tally k → walked r w x ≡ walk_of s t [] [] res → r ≡ (walk_of s (empty_tally k) [] [] res).0
-measured r s k t w x res et e = sym (told_answer r w x) ∙ ap (λ (z : Walk × List ℕ × List ℕ). z.0) (e ∙ ap (λ (u : Tally). walk_of s u [] [] res) et)
+pub measured : (r : Result Tally Fault) (s : List ℕ) (k : ℕ) (w x : List ℕ) (res : Res (List Item)) → told r w x ≡ read_into s k [] [] res → r ≡ (read_into s k [] [] res).0
+measured r s k w x res e = sym (told_answer r w x) ∙ ap (λ (z : Result Tally Fault × Option (List ℕ × List ℕ)). z.0) e
 
--- and of one that went through, the tables
-pub tables : (r : Walk) (s : List ℕ) (t : Tally) (w x w' x' : List ℕ) (is : List Item) (p : ℕ) → walked r w' x' ≡ walk_of s t w x (ok is p)
-    → (w' ≡ sets w t.words (words_of s is)) × (x' ≡ sets x t.bytes (texts_of s is))
-unfolding walked walk_of
-tables (Ok (u, q)) s t w x w' x' is p e = (ap (λ (z : Walk × List ℕ × List ℕ). z.1) e, ap (λ (z : Walk × List ℕ × List ℕ). z.2) e)
-tables (Err f) s t w x w' x' is p e = absurd (on_no _ _ _ (sym (ap (λ (z : Walk × List ℕ × List ℕ). z.0) e)))
+not_both : (t : Tally) (f : Fault) → ◌≡◌ {A = Result Tally Fault} (Ok t) (Err f) → ⊥
+not_both t f e = let z : ◌≡◌ {A = ℕ} 0 1 = cc in omega arith
+
+same_tally : (t u : Tally) → ◌≡◌ {A = Result Tally Fault} (Ok t) (Ok u) → t ≡ u
+same_tally t u e = cc
+
+same_fault : (f g : Fault) → ◌≡◌ {A = Result Tally Fault} (Err f) (Err g) → f ≡ g
+same_fault f g e = cc
+
+same_lists : (w x v y : List ℕ) → ◌≡◌ {A = Option (List ℕ × List ℕ)} (Some (w, x)) (Some (v, y)) → (w ≡ v) × (x ≡ y)
+same_lists w x v y e = let d : ◌≡◌ {A = List ℕ × List ℕ} (w, x) (v, y) = cc in (ap (λ (z : List ℕ × List ℕ). z.0) d, ap (λ (z : List ℕ × List ℕ). z.1) d)
+
+-- and of one that went through, the lists
+pub lists : (r : Result Tally Fault) (s : List ℕ) (k : ℕ) (w x w' x' : List ℕ) (is : List Item) (p : ℕ) → told r w' x' ≡ read_into s k w x (ok is p)
+    → (w' ≡ sets w 0 (words_of s is)) × (x' ≡ sets x 0 (texts_of s is))
+unfolding told read_into
+lists (Ok t) s k w x w' x' is p e = same_lists _ _ _ _ (ap (λ (z : Result Tally Fault × Option (List ℕ × List ℕ)). z.1) e)
+lists (Err f) s k w x w' x' is p e = absurd (not_both _ _ (sym (ap (λ (z : Result Tally Fault × Option (List ℕ × List ℕ)). z.0) e)))
 
 -- ---- a section that was measured
 
-pub stopped : (s : List ℕ) (t : Tally) (res : Res (List Item)) (f : Fault) → (walk_of s t [] [] res).0 ≡ Err f → res ≡ stop f
-unfolding walk_of
-stopped s t (ok is p) f e = absurd (on_no _ _ _ e)
-stopped s t (stop g) f e = ap (λ (z : Fault). stop z) (no_fault g f e)
+pub stopped : (s : List ℕ) (k : ℕ) (res : Res (List Item)) (f : Fault) → (read_into s k [] [] res).0 ≡ Err f → res ≡ stop f
+unfolding read_into
+stopped s k (ok is p) f e = absurd (not_both _ _ e)
+stopped s k (stop g) f e = ap (λ (z : Fault). stop z) (same_fault g f e)
 
-went : (s : List ℕ) (u t : Tally) (is : List Item) (q p : ℕ) → (walk_of s u [] [] (ok is q)).0 ≡ Ok (t, p) → t ≡ tallied s u is
-unfolding walk_of
-went s u t is q p e = sym (on_tally _ _ _ _ e)
+went : (s : List ℕ) (k : ℕ) (t : Tally) (is : List Item) (p : ℕ) → (read_into s k [] [] (ok is p)).0 ≡ Ok t → t ≡ tallied s (empty_tally k) is
+unfolding read_into
+went s k t is p e = sym (same_tally _ _ e)
 
-went_not : (s : List ℕ) (u t : Tally) (f : Fault) (p : ℕ) → (walk_of s u [] [] (stop f)).0 ≡ Ok (t, p) → ⊥
-unfolding walk_of
-went_not s u t f p e = on_no _ _ _ (sym e)
+went_not : (s : List ℕ) (k : ℕ) (t : Tally) (f : Fault) → (read_into s k [] [] (stop f)).0 ≡ Ok t → ⊥
+unfolding read_into
+went_not s k t f e = not_both _ _ (sym e)
 
 new : (k : ℕ) → Fresh k (empty_tally k)
 new k = (refl, refl, refl, refl)
@@ -75,12 +102,12 @@ module _ (p : P (List Item)) where
     pub reads : p s 0 ≡ ok items last
     pub counts : t ≡ tallied s (empty_tally k) items
 
-  pub whole : (s : List ℕ) (k : ℕ) (t : Tally) (q : ℕ) → (walk_of s (empty_tally k) [] [] (p s 0)).0 ≡ Ok (t, q) → Whole s k t
-  whole s k t q e = go (p s 0) refl e
+  pub whole : (s : List ℕ) (k : ℕ) (t : Tally) → (read_into s k [] [] (p s 0)).0 ≡ Ok t → Whole s k t
+  whole s k t e = go (p s 0) refl e
     where
-      go : (res : Res (List Item)) → p s 0 ≡ res → (walk_of s (empty_tally k) [] [] res).0 ≡ Ok (t, q) → Whole s k t
-      go (ok is l) er em = record { items = is; last = l; reads = er; counts = went s (empty_tally k) t is l q em }
-      go (stop f) er em = absurd (went_not s (empty_tally k) t f q em)
+      go : (res : Res (List Item)) → p s 0 ≡ res → (read_into s k [] [] res).0 ≡ Ok t → Whole s k t
+      go (ok is l) er em = record { items = is; last = l; reads = er; counts = went s k t is l em }
+      go (stop f) er em = absurd (went_not s k t f em)
 
   module _ (s : List ℕ) (h : length s ≤ 16777216) (g : Gives s (Countable s) p) (k : ℕ) (t : Tally) (m : Whole s k t) where
     held : Countable s m.items
@@ -137,22 +164,21 @@ module _ (p : P (List Item)) (s w x : List ℕ) where
     unfolding reading_by
     by_result = rw (le-leb _ _ h)
 
-    pub reading-stop : (t : Tally) (f : Fault) → (walk_of s t [] [] (p s 0)).0 ≡ Err f → (of_reading (Err (ReadFault f)), w, x) ≡ reading_by p s w x
+    pub reading-stop : (k : ℕ) (f : Fault) → (read_into s k [] [] (p s 0)).0 ≡ Err f → (of_reading (Err (ReadFault f)), w, x) ≡ reading_by p s w x
     unfolding filled
-    reading-stop t f e = rw (by_result, stopped s t (p s 0) f e)
+    reading-stop k f e = rw (by_result, stopped s k (p s 0) f e)
 
-    module _ (g : Gives s (Countable s) p) (k : ℕ) (t : Tally) (q : ℕ) (e : (walk_of s (empty_tally k) [] [] (p s 0)).0 ≡ Ok (t, q)) where
+    module _ (g : Gives s (Countable s) p) (k : ℕ) (t : Tally) (e : (read_into s k [] [] (p s 0)).0 ≡ Ok t) where
       m : Whole p s k t
-      m = whole p s k t q e
+      m = whole p s k t e
 
       by_items : reading_by p s w x ≡ filled s w x (ok m.items m.last)
       by_items = by_result ∙ ap (filled s w x) m.reads
 
-      pub reading_on : (r : Walk) (u : Tally) (w' x' : List ℕ) → t.words ≤ length w → t.bytes ≤ length x → u ≡ empty_tally k → walked r w' x' ≡ walk_of s u w x (p s 0)
+      pub reading_on : (r : Result Tally Fault) (w' x' : List ℕ) → t.words ≤ length w → t.bytes ≤ length x → told r w' x' ≡ read_into s k w x (p s 0)
           → (of_reading (Ok (record { words = t.words; bytes = t.bytes; replaced = t.replaced })), w', x') ≡ reading_by p s w x
-      reading_on r u w' x' ha hb eu er =
-          let e' : walked r w' x' ≡ walk_of s (empty_tally k) w x (ok m.items m.last) = er ∙ ap (λ (z : Tally). walk_of s z w x (p s 0)) eu ∙ ap (walk_of s (empty_tally k) w x) m.reads in
-          let z = tables r s (empty_tally k) w x w' x' m.items m.last e' in
+      reading_on r w' x' ha hb er =
+          let z = lists r s k w x w' x' m.items m.last (er ∙ ap (read_into s k w x) m.reads) in
           rw (by_items, z.0, z.1) (filled_both s w x m.items m.last _ _ _ (whole_w p s h g k t m) (whole_b p s h g k t m) (whole_r p s h g k t m) ha hb)
 
       pub reading-words : length w < t.words → (of_reading (Err (TooShort t.words t.bytes)), w, x) ≡ reading_by p s w x
@@ -229,9 +255,9 @@ shown_place : (s x : List ℕ) (p : ℕ × ℕ) (a len : ℕ) → a ≡ p.0 → 
 shown_place s x p a len ea el = rw (sym ea, sym el)
 
 -- it lies in the section
-pub finding-inside : (p : P (List Item)) (s : List ℕ) (k : ℕ) (h : length s ≤ 16777216) (g : Gives s (Countable s) p) (t : Tally) (q : ℕ)
-    → (walk_of s (empty_tally k) [] [] (p s 0)).0 ≡ Ok (t, q) → k < t.left → t.start + t.len ≤ length s
-finding-inside p s k h g t q e l = let m = whole p s k t q e in whole_i p s h g k t m (met p s h g k t m l)
+pub finding-inside : (p : P (List Item)) (s : List ℕ) (k : ℕ) (h : length s ≤ 16777216) (g : Gives s (Countable s) p) (t : Tally)
+    → (read_into s k [] [] (p s 0)).0 ≡ Ok t → k < t.left → t.start + t.len ≤ length s
+finding-inside p s k h g t e l = let m = whole p s k t e in whole_i p s h g k t m (met p s h g k t m l)
 
 module _ (p : P (List Item)) (s : List ℕ) (k : ℕ) (x : List ℕ) where
   pub finding-long : 16777216 < length s → (of_finding (Err (FindTooLong (length s))), x) ≡ finding_by p s k x
@@ -243,13 +269,13 @@ module _ (p : P (List Item)) (s : List ℕ) (k : ℕ) (x : List ℕ) where
     unfolding finding_by
     in_result = rw (le-leb _ _ h)
 
-    pub finding-stop : (f : Fault) → (walk_of s (empty_tally k) [] [] (p s 0)).0 ≡ Err f → (of_finding (Err (FindFault f)), x) ≡ finding_by p s k x
+    pub finding-stop : (f : Fault) → (read_into s k [] [] (p s 0)).0 ≡ Err f → (of_finding (Err (FindFault f)), x) ≡ finding_by p s k x
     unfolding found
-    finding-stop f e = rw (in_result, stopped s (empty_tally k) (p s 0) f e)
+    finding-stop f e = rw (in_result, stopped s k (p s 0) f e)
 
-    module _ (g : Gives s (Countable s) p) (t : Tally) (q : ℕ) (e : (walk_of s (empty_tally k) [] [] (p s 0)).0 ≡ Ok (t, q)) where
+    module _ (g : Gives s (Countable s) p) (t : Tally) (e : (read_into s k [] [] (p s 0)).0 ≡ Ok t) where
       n : Whole p s k t
-      n = whole p s k t q e
+      n = whole p s k t e
 
       in_items : finding_by p s k x ≡ found s k x (ok n.items n.last)
       in_items = in_result ∙ ap (found s k x) n.reads

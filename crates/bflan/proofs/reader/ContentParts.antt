@@ -10,8 +10,7 @@ use mathlib.Core.List.{List, [], ◌∷◌}
 use native.Mathlib.Omega.{arith}
 use borrow.Author.Tests.{leb-true, leb-false, ltb-true, ltb-false, eqb-false, le-leb, lt-leb, eq-eqb, ne_eqb}
 use lib.Dec.{leb, ltb, eqb}
-use lib.ListN.{length, get_or, set, take, drop, length-set, length-take, length-drop}
-use lib.Seq.{sets, length-sets}
+use lib.ListN.{length, get_or, take, drop, length-take, length-drop}
 use Rattle.base.specs.Choice.{pick}
 use Rattle.base.specs.Number.{get}
 use Rattle.base.specs.Seek.{seek_of}
@@ -20,19 +19,18 @@ use Rattle.base.specs.Run.{numbers_at, numbers_of}
 use Rattle.base.proofs.Zeros.{before-le}
 use Rattle.bflan.specs.declared.fault.Fault.{Fault}
 use Rattle.bflan.specs.declared.fault.Fault.TheVariants.{PastEnd}
-use Rattle.bflan.specs.declared.reader.tally.Tally.{Tally}
+use Rattle.bflan.specs.declared.reader.tally.Tables.{Tables}
 use Rattle.bflan.specs.Reader.{past_fault, text_fault, Res, ok, stop, P, and_then, ◌>>=◌, ret, given, here, Item, word, text, num, seek_to, fixed_text, numbers, visit}
 use Rattle.bflan.specs.pai1.Reading.{info, type_of, info_table, content}
 use Rattle.bflan.specs.pai1.RecordAt.{name_size}
-use Rattle.bflan.specs.Items.{shown_at}
 use Rattle.bflan.specs.pai1.Places.{total}
 use Rattle.bflan.specs.inner.Row.{cut_in}
-use Rattle.bflan.specs.inner.Walk.{with_words, with_text_of, walk_of}
-use Rattle.bflan.proofs.reader.Emits.{sought_on, sought_past, sought_there, run_put2, run_named}
+use Rattle.bflan.specs.inner.Walk.{after, walk_of}
+use Rattle.bflan.proofs.reader.Emits.{sought_on, sought_past, sought_there}
 use Rattle.bflan.proofs.reader.KeyRuns.{num_there, num-short, numbers_run}
 use Rattle.bflan.proofs.reader.Rows.{row_then, fields_at, row_there, row_cut}
 use Rattle.bflan.proofs.reader.Unstopped.{If, if_ok, yes, no, weaker, number, head, landed}
-use Rattle.bflan.proofs.reader.Walks.{before, before-before, put-before}
+use Rattle.bflan.proofs.reader.Walks.{before, put-before, Small, after_both, walk_behind}
 
 -- ---- the name
 
@@ -91,13 +89,13 @@ module _ (base : ℕ) (s : List ℕ) (i : ℕ) where
   content_past past e = rw (sought_past s base i past e)
 
   module _ {p : ℕ} (e : seek_of s base ≡ Ok p) where
-    pub content-none : (f : TextError) → fixed_of 28 s p ≡ Err f → content base s i ≡ stop (text_fault f)
+    pub content_none : (f : TextError) → fixed_of 28 s p ≡ Err f → content base s i ≡ stop (text_fault f)
     unfolding content fixed_text
-    content-none f d = rw (sought_on s base i p e, d)
+    content_none f d = rw (sought_on s base i p e, d)
 
-    pub content-short : {len q : ℕ} {a : Fault} → fixed_of 28 s p ≡ Ok (len, q) → length s < q + 4 → a ≡ cut_in content_widths s q → content base s i ≡ stop a
+    pub content_short : {len q : ℕ} {a : Fault} → fixed_of 28 s p ≡ Ok (len, q) → length s < q + 4 → a ≡ cut_in content_widths s q → content base s i ≡ stop a
     unfolding content fixed_text row_then total
-    content-short {len} {q} f h d = rw (d, sought_on s base i p e, f) (row_cut s content_widths (content_after base (text p len)) q (omega arith) h)
+    content_short {len} {q} f h d = rw (d, sought_on s base i p e, f) (row_cut s content_widths (content_after base (text p len)) q (omega arith) h)
 
   -- ---- behind them
 
@@ -131,21 +129,21 @@ module _ (base : ℕ) (s : List ℕ) (i : ℕ) where
 -- ---- where the info table stands
 
 module _ (base type : ℕ) (s : List ℕ) (p : ℕ) where
-  pub table-plain : (type ≡ 2 → ⊥) → info_table base type s p ≡ ok p p
+  pub table_plain : (type ≡ 2 → ⊥) → info_table base type s p ≡ ok p p
   unfolding info_table
-  table-plain e = rw (ne_eqb type 2 e)
+  table_plain e = rw (ne_eqb type 2 e)
 
-  pub table-user : type ≡ 2 → p + 4 ≤ length s → (q : ℕ) → seek_of s (base + get 4 s p) ≡ Ok q → info_table base type s p ≡ ok q q
+  pub table_user : type ≡ 2 → p + 4 ≤ length s → (q : ℕ) → seek_of s (base + get 4 s p) ≡ Ok q → info_table base type s p ≡ ok q q
   unfolding info_table
-  table-user e h q k = rw (eq-eqb type 2 e, num_there 4 s p h, sought_on s (base + get 4 s p) (p + 4) q k)
+  table_user e h q k = rw (eq-eqb type 2 e, num_there 4 s p h, sought_on s (base + get 4 s p) (p + 4) q k)
 
   pub table_past : type ≡ 2 → p + 4 ≤ length s → (past : Past) → seek_of s (base + get 4 s p) ≡ Err past → info_table base type s p ≡ stop (past_fault past)
   unfolding info_table
   table_past e h past d = rw (eq-eqb type 2 e, num_there 4 s p h, sought_past s (base + get 4 s p) (p + 4) past d)
 
-  pub table-short : type ≡ 2 → length s < p + 4 → info_table base type s p ≡ stop (PastEnd p 4)
+  pub table_short : type ≡ 2 → length s < p + 4 → info_table base type s p ≡ stop (PastEnd p 4)
   unfolding info_table
-  table-short e h = rw (eq-eqb type 2 e, num-short 4 s p h)
+  table_short e h = rw (eq-eqb type 2 e, num-short 4 s p h)
 
   -- where it was found, in the section
   pub table_if : p ≤ length s
@@ -158,8 +156,8 @@ module _ (base type : ℕ) (s : List ℕ) (p : ℕ) where
       kind true e = number s 4 p _ (λ l. weaker _ (landed s (base + get 4 s p) (p + 4)) (λ v j k. (k.1, k.2, λ x. l)))
       kind false e = yes (refl, h, λ x. absurd (eqb-false type 2 e x))
 
-  pub table-within : (q : ℕ) → p ≤ length s → info_table base type s p ≡ ok q q → q ≤ length s
-  table-within q h e = let f = if_ok _ (info_table base type s p) (table_if h) e in rw f.0 f.1
+  pub table_within : (q : ℕ) → p ≤ length s → info_table base type s p ≡ ok q q → q ≤ length s
+  table_within q h e = let f = if_ok _ (info_table base type s p) (table_if h) e in rw f.0 f.1
 
 -- ---- a content as the code has it: by the count, the type and the place of the table
 
@@ -183,16 +181,8 @@ module _ (base : ℕ) (s : List ℕ) (i : ℕ) (h : base + 32 ≤ length s) {n t
       content_on q e ∙ table_on base s i n type q p d ∙ sym (put-before (text base (name_size s base) ∷ word (type_of type) ∷ word n ∷ []) (visit base info (numbers_at n s q) s p) s)
 
 -- the name and the two words of a content, stored, and what follows them
-pub run_content : (s : List ℕ) (t : Tally) (w x : List ℕ) (base kind n : ℕ) (r : Res (List Item)) {len type : ℕ} {u v : Tally} {w₁ w₂ x₁ : List ℕ} → length w ≤ 18446744073709551615 → length x ≤ 18446744073709551615
-    → len ≡ name_size s base → type ≡ type_of kind → u ≡ with_text_of s t base len → w₁ ≡ set w t.words (length (shown_at s base len)) → x₁ ≡ sets x t.bytes (shown_at s base len)
-    → v ≡ with_words u 2 → w₂ ≡ sets w₁ u.words (type ∷ n ∷ [])
-    → walk_of s v w₂ x₁ r ≡ walk_of s t w x (and_then r (λ is. ret (text base (name_size s base) ∷ word (type_of kind) ∷ word n ∷ is)) s)
-run_content s t w x base kind n r {len} {type} {u} {v} {w₁} {w₂} {x₁} hw hx el et eu e₁ ex ev e₂ =
-    let h : length w₁ ≤ 18446744073709551615 = rw (e₁, length-set w t.words (length (shown_at s base len))) hw in
-    let k : length x₁ ≤ 18446744073709551615 = rw (ex, length-sets x t.bytes (shown_at s base len)) hx in
-    let two = run_put2 s u w₁ x₁ type n r v w₂ h k ev e₂ in
-    let one = run_named s t w x base len (before (word type ∷ word n ∷ []) r) u w₁ x₁ hw hx eu e₁ ex in
-    let all = before-before (text base len ∷ []) (word type ∷ word n ∷ []) r in
-    let last : walk_of s t w x (before (text base len ∷ word type ∷ word n ∷ []) r) ≡ walk_of s t w x (and_then r (λ is. ret (text base (name_size s base) ∷ word (type_of kind) ∷ word n ∷ is)) s) =
-    rw (el, et) (ap (walk_of s t w x) (sym (put-before (text base (name_size s base) ∷ word (type_of kind) ∷ word n ∷ []) r s))) in
-    two ∙ one ∙ ap (walk_of s t w x) all ∙ last
+pub run_content : (s : List ℕ) (t : Tables) (base kind n : ℕ) (r : Res (List Item)) {len type : ℕ} {u v : Tables} → Small t
+    → len ≡ name_size s base → type ≡ type_of kind → u ≡ after s t (text base len ∷ []) → v ≡ after s u (word type ∷ word n ∷ [])
+    → walk_of s v r ≡ walk_of s t (and_then r (λ is. ret (text base (name_size s base) ∷ word (type_of kind) ∷ word n ∷ is)) s)
+run_content s t base kind n r {len} {type} h el et eu ev =
+    walk_behind s t (text base (name_size s base) ∷ word (type_of kind) ∷ word n ∷ []) r h (rw (← el, ← et) (after_both s t (text base len ∷ []) (word type ∷ word n ∷ []) h eu ev)) (sym (put-before (text base (name_size s base) ∷ word (type_of kind) ∷ word n ∷ []) r s))

@@ -1,28 +1,24 @@
--- A datum by its parts: the arms of the reads, and what a head's words leave.
+-- A datum by its parts: the arms of the reads.
 -- Assumes nothing.
 use Rattle.std.specs.Prelude.{Err}
 use Prim.Native.Nat.{ℕ, ◌<◌, ◌+◌, ◌*◌, ◌≤◌}
 use mathlib.Core.Path.{◌≡◌, refl, ap, sym, ◌∙◌}
 use mathlib.Core.List.{List, [], ◌∷◌, ◌++◌, map}
 use native.Mathlib.Omega.{arith}
-use lib.ListN.{length, get_or, set}
-use lib.Seq.{sets, length-sets}
+use lib.ListN.{length, get_or}
 use Rattle.base.specs.declared.error.PastEnd.{PastEnd as Past}
 use Rattle.base.specs.Number.{get, read_of}
-use Rattle.base.proofs.Stores.{sets-append}
 use Rattle.bflan.specs.declared.reader.datum.Fields.{Fields}
 use Rattle.bflan.specs.declared.fault.Fault.{Fault}
-use Rattle.bflan.specs.declared.reader.tally.Tally.{Tally}
 use Rattle.bflan.specs.inner.DatumParts.{head, fields_of, key_text, values_and_key_text}
 use Rattle.bflan.specs.Reader.{past_fault, Res, ok, stop, P, and_then, ◌>>=◌, ret, here, Item, word, num, seek_to, one_ended, numbers}
 use Rattle.bflan.specs.pai1.Reading.{texture, datum}
 use Rattle.bflan.specs.pai1.Places.{total}
 use Rattle.bflan.specs.inner.Row.{cut_in}
-use Rattle.bflan.specs.inner.Walk.{as_items, sat, with_words, walk_of}
+use Rattle.bflan.specs.inner.Walk.{as_items}
 use Rattle.bflan.proofs.reader.Emits.{num_past}
-use Rattle.bflan.proofs.reader.KeyRuns.{words-words, texts-words, tallied-words, moved_more}
 use Rattle.bflan.proofs.reader.Rows.{row_then, row_bind, fields_at, row_there, row_cut}
-use Rattle.bflan.proofs.reader.Walks.{before, joined, put-before, sets-sat, run_before}
+use Rattle.bflan.proofs.reader.Walks.{before, joined, put-before}
 
 -- ---- the head: its reads are a row
 
@@ -37,9 +33,9 @@ unfolding head row_then
 head-row s p = refl
 
 module _ (s : List ℕ) (p : ℕ) where
-  pub head-short : {f : Fault} → length s < p + 16 → f ≡ cut_in datum_widths s p → stop f ≡ head s p
+  pub head_short : {f : Fault} → length s < p + 16 → f ≡ cut_in datum_widths s p → stop f ≡ head s p
   unfolding total
-  head-short h e = rw e (sym (head-row s p ∙ row_cut s datum_widths (λ vs. ret (fields_in vs)) p (omega arith) h))
+  head_short h e = rw e (sym (head-row s p ∙ row_cut s datum_widths (λ vs. ret (fields_in vs)) p (omega arith) h))
 
   pub head_there : {a b c d e : ℕ} → p + 16 ≤ length s → a ≡ get 4 s p → b ≡ get 2 s (p + 4) → c ≡ get 2 s (p + 6) → d ≡ get 4 s (p + 8) → e ≡ get 4 s (p + 12)
       → ok (record { size = a; one = b; two = c; base = d; three = e }) (p + 16) ≡ head s p
@@ -124,31 +120,3 @@ module _ (s : List ℕ) (p : ℕ) where
 
   pub datum_no : (f : Fault) → stop f ≡ head s p → datum s p ≡ stop f
   datum_no f e = datum_head_lem ∙ ap (λ (r : Res Fields). and_then r datum_after s) (sym e)
-
--- ---- the head's words
-
--- in three stores, each where the one before it ended
-pub head_stores : (w : List ℕ) (t u v : Tally) (a b c d e : ℕ) {w1 w2 w3 : List ℕ} → length w ≤ 18446744073709551615 → u ≡ with_words t 2 → v ≡ with_words u 2
-    → w1 ≡ sets w t.words (a ∷ b ∷ []) → w2 ≡ sets w1 u.words (c ∷ d ∷ []) → w3 ≡ set w2 v.words e
-    → w3 ≡ sets w t.words (a ∷ b ∷ c ∷ d ∷ e ∷ [])
-unfolding with_words
-head_stores w t u v a b c d e h eu ev e1 e2 e3 =
-    let o = t.words in
-    let w1 = sets w o (a ∷ b ∷ []) in
-    let w2 = sets w1 (sat (o + 2)) (c ∷ d ∷ []) in
-    let h1 : length w1 ≤ 18446744073709551615 = rw (length-sets w o (a ∷ b ∷ [])) h in
-    let h2 : length w2 ≤ 18446744073709551615 = rw (length-sets w1 (sat (o + 2)) (c ∷ d ∷ [])) h1 in
-    let q1 : sets w1 (o + 2) (c ∷ d ∷ e ∷ []) ≡ sets w1 (sat (o + 2)) (c ∷ d ∷ e ∷ []) = sets-sat w1 (o + 2) (sat (o + 2)) (c ∷ d ∷ e ∷ []) h1 (omega arith) in
-    let q2 : sets w2 (sat (o + 2) + 2) (e ∷ []) ≡ sets w2 (sat (sat (o + 2) + 2)) (e ∷ []) = sets-sat w2 (sat (o + 2) + 2) (sat (sat (o + 2) + 2)) (e ∷ []) h2 (omega arith) in
-    rw (e3, e2, e1, ev, eu)
-    (sym q2 ∙ sym (sets-append w1 (sat (o + 2)) (c ∷ d ∷ []) (e ∷ [])) ∙ sym q1 ∙ sym (sets-append w o (a ∷ b ∷ []) (c ∷ d ∷ e ∷ [])))
-
-pub head_tally : (t u v r : Tally) → u ≡ with_words t 2 → v ≡ with_words u 2 → r ≡ with_words v 1 → r ≡ with_words t 5
-head_tally t u v r eu ev er = rw (er, ev, eu, moved_more t 2 2, moved_more t 4 1)
-
--- a head's words, then the rest of a walk
-pub run_head : (s : List ℕ) (t u : Tally) (w w' x : List ℕ) (h : Fields) (r : Res (List Item)) → length w ≤ 18446744073709551615 → length x ≤ 18446744073709551615
-    → t.words ≤ 18446744073709551615 → u ≡ with_words t 5 → w' ≡ sets w t.words (fields_of h) → walk_of s u w' x r ≡ walk_of s t w x (before (map word (fields_of h)) r)
-run_head s t u w w' x h r hw hx ht eu ew =
-    rw (eu, ew)
-    (sym (rw (tallied-words s t (fields_of h) ht, words-words s (fields_of h), texts-words s (fields_of h)) at (run_before s t w x (map word (fields_of h)) r hw hx)))

@@ -8,25 +8,24 @@ use mathlib.Core.List.{List, [], ◌∷◌, append-nil}
 use native.Mathlib.Numerals.{add-one}
 use native.Mathlib.Omega.{arith}
 use lib.ListN.{length, set, take, drop}
-use lib.Seq.{sets, slice, length-slice, length-sets}
+use lib.Seq.{sets, slice, length-slice}
 use Rattle.base.specs.Choice.{pick}
 use Rattle.base.specs.Utf8.{decode, decoded_size, replacements}
 use Rattle.base.proofs.Seeks.{seek_there, seek_over}
-use Rattle.base.proofs.Stores.{sets-append}
 use Rattle.base.proofs.utf8.Laws.{decode_bound, well_from, well_none}
 use Rattle.base.proofs.utf8.Turns.{part_is}
+use Rattle.bflan.specs.declared.reader.tally.Tables.{Tables}
 use Rattle.bflan.specs.declared.reader.tally.Tally.{Tally}
 use Rattle.std.specs.Prelude.{Ok, Err}
 use Rattle.base.specs.Number.{read_of}
 use Rattle.base.specs.Seek.{seek_of}
 use Rattle.base.specs.Text.{ended_of}
 use Rattle.bflan.specs.declared.fault.Fault.TheVariants.{PastEnd}
-use Rattle.bflan.specs.Reader.{past_fault, Res, ok, stop, Item, word, text, num, seek_to, ended_text, one_ended}
+use Rattle.bflan.specs.Reader.{past_fault, ok, stop, word, text, num, seek_to, ended_text, one_ended}
 use Rattle.bflan.specs.pai1.Reading.{texture}
 use Rattle.bflan.proofs.reader.KeyRuns.{moved_more}
-use Rattle.bflan.proofs.reader.Walks.{before, run_before, sets-sat}
 use Rattle.bflan.specs.Items.{shown_at, words_of, texts_of}
-use Rattle.bflan.specs.inner.Walk.{sat, with_words, with_text_of, tallied, walk_of, walked}
+use Rattle.bflan.specs.inner.Walk.{sat, with_words, with_text_of, tallied, after}
 
 -- the decoded length of a part of a section
 pub shown-size : (s : List ℕ) (start len size : ℕ) (part : List ℕ) → start + len ≤ length s → length s ≤ 16777216 → part ≡ slice start (start + len) s → size ≡ decoded_size part
@@ -44,23 +43,6 @@ shown_part s start len = part_is start (start + len) s (omega arith)
 -- two stores, one after the other
 pub two_stores : (w : List ℕ) (at a b : ℕ) (u v : List ℕ) → u ≡ set w at a → v ≡ set u (at + 1) b → v ≡ sets w at (a ∷ b ∷ [])
 two_stores w at a b u v eu ev = rw (ev, eu, add-one)
-
--- two stores of two words each
-pub four_stores : (w : List ℕ) (t u : Tally) (a b c d : ℕ) {w₁ w₂ : List ℕ} → length w ≤ 18446744073709551615 → u ≡ with_words t 2 → w₁ ≡ sets w t.words (a ∷ b ∷ []) → w₂ ≡ sets w₁ u.words (c ∷ d ∷ [])
-    → w₂ ≡ sets w t.words (a ∷ b ∷ c ∷ d ∷ [])
-unfolding with_words
-four_stores w t u a b c d h eu e₁ e₂ =
-    let o = t.words in
-    let v = sets w o (a ∷ b ∷ []) in
-    let k : length v ≤ 18446744073709551615 = rw (length-sets w o (a ∷ b ∷ [])) h in
-    let q : sets v (o + 2) (c ∷ d ∷ []) ≡ sets v (sat (o + 2)) (c ∷ d ∷ []) = sets-sat v (o + 2) (sat (o + 2)) (c ∷ d ∷ []) k (omega arith) in
-    rw (e₂, e₁, eu) (sym q ∙ sym (sets-append w o (a ∷ b ∷ []) (c ∷ d ∷ [])))
-
--- a single text, as `run` has it
-pub run_text : (s : List ℕ) (t : Tally) (w x : List ℕ) (a n q : ℕ) (t' : Tally) (w' x' : List ℕ) → t' ≡ with_text_of s t a n → w' ≡ set w t.words (length (shown_at s a n))
-    → x' ≡ sets x t.bytes (shown_at s a n) → walked (Ok (t', q)) w' x' ≡ walk_of s t w x (ok (text a n ∷ []) q)
-unfolding walked walk_of tallied words_of texts_of
-run_text s t w x a n q t' w' x' et ew ex = rw (et, ew, ex, append-nil)
 
 -- ---- a text that ends at a zero, by core's answer
 
@@ -109,12 +91,6 @@ module _ (s : List ℕ) (base i : ℕ) where
   unfolding texture
   texture_past f e = rw (sought_past s base i f e)
 
--- ---- a name that was looked for
-
-pub stored_name : (s : List ℕ) (t : Tally) (w x : List ℕ) {g : Res (List Item)} {a n q : ℕ} {t' : Tally} {w' x' : List ℕ} → ok (text a n ∷ []) q ≡ g
-    → (t' ≡ with_text_of s t a n) × (w' ≡ set w t.words (length (shown_at s a n))) × (x' ≡ sets x t.bytes (shown_at s a n)) → walked (Ok (t', q)) w' x' ≡ walk_of s t w x g
-stored_name s t w x eg e = run_text s t w x _ _ _ _ _ _ e.0 e.1 e.2 ∙ ap (walk_of s t w x) eg
-
 -- a name that was guessed
 pub texture-plain : (base : ℕ) (s : List ℕ) (i n : ℕ) → base + n < length s → ended_of s base ≡ Ok (n, base + n + 1) → texture base s i ≡ ok (text base n ∷ []) (base + n + 1)
 texture-plain base s i n h e = texture_on s base i base (seek_there s base (omega arith)) ∙ ended_on s base n (base + n + 1) e
@@ -148,21 +124,21 @@ module _ (s : List ℕ) (start len : ℕ) (plain : Bool) (part : List ℕ) (ep :
       go true g e = (e ∙ sym (ap length (g refl)), omega (arith, e, l))
       go false g e = shown-size s start len size (slice start (start + len) s) h k refl e
 
--- ---- two words in front of what follows
+-- ---- what is stored, as items
 
-pub run_put2 : (s : List ℕ) (t : Tally) (w x : List ℕ) (a b : ℕ) (r : Res (List Item)) (u : Tally) (v : List ℕ) → length w ≤ 18446744073709551615 → length x ≤ 18446744073709551615
-    → u ≡ with_words t 2 → v ≡ sets w t.words (a ∷ b ∷ []) → walk_of s u v x r ≡ walk_of s t w x (before (word a ∷ word b ∷ []) r)
-unfolding tallied words_of texts_of
-run_put2 s t w x a b r u v hw hx eu ev =
-    rw (eu, ev) (ap (λ (k : Tally). walk_of s k (sets w t.words (a ∷ b ∷ [])) x r) (sym (moved_more t 1 1)) ∙ sym (run_before s t w x (word a ∷ word b ∷ []) r hw hx))
+module _ (s : List ℕ) (t : Tables) where
+  pub after_one : (a : ℕ) {out : List ℕ} {u : Tally} → out ≡ set t.words.now t.tally.words a → u ≡ with_words t.tally 1
+      → record t { words = record t.words { now = out }; tally = u } ≡ after s t (word a ∷ [])
+  unfolding tallied words_of texts_of
+  after_one a eo eu = rw (eo, eu)
 
--- ---- a text in front of what follows
+  pub after_two : (a b : ℕ) {out : List ℕ} {u : Tally} → out ≡ sets t.words.now t.tally.words (a ∷ b ∷ []) → u ≡ with_words t.tally 2
+      → record t { words = record t.words { now = out }; tally = u } ≡ after s t (word a ∷ word b ∷ [])
+  unfolding tallied words_of texts_of
+  after_two a b eo eu = rw (eo, eu, moved_more t.tally 1 1)
 
-pub run_named : (s : List ℕ) (t : Tally) (w x : List ℕ) (a n : ℕ) (r : Res (List Item)) (u : Tally) (v y : List ℕ) → length w ≤ 18446744073709551615 → length x ≤ 18446744073709551615
-    → u ≡ with_text_of s t a n → v ≡ set w t.words (length (shown_at s a n)) → y ≡ sets x t.bytes (shown_at s a n)
-    → walk_of s u v y r ≡ walk_of s t w x (before (text a n ∷ []) r)
-unfolding tallied words_of texts_of
-run_named s t w x a n r u v y hw hx eu ev ey =
-    rw (eu, ev, ey)
-    (ap (λ (l : List ℕ). walk_of s (with_text_of s t a n) (set w t.words (length (shown_at s a n))) (sets x t.bytes l) r) (sym (append-nil (shown_at s a n)))
-    ∙ sym (run_before s t w x (text a n ∷ []) r hw hx))
+  pub after_text : (a n : ℕ) {out shown : List ℕ} {u : Tally} → out ≡ set t.words.now t.tally.words (length (shown_at s a n)) → shown ≡ sets t.texts.now t.tally.bytes (shown_at s a n)
+      → u ≡ with_text_of s t.tally a n
+      → record t { words = record t.words { now = out }; texts = record t.texts { now = shown }; tally = u } ≡ after s t (text a n ∷ [])
+  unfolding tallied words_of texts_of
+  after_text a n eo ex eu = rw (eo, ex, eu, append-nil)

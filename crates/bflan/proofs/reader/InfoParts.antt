@@ -37,9 +37,9 @@ module _ (base : ℕ) (s : List ℕ) (i : ℕ) where
   unfolding info row_then
   info_seek = refl
 
-  pub info-short : {f : Fault} → length s < base + 8 → f ≡ sought_cut info_widths s base → info base s i ≡ stop f
+  pub info_short : {f : Fault} → length s < base + 8 → f ≡ sought_cut info_widths s base → info base s i ≡ stop f
   unfolding total
-  info-short h e = rw e (info_seek ∙ sought_short s info_widths (info_after base) base i h)
+  info_short h e = rw e (info_seek ∙ sought_short s info_widths (info_after base) base i h)
 
   -- what follows the head, by its letters and its count
   abbrev pub info_rest : ℕ → ℕ → Res (List Item)
@@ -66,12 +66,12 @@ module _ (base : ℕ) (s : List ℕ) (i : ℕ) where
       rw (ne_eqb letters fleu e, r)
 
   -- the same with the head's numbers at hand
-  pub info-extended : (n : ℕ) → base + 8 ≤ length s → get 4 s base ≡ fleu → n ≡ get 1 s (base + 4) → info base s i ≡ before (word fleu ∷ word n ∷ []) (many n datum s (base + 8))
-  info-extended n h e en = info_there h ∙ ap (λ (m : ℕ). info_rest (get 4 s base) m) (sym en) ∙ rest_extended (get 4 s base) n e
+  pub info_extended : (n : ℕ) → base + 8 ≤ length s → get 4 s base ≡ fleu → n ≡ get 1 s (base + 4) → info base s i ≡ before (word fleu ∷ word n ∷ []) (many n datum s (base + 8))
+  info_extended n h e en = info_there h ∙ ap (λ (m : ℕ). info_rest (get 4 s base) m) (sym en) ∙ rest_extended (get 4 s base) n e
 
-  pub info-standard : (letters n q : ℕ) → base + 8 ≤ length s → letters ≡ get 4 s base → (letters ≡ fleu → ⊥) → n ≡ get 1 s (base + 4) → numbers_of n s (base + 8) ≡ Ok q
+  pub info_standard : (letters n q : ℕ) → base + 8 ≤ length s → letters ≡ get 4 s base → (letters ≡ fleu → ⊥) → n ≡ get 1 s (base + 4) → numbers_of n s (base + 8) ≡ Ok q
       → info base s i ≡ before (word (letters_of letters) ∷ word n ∷ []) (visit base (target letters) (numbers_at n s (base + 8)) s q)
-  info-standard letters n q h el e en t =
+  info_standard letters n q h el e en t =
       info_there h ∙ ap (λ (m : ℕ). info_rest (get 4 s base) m) (sym en) ∙ ap (λ (m : ℕ). info_rest m n) (sym el) ∙ rest_standard letters n q e t
 
   pub info_cut : (letters n : ℕ) (past : Past) → base + 8 ≤ length s → letters ≡ get 4 s base → (letters ≡ fleu → ⊥) → n ≡ get 1 s (base + 4) → numbers_of n s (base + 8) ≡ Err past

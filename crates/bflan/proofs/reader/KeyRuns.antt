@@ -3,25 +3,27 @@
 use Rattle.base.specs.declared.error.PastEnd.{PastEnd as Past}
 use Prim.Native.Nat.{ℕ, zero, suc, ◌+◌, ◌-◌, ◌*◌, ◌/◌, ◌<◌, ◌≤◌}
 use mathlib.Core.Path.{◌≡◌, refl, ap, sym, ◌∙◌}
-use mathlib.Core.List.{List, [], ◌∷◌, ◌++◌, map}
+use mathlib.Core.List.{List, [], ◌∷◌, map}
 use mathlib.Core.Bool.{Bool, true, false}
 use native.Mathlib.Omega.{arith}
 use borrow.Author.Tests.{leb-true, leb-false, le-leb, lt-leb}
 use lib.Dec.{leb}
 use lib.ListN.{length}
+use lib.Seq.{sets}
 use Rattle.base.specs.Number.{get, past_end}
 use Rattle.base.specs.Run.{numbers_at, numbers_of, pairs_at, pairs_of, cut_pair, stored_run}
 use Rattle.base.proofs.Numbers.{read_there, read_short}
-use Rattle.base.proofs.Runs.{length-numbers, length_pairs, numbers-whole, numbers_cut, pairs_whole, pairs_cut}
+use Rattle.base.proofs.Runs.{numbers-whole, numbers_cut, pairs_whole, pairs_cut}
 use Rattle.bflan.specs.declared.fault.Fault.{Fault}
 use Rattle.bflan.specs.declared.fault.Fault.TheVariants.{PastEnd}
+use Rattle.bflan.specs.declared.reader.tally.Tables.{Tables}
 use Rattle.bflan.specs.declared.reader.tally.Tally.{Tally}
-use Rattle.std.specs.Prelude.{Result, Ok, Err}
+use Rattle.std.specs.Prelude.{Result, Ok, Err, IsErrAnd}
 use Rattle.bflan.specs.Reader.{past_fault, Res, ok, stop, P, and_then, ret, Item, word, num, skip, numbers, many}
 use Rattle.bflan.specs.pai1.Reading.{key_of, curve_of, count_of, keys}
-use Rattle.bflan.specs.inner.Walk.{Walk, as_items, sat, with_words, tallied, after_run, walk_of, walked}
+use Rattle.bflan.specs.inner.Walk.{Walk, as_items, sat, with_words, tallied, after, walk_of, walked}
 use Rattle.bflan.specs.Items.{words_of, texts_of}
-use Rattle.bflan.proofs.reader.Walks.{before, joined, before_nil, put-before, many_suc, told_ok}
+use Rattle.bflan.proofs.reader.Walks.{before, joined, before_nil, put-before, many_suc, told_items, told_handed}
 
 -- a run's answer, with its words
 abbrev pub as_numbers : Result ℕ Past → List ℕ → Res (List ℕ)
@@ -275,10 +277,6 @@ pub keys_hermite : (n : ℕ) (s : List ℕ) (p : ℕ) → keys 2 n s p ≡ as_it
 unfolding keys count_of curve_of
 keys_hermite n s p = many_hermites 0 n s p
 
-pub keys_above : (curve n : ℕ) (s : List ℕ) (p : ℕ) → 2 < curve → keys curve n s p ≡ ok [] p
-unfolding keys count_of curve_of many
-keys_above curve n s p h = rw (lt-leb curve 2 h)
-
 -- ---- what words leave
 
 pub words-words : (s vs : List ℕ) → words_of s (map word vs) ≡ vs
@@ -290,16 +288,6 @@ pub texts-words : (s vs : List ℕ) → texts_of s (map word vs) ≡ []
 unfolding texts_of
 texts-words s [] = refl
 texts-words s (v ∷ vs) = texts-words s vs
-
-pub words_more : (s vs : List ℕ) (is : List Item) → words_of s (map word vs ++ is) ≡ vs ++ words_of s is
-unfolding words_of
-words_more s [] is = refl
-words_more s (v ∷ vs) is = ap (λ (l : List ℕ). v ∷ l) (words_more s vs is)
-
-pub texts-more : (s vs : List ℕ) (is : List Item) → texts_of s (map word vs ++ is) ≡ texts_of s is
-unfolding texts_of
-texts-more s [] is = refl
-texts-more s (v ∷ vs) is = texts-more s vs is
 
 -- saturating counts add up; the first one of a walk fits
 pub sat-sat : (a b c : ℕ) → sat (sat (a + b) + c) ≡ sat (a + (b + c))
@@ -317,14 +305,6 @@ pub moved_fits : (t : Tally) (n : ℕ) → (with_words t n).words ≤ 1844674407
 unfolding with_words
 moved_fits t n = omega arith
 
-pub tallied-more : (s : List ℕ) (t : Tally) (vs : List ℕ) (is : List Item) → t.words ≤ 18446744073709551615
-    → tallied s t (map word vs ++ is) ≡ tallied s (with_words t (length vs)) is
-unfolding tallied
-tallied-more s t [] is h = rw (moved_none t h)
-tallied-more s t (v ∷ vs) is h =
-    let e : 1 + length vs ≡ suc (length vs) = omega arith in
-    tallied-more s (with_words t 1) vs is (moved_fits t 1) ∙ ap (λ (u : Tally). tallied s u is) (moved_more t 1 (length vs) ∙ ap (with_words t) e)
-
 pub tallied-words : (s : List ℕ) (t : Tally) (vs : List ℕ) → t.words ≤ 18446744073709551615 → tallied s t (map word vs) ≡ with_words t (length vs)
 unfolding tallied
 tallied-words s t [] h = sym (moved_none t h)
@@ -332,41 +312,24 @@ tallied-words s t (v ∷ vs) h =
     let e : 1 + length vs ≡ suc (length vs) = omega arith in
     tallied-words s (with_words t 1) vs (moved_fits t 1) ∙ moved_more t 1 (length vs) ∙ ap (with_words t) e
 
--- ---- a run in code: its answer and the words after it, as a walk tells them
+pub numbers_items : (n : ℕ) (s : List ℕ) (p : ℕ) → as_items (numbers n s p) ≡ as_items (as_numbers (numbers_of n s p) (numbers_at n s p))
+numbers_items n s p = ap as_items (numbers_run n s p)
 
-pub told_run : (s : List ℕ) (t : Tally) (w x : List ℕ) (r : Result ℕ Past) (vs : List ℕ) → t.words ≤ 18446744073709551615
-    → walked (after_run r t (length vs)) (stored_run r w t.words vs) x ≡ walk_of s t w x (as_items (as_numbers r vs))
-unfolding walked walk_of stored_run after_run
-told_run s t w x (Ok q) vs h = rw (words-words s vs, texts-words s vs, tallied-words s t vs h)
-told_run s t w x (Err e) vs h = refl
+-- ---- words, as a walk stores them
 
--- the same, as code has it: each equation is what a call tells
-pub told_values : (s : List ℕ) (t : Tally) (w x : List ℕ) (n p : ℕ) {r : Result ℕ Past} {a : Walk} {out : List ℕ} → t.words ≤ 18446744073709551615
-    → r ≡ numbers_of n s p → out ≡ stored_run r w t.words (numbers_at n s p) → a ≡ after_run r t n
-    → walked a out x ≡ walk_of s t w x (as_items (numbers n s p))
-told_values s t w x n p h e o d = rw (d, o, e, numbers_run n s p) (rw length-numbers at (told_run s t w x (numbers_of n s p) (numbers_at n s p) h))
+pub after_words : (s : List ℕ) (t : Tables) (vs : List ℕ) → t.tally.words ≤ 18446744073709551615
+    → record t { words = record t.words { now = sets t.words.now t.tally.words vs }; tally = with_words t.tally (length vs) } ≡ after s t (map word vs)
+after_words s t vs h = rw (words-words s vs, texts-words s vs, tallied-words s t.tally vs h)
 
-pub told_pairs : (s : List ℕ) (t : Tally) (w x : List ℕ) (n p : ℕ) {r : Result ℕ Past} {a : Walk} {out : List ℕ} → t.words ≤ 18446744073709551615
-    → r ≡ pairs_of n s p → out ≡ stored_run r w t.words (pairs_at n s p) → a ≡ after_run r t (2 * n)
-    → walked a out x ≡ walk_of s t w x (keys 1 n s p)
-told_pairs s t w x n p h e o d = rw (d, o, e, keys_step n s p) (rw length_pairs at (told_run s t w x (pairs_of n s p) (pairs_at n s p) h))
+-- ---- a run in code: its answer and the tables after it, as a walk tells them
 
--- the arms over a run's answer
-pub after_next : (t : Tally) (n q : ℕ) {u : Tally} → u ≡ with_words t n → Ok (u, q) ≡ after_run (Ok q) t n
-unfolding after_run
-after_next t n q d = rw d
+module _ (s : List ℕ) (t : Tables) (vs : List ℕ) where
+  pub run_on : {q n : ℕ} {r : Result ℕ Past} {whole : Res (List Item)} {out : List ℕ} {u : Tally} → t.tally.words ≤ 18446744073709551615
+      → Ok q ≡ r → whole ≡ as_items (as_numbers r vs) → out ≡ stored_run (Ok q) t.words.now t.tally.words vs → u ≡ with_words t.tally n → length vs ≡ n
+      → walked (Ok q) (record t { words = record t.words { now = out }; tally = u }) ≡ walk_of s t whole
+  unfolding stored_run
+  run_on {q} h er ew eo eu l = rw (eu, eo, ew, ← er, ← l) (told_items s t (map word vs) q (after_words s t vs h))
 
-pub after_cut : (t : Tally) (n : ℕ) (e : Past) {a : Walk} → a ≡ Err (past_fault e) → a ≡ after_run (Err e) t n
-unfolding after_run
-after_cut t n e d = d
-
--- the arms over a curve
-module _ (s : List ℕ) (t : Tally) (w x : List ℕ) {curve : ℕ} (n p : ℕ) where
-  pub run_constant : curve ≡ 0 → walk_of s t w x (as_items (numbers n s p)) ≡ walk_of s t w x (keys curve n s p)
-  run_constant e = rw (e, keys_constant n s p)
-
-  pub run_hermite : curve ≡ 2 → walk_of s t w x (as_items (numbers (3 * n) s p)) ≡ walk_of s t w x (keys curve n s p)
-  run_hermite e = rw (e, keys_hermite n s p)
-
-  pub run_above : 2 < curve → walked (Ok (t, p)) w x ≡ walk_of s t w x (keys curve n s p)
-  run_above h = rw (keys_above curve n s p h) (told_ok s t w x p)
+  pub run_no : {e : Past} {r : Result ℕ Past} {whole : Res (List Item)} (a : Walk) (u : Tables) → Err e ≡ r → whole ≡ as_items (as_numbers r vs)
+      → IsErrAnd a (λ f. f ≡ past_fault e) → walked a u ≡ walk_of s t whole
+  run_no a u er ew d = told_handed s t a u d (rw (ew, ← er))

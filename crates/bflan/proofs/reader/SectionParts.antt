@@ -7,7 +7,6 @@ use native.Mathlib.Omega.{arith}
 use borrow.Author.Tests.{eq-eqb, ne_eqb}
 use lib.Dec.{eqb}
 use lib.ListN.{length, get_or}
-use lib.Seq.{sets}
 use Rattle.base.specs.declared.error.PastEnd.{PastEnd as Past}
 use Rattle.base.specs.Number.{get, read_of}
 use Rattle.base.specs.Run.{numbers_at, numbers_of}
@@ -17,19 +16,18 @@ use Rattle.bflan.specs.declared.fault.Fault.{Fault}
 use Rattle.bflan.specs.declared.fault.Fault.TheVariants.{OtherLetters}
 use Rattle.bflan.specs.declared.reader.section.SectionHead.{SectionHead}
 use Rattle.bflan.specs.declared.reader.section.SectionHeader.{SectionHeader}
-use Rattle.bflan.specs.declared.reader.tally.Tally.{Tally}
+use Rattle.bflan.specs.declared.reader.tally.Tables.{Tables}
 use Rattle.std.specs.Prelude.{Ok, Err}
 use Rattle.bflan.specs.Reader.{past_fault, Res, ok, stop, and_then, ret, given, fail, Item, word, seek_to, numbers, visit}
 use Rattle.bflan.specs.pai1.Reading.{content, texture, contents, own_letters, flag_of, body, section}
 use Rattle.bflan.specs.inner.SectionParts.{header, head, head_words, after_head, contents_and_size, textures_and_contents}
-use Rattle.bflan.specs.inner.Walk.{Walk, with_words, walk_of, walked}
+use Rattle.bflan.specs.inner.Walk.{Walk, walk_of, walked}
 use Rattle.bflan.specs.pai1.Places.{total}
 use Rattle.bflan.specs.inner.Row.{cut_in}
-use Rattle.bflan.proofs.reader.Emits.{sought_on, sought_past, num_on, four_stores}
+use Rattle.bflan.proofs.reader.Emits.{sought_on, sought_past, num_on}
 use Rattle.bflan.proofs.reader.KeyRuns.{num_there, numbers_run}
 use Rattle.bflan.proofs.reader.Rows.{row_then, row_bind, fields_at, row_there, row_cut, row_fits}
-use Rattle.bflan.proofs.reader.TargetParts.{run_words}
-use Rattle.bflan.proofs.reader.Walks.{before, joined, put-before, turn_on, turn_no, told_stop, told_ok}
+use Rattle.bflan.proofs.reader.Walks.{before, joined, put-before, Small, turn_on, told_stop, told_ok}
 
 -- ---- the last seek, as a reading of nothing
 
@@ -121,18 +119,18 @@ module _ (s : List ℕ) where
   unfolding head row_then
   head-row = refl
 
-  pub head-short : {f : Fault} → length s < 20 → f ≡ cut_in head_widths s 8 → stop f ≡ head s 8
+  pub head_short : {f : Fault} → length s < 20 → f ≡ cut_in head_widths s 8 → stop f ≡ head s 8
   unfolding total
-  head-short h e = rw e (sym (head-row ∙ row_cut s head_widths (λ vs. ret (head_of vs)) 8 (omega arith) h))
+  head_short h e = rw e (sym (head-row ∙ row_cut s head_widths (λ vs. ret (head_of vs)) 8 (omega arith) h))
 
   pub head_there : {a b c d e : ℕ} → 20 ≤ length s → a ≡ get 2 s 8 → b ≡ get 1 s 10 → c ≡ get 2 s 12 → d ≡ get 2 s 14 → e ≡ get 4 s 16
       → ok (record { frames = a; looping = b; textures = c; contents = d; table = e }) 20 ≡ head s 8
   unfolding total fields_at
   head_there h ea eb ec ed ee = rw (ea, eb, ec, ed, ee) (sym (head-row ∙ row_there s head_widths (λ vs. ret (head_of vs)) 8 0 h))
 
-  pub head-fits : (h : SectionHead) → ok h 20 ≡ head s 8 → 20 ≤ length s
+  pub head_fits : (h : SectionHead) → ok h 20 ≡ head s 8 → 20 ≤ length s
   unfolding total
-  head-fits h e = row_fits s head_widths (λ vs. ret (head_of vs)) 8 (omega arith) (sym head-row ∙ sym e)
+  head_fits h e = row_fits s head_widths (λ vs. ret (head_of vs)) 8 (omega arith) (sym head-row ∙ sym e)
 
   module _ (size : ℕ) where
     body-row : body size s 8 ≡ row_then head_widths (λ vs. after_head size (head_of vs)) s 8
@@ -142,8 +140,8 @@ module _ (s : List ℕ) where
     body-head : body size s 8 ≡ and_then (head s 8) (after_head size) s
     body-head = body-row ∙ sym (row_bind head_widths (λ vs. ret (head_of vs)) (after_head size) s 8) ∙ ap (λ (r : Res SectionHead). and_then r (after_head size) s) (sym head-row)
 
-    pub body-stop : (f : Fault) → stop f ≡ head s 8 → body size s 8 ≡ stop f
-    body-stop f e = body-head ∙ ap (λ (r : Res SectionHead). and_then r (after_head size) s) (sym e)
+    pub body_stop : (f : Fault) → stop f ≡ head s 8 → body size s 8 ≡ stop f
+    body_stop f e = body-head ∙ ap (λ (r : Res SectionHead). and_then r (after_head size) s) (sym e)
 
     pub body_on : (h : SectionHead) → ok h 20 ≡ head s 8 → body size s 8 ≡ after_head size h s 20
     body_on h e = body-head ∙ ap (λ (r : Res SectionHead). and_then r (after_head size) s) (sym e)
@@ -164,9 +162,9 @@ module _ (s : List ℕ) where
           let r : numbers h.textures s 20 ≡ ok os q = numbers_run h.textures s 20 ∙ rw t in
           rw r (chain (map word (head_words h)) s size h.table h.contents (visit 20 texture os s q))
 
-      pub behind-parts : (q : ℕ) → numbers_of h.textures s 20 ≡ Ok q
+      pub behind_parts : (q : ℕ) → numbers_of h.textures s 20 ≡ Ok q
           → after_head size h s 20 ≡ before (map word (head_words h)) (textures_and_contents size (numbers_at h.textures s 20) h.table h.contents s q)
-      behind-parts q t =
+      behind_parts q t =
           let os = numbers_at h.textures s 20 in
           behind_chain q t
           ∙ ap (before (map word (head_words h))) (chained s size h.table h.contents (visit 20 texture os s q) ∙ sym (parts_is s size h.table h.contents os q))
@@ -191,9 +189,9 @@ module _ (s : List ℕ) where
   header_row = refl
 
   module _ {v p : ℕ} (e : read_of 4 s 0 ≡ Ok (v, p)) where
-    pub header-whole : {n q : ℕ} → read_of 4 s p ≡ Ok (n, q) → ok (record { magic = v; size = n }) 8 ≡ header s 0
+    pub header_whole : {n q : ℕ} → read_of 4 s p ≡ Ok (n, q) → ok (record { magic = v; size = n }) 8 ≡ header s 0
     unfolding header
-    header-whole {n} {q} d =
+    header_whole {n} {q} d =
         let z : q ≡ 8 = omega (arith, (read_value_lem 4 s 0 v p e).next, (read_value_lem 4 s p n q d).next) in
         rw (num_on 4 s 0 v p e, num_on 4 s p n q d, z)
 
@@ -208,50 +206,27 @@ module _ (s : List ℕ) where
   section-header : section s 0 ≡ and_then (header s 0) behind_header s
   section-header = section-row ∙ sym (row_bind (4 ∷ 4 ∷ []) (λ vs. ret (header_of vs)) behind_header s 0) ∙ ap (λ (r : Res SectionHeader). and_then r behind_header s) (sym header_row)
 
-  pub section-short : (f : Fault) → stop f ≡ header s 0 → section s 0 ≡ stop f
-  section-short f e = section-header ∙ ap (λ (r : Res SectionHeader). and_then r behind_header s) (sym e)
+  pub section_short : (f : Fault) → stop f ≡ header s 0 → section s 0 ≡ stop f
+  section_short f e = section-header ∙ ap (λ (r : Res SectionHeader). and_then r behind_header s) (sym e)
 
   module _ (h : SectionHeader) (e : ok h 8 ≡ header s 0) where
     pub section_other : (h.magic ≡ own_letters → ⊥) → section s 0 ≡ stop (OtherLetters h.magic)
     unfolding behind_header
     section_other n = section-header ∙ ap (λ (r : Res SectionHeader). and_then r behind_header s) (sym e) ∙ rw (ne_eqb h.magic own_letters n)
 
-    pub section-pai1 : h.magic ≡ own_letters → section s 0 ≡ body h.size s 8
+    pub section_pai1 : h.magic ≡ own_letters → section s 0 ≡ body h.size s 8
     unfolding behind_header
-    section-pai1 n = section-header ∙ ap (λ (r : Res SectionHeader). and_then r behind_header s) (sym e) ∙ rw (eq-eqb h.magic own_letters n)
+    section_pai1 n = section-header ∙ ap (λ (r : Res SectionHeader). and_then r behind_header s) (sym e) ∙ rw (eq-eqb h.magic own_letters n)
 
 -- ---- walks
 
--- the four words of the head, stored two by two
-pub head_stores : (w : List ℕ) (t u : Tally) (h : SectionHead) {b : ℕ} {w₁ w₂ : List ℕ} → length w ≤ 18446744073709551615 → u ≡ with_words t 2 → b ≡ flag_of h.looping
-    → w₁ ≡ sets w t.words (h.frames ∷ b ∷ []) → w₂ ≡ sets w₁ u.words (h.textures ∷ h.contents ∷ []) → w₂ ≡ sets w t.words (head_words h)
-head_stores w t u h {b} hw eu eb e₁ e₂ =
-    four_stores w t u h.frames b h.textures h.contents hw eu e₁ e₂
-    ∙ ap (λ (n : ℕ). sets w t.words (h.frames ∷ n ∷ h.textures ∷ h.contents ∷ [])) eb
+module _ (s : List ℕ) (t : Tables) (size table n i : ℕ) (h : Small t) (r : Walk) (u : Tables) where
+  module _ (e : walked r u ≡ walk_of s t (contents table n s i)) where
+    sought : (q : ℕ) → r ≡ Ok q → walk_of s u (end_at (seek_to size s q)) ≡ walk_of s t (contents_and_size size table n s i)
+    sought q d = rw (ending_is s size table n i) (turn_on s t (contents table n s i) u (λ k. end_at (seek_to size s k)) h e d)
 
--- and what follows them
-pub run_section : (s : List ℕ) (t u : Tally) (w v x : List ℕ) (h : SectionHead) (r : Res (List Item)) → length w ≤ 18446744073709551615 → t.words ≤ 18446744073709551615 → u ≡ with_words t 4
-    → v ≡ sets w t.words (head_words h) → walk_of s u v x r ≡ walk_of s t w x (before (map word (head_words h)) r)
-run_section s t u w v x h r hw ht eu ev = rw (eu, ev) (sym (run_words s t w x (head_words h) r hw ht))
+    pub ending_past : (q : ℕ) (past : Past) (v : Tables) → r ≡ Ok q → seek_of s size ≡ Err past → walked (Err (past_fault past)) v ≡ walk_of s t (contents_and_size size table n s i)
+    ending_past q past v d z = told_stop s u v (past_fault past) ∙ ap (λ (a : Res ℕ). walk_of s u (end_at a)) (sym (sought_past s size q past z)) ∙ sought q d
 
-module _ (s : List ℕ) (t : Tally) (w x : List ℕ) (size table n i : ℕ) (hw : length w ≤ 18446744073709551615) (hx : length x ≤ 18446744073709551615) (r : Walk) (w' x' : List ℕ) where
-  module _ (e : walked r w' x' ≡ walk_of s t w x (contents table n s i)) where
-    pub ending_no : (f : Fault) (u v : List ℕ) → r ≡ Err f → walked (Err f) u v ≡ walk_of s t w x (contents_and_size size table n s i)
-    ending_no f u v d = rw (ending_is s size table n i) (turn_no s t w x (contents table n s i) hw hx r f w' x' u v (λ k. end_at (seek_to size s k)) e d)
-
-    sought : (u : Tally) (q : ℕ) → r ≡ Ok (u, q) → walk_of s u w' x' (end_at (seek_to size s q)) ≡ walk_of s t w x (contents_and_size size table n s i)
-    sought u q d = rw (ending_is s size table n i) (turn_on s t w x (contents table n s i) hw hx r u q w' x' (λ k. end_at (seek_to size s k)) e d)
-
-    pub ending_past : (u : Tally) (q : ℕ) (past : Past) (v y : List ℕ) → r ≡ Ok (u, q) → seek_of s size ≡ Err past → walked (Err (past_fault past)) v y ≡ walk_of s t w x (contents_and_size size table n s i)
-    ending_past u q past v y d z =
-        told_stop s u w' x' v y (past_fault past) ∙ ap (λ (a : Res ℕ). walk_of s u w' x' (end_at a)) (sym (sought_past s size q past z)) ∙ sought u q d
-
-    pub ending_on : (u : Tally) (q p : ℕ) → r ≡ Ok (u, q) → seek_of s size ≡ Ok p → walked (Ok (u, p)) w' x' ≡ walk_of s t w x (contents_and_size size table n s i)
-    ending_on u q p d z = told_ok s u w' x' p ∙ ap (λ (a : Res ℕ). walk_of s u w' x' (end_at a)) (sym (sought_on s size q p z)) ∙ sought u q d
-
-  module _ (os : List ℕ) (e : walked r w' x' ≡ walk_of s t w x (visit 20 texture os s i)) where
-    pub parts_no : (f : Fault) (u v : List ℕ) → r ≡ Err f → walked (Err f) u v ≡ walk_of s t w x (textures_and_contents size os table n s i)
-    parts_no f u v d = rw (parts_is s size table n os i) (turn_no s t w x (visit 20 texture os s i) hw hx r f w' x' u v (λ j. contents_and_size size table n s j) e d)
-
-    pub parts_on : (u : Tally) (q : ℕ) → r ≡ Ok (u, q) → walk_of s u w' x' (contents_and_size size table n s q) ≡ walk_of s t w x (textures_and_contents size os table n s i)
-    parts_on u q d = rw (parts_is s size table n os i) (turn_on s t w x (visit 20 texture os s i) hw hx r u q w' x' (λ j. contents_and_size size table n s j) e d)
+    pub ending_on : (q p : ℕ) → r ≡ Ok q → seek_of s size ≡ Ok p → walked (Ok p) u ≡ walk_of s t (contents_and_size size table n s i)
+    ending_on q p d z = told_ok s u p ∙ ap (λ (a : Res ℕ). walk_of s u (end_at a)) (sym (sought_on s size q p z)) ∙ sought q d

@@ -14,11 +14,12 @@ use Rattle.base.specs.Number.{get}
 use Rattle.base.specs.Run.{numbers_at}
 use Rattle.base.proofs.Stores.{sets-append, sets_at_end}
 use Rattle.bflan.specs.declared.fault.Fault.{Fault}
+use Rattle.bflan.specs.declared.reader.tally.Tables.{Tables}
 use Rattle.bflan.specs.declared.reader.tally.Tally.{Tally}
-use Rattle.std.specs.Prelude.{Result, Ok, Err, IsErrAnd}
+use Rattle.std.specs.Prelude.{Result, Ok, Err, Option, Some, IsErrAnd}
 use Rattle.bflan.specs.Reader.{Res, ok, stop, P, and_then, Item, word, text, many, visit}
 use Rattle.bflan.specs.Items.{shown_at, words_of, texts_of}
-use Rattle.bflan.specs.inner.Walk.{Walk, sat, with_words, with_text, with_text_of, tallied, walk_of, walked}
+use Rattle.bflan.specs.inner.Walk.{Walk, sat, with_words, with_text, with_text_of, tallied, after, walk_of, walked}
 
 -- ---- readings one after another
 
@@ -149,21 +150,54 @@ sets-sat l o p v h e = go (leb o 18446744073709551615) refl (leb p 1844674407370
 
 -- ---- walks one after another
 
-pub run_before : (s : List ℕ) (t : Tally) (w x : List ℕ) (is : List Item) (r : Res (List Item)) → length w ≤ 18446744073709551615 → length x ≤ 18446744073709551615
-    → walk_of s t w x (before is r) ≡ walk_of s (tallied s t is) (sets w t.words (words_of s is)) (sets x t.bytes (texts_of s is)) r
+-- the tables have lengths that a usize holds
+abbrev pub Small : Tables → Type 0
+Small t = (length t.words.now ≤ 18446744073709551615) × (length t.texts.now ≤ 18446744073709551615)
+
+pub after-small : (s : List ℕ) (t : Tables) (is : List Item) → Small t → Small (after s t is)
+after-small s t is (h, k) = (rw (length-sets t.words.now t.tally.words (words_of s is)) h, rw (length-sets t.texts.now t.tally.bytes (texts_of s is)) k)
+
+pub after-after : (s : List ℕ) (t : Tables) (is js : List Item) → Small t → after s (after s t is) js ≡ after s t (is ++ js)
+after-after s t is js h =
+    let u = tallied s t.tally is in
+    let w = sets t.words.now t.tally.words (words_of s is) in
+    let x = sets t.texts.now t.tally.bytes (texts_of s is) in
+    let k = after-small s t is h in
+    let ew : sets t.words.now t.tally.words (words_of s (is ++ js)) ≡ sets w u.words (words_of s js) =
+    rw (words_append s is js, sets-append t.words.now t.tally.words (words_of s is) (words_of s js)) (sets-sat w (t.tally.words + length (words_of s is)) u.words (words_of s js) k.0 (sym (tallied-words s t.tally is))) in
+    let ex : sets t.texts.now t.tally.bytes (texts_of s (is ++ js)) ≡ sets x u.bytes (texts_of s js) =
+    rw (texts-append s is js, sets-append t.texts.now t.tally.bytes (texts_of s is) (texts_of s js)) (sets-sat x (t.tally.bytes + length (texts_of s is)) u.bytes (texts_of s js) k.1 (sym (tallied-bytes s t.tally is))) in
+    rw (tallied-append s t.tally is js, ew, ex)
+
+-- the same of what two functions stored
+pub after_both : (s : List ℕ) (t : Tables) {u v : Tables} (is js : List Item) → Small t → u ≡ after s t is → v ≡ after s u js → v ≡ after s t (is ++ js)
+after_both s t is js h e d = rw (d, e) (after-after s t is js h)
+
+pub walk_before : (s : List ℕ) (t : Tables) (is : List Item) (r : Res (List Item)) → Small t → walk_of s (after s t is) r ≡ walk_of s t (before is r)
 unfolding walk_of
-run_before s t w x is (stop f) h k = refl
-run_before s t w x is (ok js q) h k =
-    let u = tallied s t is in
-    let w' = sets w t.words (words_of s is) in
-    let x' = sets x t.bytes (texts_of s is) in
-    let hw : length w' ≤ 18446744073709551615 = rw (length-sets w t.words (words_of s is)) h in
-    let hx : length x' ≤ 18446744073709551615 = rw (length-sets x t.bytes (texts_of s is)) k in
-    let ew : sets w t.words (words_of s (is ++ js)) ≡ sets w' u.words (words_of s js) =
-    rw (words_append s is js, sets-append w t.words (words_of s is) (words_of s js)) (sets-sat w' (t.words + length (words_of s is)) u.words (words_of s js) hw (sym (tallied-words s t is))) in
-    let ex : sets x t.bytes (texts_of s (is ++ js)) ≡ sets x' u.bytes (texts_of s js) =
-    rw (texts-append s is js, sets-append x t.bytes (texts_of s is) (texts_of s js)) (sets-sat x' (t.bytes + length (texts_of s is)) u.bytes (texts_of s js) hx (sym (tallied-bytes s t is))) in
-    rw (tallied-append s t is js, ew, ex)
+walk_before s t is (stop f) h = refl
+walk_before s t is (ok js q) h = ap (λ (u : Tables). (Ok q, Some u)) (after-after s t is js h)
+
+-- the same of tables that some function filled so
+pub walk_stored : (s : List ℕ) (t u : Tables) (is : List Item) (r : Res (List Item)) → length t.words.now ≤ 18446744073709551615 → length t.texts.now ≤ 18446744073709551615 → u ≡ after s t is
+    → walk_of s u r ≡ walk_of s t (before is r)
+walk_stored s t u is r h k e = rw e (walk_before s t is r (h, k))
+
+-- and of a reading that is such a one
+pub walk_behind : (s : List ℕ) (t : Tables) {u : Tables} (is : List Item) (r : Res (List Item)) {g : Res (List Item)} → Small t → u ≡ after s t is → before is r ≡ g → walk_of s u r ≡ walk_of s t g
+walk_behind s t {u} is r h e d = walk_stored s t u is r h.0 h.1 e ∙ ap (walk_of s t) d
+
+pub on_no : (q : ℕ) (f : Fault) → ◌≡◌ {A = Walk} (Ok q) (Err f) → ⊥
+on_no q f e = let z : ◌≡◌ {A = ℕ} 0 1 = cc in omega arith
+
+pub on_place : (p q : ℕ) → ◌≡◌ {A = Walk} (Ok p) (Ok q) → p ≡ q
+on_place p q e = cc
+
+pub on_tables : (t u : Tables) → ◌≡◌ {A = Option Tables} (Some t) (Some u) → t ≡ u
+on_tables t u e = cc
+
+pub no_fault : (f g : Fault) → ◌≡◌ {A = Walk} (Err f) (Err g) → f ≡ g
+no_fault f g e = cc
 
 -- what a `?` hands on
 pub handed_on : {T E : Type 0} {r : Result T E} {f : E} → IsErrAnd r (λ e. e ≡ f) → r ≡ Err f
@@ -172,98 +206,80 @@ handed_on {r = Err e} h = ap Err h
 
 -- the answer of a callee, in the two forms that its caller's arms have
 
-abbrev pub Three : Type 0
-Three = Walk × List ℕ × List ℕ
+pub first : {a b : Walk × Option Tables} → a ≡ b → a.0 ≡ b.0
+first e = ap (λ (z : Walk × Option Tables). z.0) e
 
-first : (a b : Three) → a ≡ b → a.0 ≡ b.0
-first a b e = ap (λ (z : Three). z.0) e
+pub second : {a b : Walk × Option Tables} → a ≡ b → a.1 ≡ b.1
+second e = ap (λ (z : Walk × Option Tables). z.1) e
 
-second : (a b : Three) → a ≡ b → a.1 ≡ b.1
-second a b e = ap (λ (z : Three). z.1) e
-
-third : (a b : Three) → a ≡ b → a.2 ≡ b.2
-third a b e = ap (λ (z : Three). z.2) e
-
-went_on : Tally × ℕ → Walk → Tally × ℕ
-went_on z (Ok on) = on
-went_on z (Err f) = z
-
-pub on_no : (t : Tally) (q : ℕ) (f : Fault) → ◌≡◌ {A = Walk} (Ok (t, q)) (Err f) → ⊥
-on_no t q f e = let z : ◌≡◌ {A = ℕ} 0 1 = cc in omega arith
-
-pub on_tally : (t u : Tally) (p q : ℕ) → ◌≡◌ {A = Walk} (Ok (t, p)) (Ok (u, q)) → t ≡ u
-unfolding went_on
-on_tally t u p q e = ap (λ (r : Walk). (went_on (t, p) r).0) e
-
-pub on_place : (t u : Tally) (p q : ℕ) → ◌≡◌ {A = Walk} (Ok (t, p)) (Ok (u, q)) → p ≡ q
-unfolding went_on
-on_place t u p q e = ap (λ (r : Walk). (went_on (t, p) r).1) e
-
-pub no_fault : (f g : Fault) → ◌≡◌ {A = Walk} (Err f) (Err g) → f ≡ g
-no_fault f g e = cc
-
-module _ (s : List ℕ) (t : Tally) (w x : List ℕ) (res : Res (List Item)) (h : length w ≤ 18446744073709551615) (k : length x ≤ 18446744073709551615) where
-  on_case : (r : Res (List Item)) (t' : Tally) (q : ℕ) (w' x' : List ℕ) (g : ℕ → Res (List Item)) → walked (Ok (t', q)) w' x' ≡ walk_of s t w x r → walk_of s t' w' x' (g q) ≡ walk_of s t w x (joined r g)
+module _ (s : List ℕ) (t : Tables) where
+  on_case : (r : Res (List Item)) (u : Tables) (q : ℕ) (g : ℕ → Res (List Item)) → Small t → walked (Ok q) u ≡ walk_of s t r → walk_of s u (g q) ≡ walk_of s t (joined r g)
   unfolding walked
-  on_case (ok is p) t' q w' x' g e = same (unfold walk_of in first _ _ e) (unfold walk_of in second _ _ e) (unfold walk_of in third _ _ e)
+  on_case (ok is p) u q g h e = same (unfold walk_of in first e) (unfold walk_of in second e)
     where
-      same : ◌≡◌ {A = Walk} (Ok (t', q)) (Ok (tallied s t is, p)) → w' ≡ sets w t.words (words_of s is) → x' ≡ sets x t.bytes (texts_of s is) → walk_of s t' w' x' (g q) ≡ walk_of s t w x (before is (g p))
-      same eo ew ex = rw (on_tally _ _ _ _ eo, on_place _ _ _ _ eo, ew, ex) (sym (run_before s t w x is (g p) h k))
-  on_case (stop f) t' q w' x' g e = absurd (on_no t' q f (unfold walk_of in first _ _ e))
+      same : ◌≡◌ {A = Walk} (Ok q) (Ok p) → ◌≡◌ {A = Option Tables} (Some u) (Some (after s t is)) → walk_of s u (g q) ≡ walk_of s t (before is (g p))
+      same a b = rw (on_place _ _ a, on_tables _ _ b) (walk_before s t is (g p) h)
+  on_case (stop f) u q g h e = absurd (on_no q f (unfold walk_of in first e))
 
-  no_case : (r : Res (List Item)) (f : Fault) (w' x' : List ℕ) (g : ℕ → Res (List Item)) → walked (Err f) w' x' ≡ walk_of s t w x r → r ≡ stop f
+  small_case : (r : Res (List Item)) (u : Tables) (q : ℕ) → Small t → walked (Ok q) u ≡ walk_of s t r → Small u
   unfolding walked
-  no_case (ok is p) f w' x' g e = absurd (on_no (tallied s t is) p f (sym (unfold walk_of in first _ _ e)))
-  no_case (stop f') f w' x' g e = ap (λ (z : Fault). stop z) (sym (no_fault f f' (unfold walk_of in first _ _ e)))
+  small_case (ok is p) u q h e = same (unfold walk_of in second e)
+    where
+      same : ◌≡◌ {A = Option Tables} (Some u) (Some (after s t is)) → Small u
+      same b = rw (on_tables _ _ b) (after-small s t is h)
+  small_case (stop f) u q h e = absurd (on_no q f (unfold walk_of in first e))
+
+  pub no_case : (r : Res (List Item)) (f : Fault) (u : Tables) → walked (Err f) u ≡ walk_of s t r → r ≡ stop f
+  unfolding walked
+  no_case (ok is p) f u e = absurd (on_no p f (sym (unfold walk_of in first e)))
+  no_case (stop g) f u e = ap (λ (z : Fault). stop z) (sym (no_fault f g (unfold walk_of in first e)))
 
   -- the callee went on: so does the whole, from where it stands
-  pub turn_on : (r : Walk) (t' : Tally) (q : ℕ) (w' x' : List ℕ) (g : ℕ → Res (List Item)) → walked r w' x' ≡ walk_of s t w x res → r ≡ Ok (t', q) → walk_of s t' w' x' (g q) ≡ walk_of s t w x (joined res g)
-  turn_on r t' q w' x' g e er = on_case res t' q w' x' g (rw er at e)
+  pub turn_on : (one : Res (List Item)) {r : Walk} (u : Tables) {q : ℕ} (g : ℕ → Res (List Item)) → Small t → walked r u ≡ walk_of s t one → r ≡ Ok q → walk_of s u (g q) ≡ walk_of s t (joined one g)
+  turn_on one u {q} g h e er = on_case one u q g h (rw er at e)
+
+  pub turn_small : (one : Res (List Item)) {r : Walk} (u : Tables) {q : ℕ} → Small t → walked r u ≡ walk_of s t one → r ≡ Ok q → Small u
+  turn_small one u {q} h e er = small_case one u q h (rw er at e)
 
   -- the callee was stopped: so is the whole
-  pub turn_no : (r : Walk) (f : Fault) (w' x' u v : List ℕ) (g : ℕ → Res (List Item)) → walked r w' x' ≡ walk_of s t w x res → r ≡ Err f → walked (Err f) u v ≡ walk_of s t w x (joined res g)
-  turn_no r f w' x' u v g e er =
-      let d = no_case res f w' x' g (rw er at e) in
+  pub turn_no : (one : Res (List Item)) {r : Walk} {f : Fault} (u : Tables) (g : ℕ → Res (List Item)) (v : Tables) → walked r u ≡ walk_of s t one → r ≡ Err f → walked (Err f) v ≡ walk_of s t (joined one g)
+  turn_no one {f = f} u g v e er =
+      let d = no_case one f u (rw er at e) in
       rw d (unfold walked walk_of in refl)
 
 -- a reading that is stopped, and one that ends
-pub told_stop : (s : List ℕ) (t : Tally) (w x w' x' : List ℕ) (f : Fault) → walked (Err f) w' x' ≡ walk_of s t w x (stop f)
+pub told_stop : (s : List ℕ) (t u : Tables) (f : Fault) → walked (Err f) u ≡ walk_of s t (stop f)
 unfolding walked walk_of
-told_stop s t w x w' x' f = refl
+told_stop s t u f = refl
 
 -- the same of what a `?` hands on
-pub told_handed : (s : List ℕ) (t : Tally) (w x : List ℕ) (r : Walk) (f : Fault) {g : Res (List Item)} (w' x' : List ℕ) → IsErrAnd r (λ e. e ≡ f) → stop f ≡ g → walked r w' x' ≡ walk_of s t w x g
-told_handed s t w x r f w' x' h e = rw (handed_on h) (told_stop s t w x w' x' f ∙ ap (walk_of s t w x) e)
+pub told_handed : (s : List ℕ) (t : Tables) (r : Walk) {f : Fault} {g : Res (List Item)} (u : Tables) → IsErrAnd r (λ e. e ≡ f) → stop f ≡ g → walked r u ≡ walk_of s t g
+told_handed s t r {f} u h e = rw (handed_on h) (told_stop s t u f ∙ ap (walk_of s t) e)
 
-pub told_ok : (s : List ℕ) (t : Tally) (w x : List ℕ) (p : ℕ) → walked (Ok (t, p)) w x ≡ walk_of s t w x (ok [] p)
+pub told_ok : (s : List ℕ) (t : Tables) (p : ℕ) → walked (Ok p) t ≡ walk_of s t (ok [] p)
 unfolding walked walk_of tallied words_of texts_of
-told_ok s t w x p = refl
+told_ok s t p = refl
 
--- ---- a loop over readings, which began with `whole` to read, the tally t₀ and the lists w₀ and x₀, and has `rest` to read, the tally t and
--- the lists w and x: what is left, from here, is the whole, from the start
+-- the tables with all that was read
+pub told_items : (s : List ℕ) (t : Tables) {u : Tables} (is : List Item) (p : ℕ) → u ≡ after s t is → walked (Ok p) u ≡ walk_of s t (ok is p)
+unfolding walked walk_of
+told_items s t is p e = rw e
 
-pub record Walking (s : List ℕ) (whole : Res (List Item)) (t₀ : Tally) (w₀ x₀ : List ℕ) (rest : Res (List Item)) (t : Tally) (w x : List ℕ) : Type 0 where
-  pub same : walk_of s t w x rest ≡ walk_of s t₀ w₀ x₀ whole
-  pub words_long : length w ≡ length w₀
-  pub texts-long : length x ≡ length x₀
-  pub words_small : length w ≤ 18446744073709551615
-  pub texts-small : length x ≤ 18446744073709551615
+-- ---- a loop over readings, which began with `whole` to read and the tables t₀, and has `rest` to read and the tables t: what is left, from
+-- here, is the whole, from the start
 
-module _ {s w₀ x₀ w x : List ℕ} {t₀ t : Tally} {whole rest : Res (List Item)} (h : Walking s whole t₀ w₀ x₀ rest t w x) where
+pub record Walking (s : List ℕ) (whole : Res (List Item)) (t₀ : Tables) (rest : Res (List Item)) (t : Tables) : Type 0 where
+  pub same : walk_of s t rest ≡ walk_of s t₀ whole
+  pub small : Small t
+
+module _ {s : List ℕ} {t₀ t : Tables} {whole rest : Res (List Item)} (h : Walking s whole t₀ rest t) where
   -- by what the reader of the next one said
-  module _ {one : Res (List Item)} {r : Walk} (w' x' : List ℕ) (d : walked r w' x' ≡ walk_of s t w x one) {g : ℕ → Res (List Item)} (e : Next rest one g) where
-    pub walking_turn : {u : Tally} {q : ℕ} → r ≡ Ok (u, q) → length w' ≡ length w → length x' ≡ length x → Walking s whole t₀ w₀ x₀ (g q) u w' x'
-    walking_turn {u} {q} v kw kx =
-        record {
-          same = turn_on s t w x one h.words_small h.texts-small r u q w' x' g d v ∙ ap (walk_of s t w x) (sym e.is) ∙ h.same;
-          words_long = kw ∙ h.words_long;
-          texts-long = kx ∙ h.texts-long;
-          words_small = rw kw h.words_small;
-          texts-small = rw kx h.texts-small;
-        }
+  module _ {one : Res (List Item)} {r : Walk} (u : Tables) (d : walked r u ≡ walk_of s t one) {g : ℕ → Res (List Item)} (e : Next rest one g) where
+    pub walking_turn : {q : ℕ} → r ≡ Ok q → Walking s whole t₀ (g q) u
+    walking_turn v = record { same = turn_on s t one u g h.small d v ∙ ap (walk_of s t) (sym e.is) ∙ h.same; small = turn_small s t one u h.small d v }
 
-    pub walking_stop : {f : Fault} → r ≡ Err f → (u v : List ℕ) → walked (Err f) u v ≡ walk_of s t₀ w₀ x₀ whole
-    walking_stop {f} v y z = turn_no s t w x one h.words_small h.texts-small r f w' x' y z g d v ∙ ap (walk_of s t w x) (sym e.is) ∙ h.same
+    pub walking_stop : {f : Fault} → r ≡ Err f → (v : Tables) → walked (Err f) v ≡ walk_of s t₀ whole
+    walking_stop v z = turn_no s t one u g z d v ∙ ap (walk_of s t) (sym e.is) ∙ h.same
 
-  pub walking_end : {i : ℕ} → rest ≡ ok [] i → walked (Ok (t, i)) w x ≡ walk_of s t₀ w₀ x₀ whole
-  walking_end {i} e = told_ok s t w x i ∙ ap (walk_of s t w x) (sym e) ∙ h.same
+  pub walking_end : {i : ℕ} → rest ≡ ok [] i → walked (Ok i) t ≡ walk_of s t₀ whole
+  walking_end {i} e = told_ok s t i ∙ ap (walk_of s t) (sym e) ∙ h.same

@@ -40,7 +40,7 @@ use Rattle.bflan.specs.pai1.RecordAt.{name_size}
 use Rattle.bflan.proofs.reader.ContentParts.{content_widths, content_rest, content_there, rest_at}
 use Rattle.bflan.proofs.reader.DatumParts.{fields_in, datum_after, datum_widths, datum_there}
 use Rattle.bflan.proofs.reader.Emits.{sought_there, ended_on, shown_part}
-use Rattle.bflan.proofs.reader.InfoParts.{info-extended, info-standard}
+use Rattle.bflan.proofs.reader.InfoParts.{info_extended, info_standard}
 use Rattle.bflan.proofs.reader.KeyRuns.{as_numbers, numbers_run}
 use Rattle.bflan.proofs.reader.Rows.{fields_at}
 use Rattle.bflan.proofs.reader.SectionParts.{end_at, head_items, section-body, body_there, contents_on}
@@ -177,12 +177,12 @@ module _ (s : List ℕ) (short : length s ≤ 16777216) where
       let lp : 8 + 4 * n + size (parts target_lay ts) < 256 ^ 4 = omega (arith, h.fits, lt) in
       let o = run_there n s (b + 8) _ _ (table-reads target_lay s (b + 8) (8 + 4 * n) ts lp (stands_left h1)) in
       let v = visit-reads target_lay target_cells (FineTarget letters) s (target letters) (target-reads letters s) b (8 + 4 * n) (b + 8 + 4 * n) ts f.targets (stands_to (stands_right h1) (omega (arith, lt))) in
-      let e = info-standard b s i letters n (b + 8 + 4 * n) l (sym g.0) f.standard (sym g.1) o.next in
+      let e = info_standard b s i letters n (b + 8 + 4 * n) l (sym g.0) f.standard (sym g.1) o.next in
       record { next = v.next; here = reads_as (sym (e ∙ rw (o.values, letters_own letters f.letters))) refl refl (reads_before (word letters ∷ word n ∷ []) refl v.here) }
   info-reads b i (ExtendedUserData ds) f h =
       let g = info_head_lem fleu_lt f.0 (stands_left h) in
       let m = many-reads datum_lay datum_cells FineDatum s datum (datum-reads s) (b + 8) ds f.1 (stands_right h) in
-      let e = info-extended b s i (length ds) (omega (arith, h.fits)) g.0 (sym g.1) in
+      let e = info_extended b s i (length ds) (omega (arith, h.fits)) g.0 (sym g.1) in
       record { next = b + 8 + size (parts datum_lay ds); here = reads_as (sym e) refl refl (reads_before (word fleu ∷ word (length ds) ∷ []) refl m) }
 
   -- ---- contents

@@ -7,7 +7,7 @@ use mathlib.Core.List.{List, [], ◌∷◌, ◌++◌, append_assoc, append-nil}
 use native.Mathlib.Nat.{zero-add, add_comm, mul-zero, mul-suc, mul_comm}
 use native.Mathlib.Omega.{arith}
 use borrow.Author.Tests.{leb-true, eqb-true, eqb-false, eq-eqb, ne_eqb}
-use lib.Dec.{eqb, leb, ltb}
+use lib.Dec.{eqb, leb}
 use lib.ListN.{length, get_or, take, drop, replicate, length-drop, length-replicate}
 use lib.Seq.{sets, take-add, drop-drop, length-take-le}
 use Rattle.base.specs.Choice.{pick}
@@ -15,17 +15,20 @@ use Rattle.base.specs.Fill.{padding_of}
 use Rattle.base.specs.Number.{le, put}
 use Rattle.base.specs.Run.{numbers_le, pairs_le}
 use Rattle.base.proofs.Runs.{numbers_le-append}
-use Rattle.bflan.specs.declared.writer.Pen.{Pen}
-use Rattle.bflan.specs.Judge.{Judged, fine, bad_word, bad_text, J, and_then, ◌>>=◌, next_word, next_text, times, wide, row}
+use Rattle.std.specs.Prelude.{Result, Ok, Err, IsOk}
+use Rattle.bflan.specs.declared.curve.Curve.{Curve}
+use Rattle.bflan.specs.declared.curve.UnknownCurve.{UnknownCurve}
+use Rattle.bflan.specs.pai1.Curves.{curve_number, NamesCurve}
+use Rattle.bflan.specs.Judge.{Judged, fine, next_text, times, wide, row}
 use Rattle.bflan.specs.pai1.Judge.{target, datum, info, content, section}
 use Rattle.bflan.specs.Layout.{Layout, nothing, number, bytes, ◌⨾◌, size, written, row as rowLay, parts, ended, zeros}
 use Rattle.bflan.specs.pai1.Layout.{key_skip, key_lay, target_lay, datum_lay, info_head, info_lay, data_out, infos_out, table_from, infos_from, user_lay, content_body, content_lay, names_end, content_table, section_size, section_lay}
-use Rattle.bflan.specs.pai1.Letters.{fleu, target_fits}
+use Rattle.bflan.specs.pai1.Letters.{fleu}
 use Rattle.bflan.specs.Limits.{limit}
 use Rattle.bflan.specs.pai1.Reading.{own_bytes}
 use Rattle.bflan.specs.pai1.Places.{total as sum, stride}
 use Rattle.bflan.specs.pai1.Record.{ExtendedUserDataAnim, AnimInfo, Standard, ExtendedUserData, AnimContent, key_widths}
-use Rattle.bflan.specs.inner.Pen.{Ready, laid, pen_behind, listed}
+use Rattle.bflan.specs.inner.Pen.{Pen, Ready, laid, pen_behind, listed}
 use Rattle.bflan.specs.inner.LayoutParts.{target_head, datum_head, datum_front, name_lay, body_lay, frame_lay, names_lay, out_of, out_by}
 use Rattle.bflan.proofs.judge.Laws.{text_at}
 use Rattle.bflan.proofs.judge.Inversion.{times_none, times_more, times-length, WordsAt, row_at, DatumAt, datum_at_lem, info_at_lem, info-extended, info-standard, ContentAt, content_at_lem, SectionAt, section_at, TargetAt, target_at_lem}
@@ -58,38 +61,6 @@ module _ (w x : List ℕ) (q : Pen) {most : ℕ} (h : Ready name_lay (next_text 
       text_done name_lay (λ k. zeros (28 - k)) name_shape (λ n. leb n 28) w x q h n e out a (wrote_bytes b) (rw z at c)
 
 -- ---- a target
-
--- a walk that does not look at the texts
-abbrev Blind : {X : Type 0} → J X → Type 0
-Blind p = (w x y : List ℕ) (i j : ℕ) → p w x i j ≡ p w y i j
-
-blind_word : (test : ℕ → Bool) → Blind (next_word test)
-unfolding next_word
-blind_word test w x y i j = refl
-
-blind_bind : {X Y : Type 0} (p : J X) (q : X → J Y) → Blind p → ((v : X) → Blind (q v)) → Blind (◌>>=◌ p q)
-blind_bind {X} p q f g w x y i j = ap (λ (r : Judged X). and_then r q w x) (f w x y i j) ∙ go (p w y i j)
-  where
-    go : (r : Judged X) → and_then r q w x ≡ and_then r q w y
-    go (fine v k l) = g v w x y k l
-    go (bad_word k) = refl
-    go (bad_text k) = refl
-
-blind_row : (ks : List ℕ) → Blind (row ks)
-unfolding row
-blind_row [] = λ w x y i j. refl
-blind_row (k ∷ ks) = blind_bind (next_word (wide k)) _ (blind_word (wide k)) λ v. blind_bind (row ks) _ (blind_row ks) λ vs w x y i j. refl
-
-pub blind_times : {X : Type 0} (p : J X) → Blind p → (n : ℕ) → Blind (times n p)
-unfolding times
-blind_times p f zero = λ w x y i j. refl
-blind_times p f (suc n) = blind_bind p _ f λ v. blind_bind (times n p) _ (blind_times p f n) λ vs w x y i j. refl
-
-pub blind_target : (letters : ℕ) → Blind (target letters)
-unfolding target
-blind_target letters = blind_bind (next_word (wide 1)) _ (blind_word (wide 1)) λ a. blind_bind (next_word (target_fits letters)) _ (blind_word (target_fits letters)) λ b.
-    blind_bind (next_word (λ c. ltb c 3)) _ (blind_word (λ c. ltb c 3)) λ c. blind_bind (next_word (wide 2)) _ (blind_word (wide 2)) λ n.
-    blind_bind (times n (row (key_widths c))) _ (blind_times (row (key_widths c)) (blind_row (key_widths c)) n) λ ks w x y i j. refl
 
 -- keys of a curve, each of c words and m bytes, written as `enc` says
 pub record Coded (curve c m : ℕ) (enc : List ℕ → List ℕ) : Type 0 where
@@ -134,9 +105,9 @@ module _ {curve : ℕ} where
   pub step_coded : curve ≡ 1 → Coded curve 2 8 pairs_le
   step_coded e = rw e coded_step
 
-  pub hermite_coded : curve < 3 → (curve ≡ 0 → ⊥) → (curve ≡ 1 → ⊥) → Coded curve 3 12 numbers_le
+  pub hermite_coded : curve ≡ 2 → Coded curve 3 12 numbers_le
   unfolding key_widths key_skip stride sum
-  hermite_coded l a b = let e : curve ≡ 2 = omega arith in rw e (coded_words refl refl refl)
+  hermite_coded e = rw e (coded_words refl refl refl)
 
 record KeysAt (enc : List ℕ → List ℕ) (bytes : List ℕ) (n c : ℕ) (w : List ℕ) (i j k l : ℕ) : Type 0 where
   same : bytes ≡ enc (take (c * n) (drop i w))
@@ -231,6 +202,14 @@ module _ (letters : ℕ) (w x : List ℕ) (i j at : ℕ) {most : ℕ} (h : Ready
         → Leaves target_lay (target letters w x i j) at out u o
     target_done out = head_done target_splits at 12 twelve out
 
+-- a number below 3 is a curve's
+pub curve_there : (n : ℕ) (r : Result Curve UnknownCurve) → NamesCurve n r → n < 3 → IsOk r
+curve_there n (Ok curve) h l = refl
+curve_there n (Err e) h l = absurd (omega (arith, h.1, l))
+
+pub curve_is : {n : ℕ} {r : Result Curve UnknownCurve} {curve : Curve} → NamesCurve n r → r ≡ Ok curve → n ≡ curve_number curve
+curve_is {n} {r} h e = let m : NamesCurve n (Ok _) = rw e at h in sym m
+
 -- ---- an extended datum
 
 numbers-parts : (vs : List ℕ) → written (parts (number 4) vs) ≡ numbers_le vs
@@ -240,15 +219,14 @@ numbers-parts (v ∷ vs) = ap (λ (b : List ℕ). le 4 v ++ b) (numbers-parts vs
 
 pub front_stored : (w : List ℕ) (i at n : ℕ) {l0 l1 l2 l3 : List ℕ} → n ≡ 3 * get_or w (i + 3) 0 → i + 5 + n ≤ length w
     → l1 ≡ sets l0 at (written (datum_head (get_or w i 0) (get_or w (i + 1) 0) (get_or w (i + 2) 0) (get_or w (i + 3) 0) (get_or w (i + 4) 0)))
-    → l2 ≡ sets l1 (at + 16) (numbers_le (take n (drop (i + 5) w))) → l3 ≡ put 4 l2 (at + 16 + 4 * n) (at + 16 + 4 * n + 4 - (at + 16 + 4 * n))
+    → l2 ≡ sets l1 (at + 16) (numbers_le (take n (drop (i + 5) w))) → l3 ≡ put 4 l2 (at + 16 + 4 * n) 4
     → Wrote l0 at (datum_front w i) l3
 unfolding size datum_front datum_head rowLay
 front_stored w i at n {l0} {l1} {l2} {l3} en h e1 e2 e3 =
     let c : length (take (3 * get_or w (i + 3) 0) (drop (i + 5) w)) ≡ n = ap (λ (d : ℕ). length (take d (drop (i + 5) w))) (sym en) ∙ length-take-le n (drop (i + 5) w) (rw length-drop (omega (arith, h))) in
     let z = size-numbers (take (3 * get_or w (i + 3) 0) (drop (i + 5) w)) in
-    let four : at + 16 + 4 * n + 4 - (at + 16 + 4 * n) ≡ 4 = omega arith in
     wrote_then (record { same = e1 }) (wrote_then (record { same = e2 ∙ ap (sets l1 (at + 16)) (ap (λ (d : ℕ). numbers_le (take d (drop (i + 5) w))) en ∙ sym (numbers-parts (take (3 * get_or w (i + 3) 0) (drop (i + 5) w)))) })
-    (wrote_number (rw four at e3)) (omega (arith, z, c))) refl
+    (wrote_number e3) (omega (arith, z, c))) refl
 
 pub front_size : (w : List ℕ) (i : ℕ) → i + 5 + 3 * get_or w (i + 3) 0 ≤ length w → size (datum_front w i) ≡ 20 + 4 * (3 * get_or w (i + 3) 0)
 unfolding size datum_front datum_head rowLay
@@ -276,15 +254,14 @@ module _ (w x : List ℕ) (i j at : ℕ) {most : ℕ} (h : Ready datum_lay (datu
   front : 20 + 4 * (3 * get_or w (i + 3) 0) ≡ size (datum_front w i)
   front = sym (front_size w i (omega (arith, datum-fits.0)))
 
-  -- behind what is before the key
-  module _ (q : Pen) (a : q.word ≡ i + 5 + 3 * get_or w (i + 3) 0) (b : q.byte ≡ j) (c : q.at ≡ at + (20 + 4 * (3 * get_or w (i + 3) 0))) where
-    pub key_ready : Ready ended (next_text (wide 4) w x q.word q.byte) q.at most
-    key_ready = rw (a, b, c) (head_ready datum_splits at (20 + 4 * (3 * get_or w (i + 3) 0)) front h)
+  pub key_ready : Ready ended (next_text (wide 4) w x (i + 5 + 3 * get_or w (i + 3) 0) j) (at + (20 + 4 * (3 * get_or w (i + 3) 0))) most
+  key_ready = head_ready datum_splits at (20 + 4 * (3 * get_or w (i + 3) 0)) front h
 
-    pub datum_done : (out : List ℕ) {m o : List ℕ} {u : Pen} → m ≡ sets out at (written (datum_front w i))
-        → u ≡ pen_behind ended (next_text (wide 4) w x q.word q.byte) q.at → o ≡ laid ended (next_text (wide 4) w x q.word q.byte) q.at m
-        → Leaves datum_lay (datum w x i j) at out u o
-    datum_done out e f g = head_done datum_splits at (20 + 4 * (3 * get_or w (i + 3) 0)) front out e (rw (a, b, c) at f) (rw (a, b, c) at g)
+  pub datum_done : (out : List ℕ) {m o : List ℕ} {u : Pen} → m ≡ sets out at (written (datum_front w i))
+      → u ≡ pen_behind ended (next_text (wide 4) w x (i + 5 + 3 * get_or w (i + 3) 0) j) (at + (20 + 4 * (3 * get_or w (i + 3) 0)))
+      → o ≡ laid ended (next_text (wide 4) w x (i + 5 + 3 * get_or w (i + 3) 0) j) (at + (20 + 4 * (3 * get_or w (i + 3) 0))) m
+      → Leaves datum_lay (datum w x i j) at out u o
+  datum_done out = head_done datum_splits at (20 + 4 * (3 * get_or w (i + 3) 0)) front out
 
 -- ---- an info
 
@@ -315,12 +292,12 @@ module _ (w x : List ℕ) (i j at : ℕ) {most : ℕ} (h : Ready info_lay (info 
         head_splits h ds k (ap (λ (a : AnimInfo). written (info_lay a)) q ∙ rw (z, f))
 
     standard_splits : (l ≡ fleu → ⊥) → Splits info_lay (info w x i j) (λ (z : Layout). z) (fine (info_head l n) (i + 2) j)
-        (listed target_lay (at + 8 + 4 * n - at)) (times n (target l) w [] (i + 2) j)
+        (listed target_lay (at + 8 + 4 * n - at)) (times n (target l) w x (i + 2) j)
     unfolding info_lay listed written
     standard_splits f =
         info-standard w x i j h.judged (λ g. f (el ∙ g)) λ ts q r.
-        let k : times n (target l) w [] (i + 2) j ≡ fine ts h.word h.byte = blind_times (target l) (blind_target l) n w [] x (i + 2) j ∙ rw (en, el) r in
-        let z : length ts ≡ n = times-length (target l) w [] n (i + 2) j k in
+        let k : times n (target l) w x (i + 2) j ≡ fine ts h.word h.byte = rw (en, el) r in
+        let z : length ts ≡ n = times-length (target l) w x n (i + 2) j k in
         let m : at + 8 + 4 * n - at ≡ 8 + 4 * n = omega arith in
         head_splits h ts k (ap (λ (a : AnimInfo). written (info_lay a)) q ∙ rw (z, m, el))
 
@@ -337,12 +314,12 @@ module _ (w x : List ℕ) (i j at : ℕ) {most : ℕ} (h : Ready info_lay (info 
       data_done out = head_done (extended_splits f) at 8 eight out
 
     module _ (f : l ≡ fleu → ⊥) where
-      pub targets_ready : Ready (listed target_lay (at + 8 + 4 * n - at)) (times n (target l) w [] (i + 2) j) (at + 8) most
+      pub targets_ready : Ready (listed target_lay (at + 8 + 4 * n - at)) (times n (target l) w x (i + 2) j) (at + 8) most
       targets_ready = head_ready (standard_splits f) at 8 eight h
 
       pub targets_done : (out : List ℕ) {m o : List ℕ} {u : Pen} → m ≡ sets out at (written (info_head l n))
-          → u ≡ pen_behind (listed target_lay (at + 8 + 4 * n - at)) (times n (target l) w [] (i + 2) j) (at + 8)
-          → o ≡ laid (listed target_lay (at + 8 + 4 * n - at)) (times n (target l) w [] (i + 2) j) (at + 8) m
+          → u ≡ pen_behind (listed target_lay (at + 8 + 4 * n - at)) (times n (target l) w x (i + 2) j) (at + 8)
+          → o ≡ laid (listed target_lay (at + 8 + 4 * n - at)) (times n (target l) w x (i + 2) j) (at + 8) m
           → Leaves info_lay (info w x i j) at out u o
       targets_done out = head_done (standard_splits f) at 8 eight out
 
@@ -491,10 +468,10 @@ module _ (n : ℕ) (w x : List ℕ) (q : Pen) (start : ℕ) {most : ℕ} (h : Re
       omega (arith, b, g, s, listed-size info_lay (q.at + 8 + 4 * n - start) h.value, infos-most h.value)
 
   -- the total size is patched when the infos are there
-  pub user_done : (l0 : List ℕ) {l1 l2 l3 l4 : List ℕ} {u : Pen} {p gone : ℕ} → l1 ≡ put 4 l0 q.at (q.at + 8 - start) → p ≡ q.at + 4 → l2 ≡ put 4 l1 (q.at + 4) 0
+  pub user_done : (l0 : List ℕ) {l1 l2 l3 l4 : List ℕ} {u : Pen} {p gone : ℕ} → l1 ≡ put 4 l0 q.at 40 → p ≡ q.at + 4 → l2 ≡ put 4 l1 (q.at + 4) 0
       → u ≡ pen_behind (listed info_lay (q.at + 8 + 4 * n - start)) (times n info w x q.word q.byte) (q.at + 8)
       → l3 ≡ laid (listed info_lay (q.at + 8 + 4 * n - start)) (times n info w x q.word q.byte) (q.at + 8) l2
-      → gone ≡ out_of (times n info w x q.word q.byte) → l4 ≡ put 4 l3 p (u.at - start - gone)
+      → gone ≡ out_of (times n info w x q.word q.byte) → l4 ≡ put 4 l3 p (u.at - (start + gone))
       → Leaves (body_lay 2) (times n info w x q.word q.byte) q.at l0 u l4
   unfolding body_lay user_lay table_from size written
   user_done l0 {l1} {l2} {l3} {l4} {u} {p} {gone} e1 ep e2 eu e3 eg e4 =
@@ -503,13 +480,12 @@ module _ (n : ℕ) (w x : List ℕ) (q : Pen) (start : ℕ) {most : ℕ} (h : Re
       ap (λ (z : Pen). z.at) (eu ∙ behind-fine (listed info_lay (q.at + 8 + 4 * n - start)) h.judged (q.at + 8)) in
       let z = listed-size info_lay (q.at + 8 + 4 * n - start) h.value in
       let g : gone ≡ infos_out h.value = eg ∙ out_fine h.judged in
-      let t : u.at - start - gone ≡ 40 + 4 * n + size (parts info_lay h.value) - infos_out h.value = omega (arith, s, b, c, z, g) in
-      let f : q.at + 8 - start ≡ 40 = omega (arith, s) in
+      let t : u.at - (start + gone) ≡ 40 + 4 * n + size (parts info_lay h.value) - infos_out h.value = omega (arith, s, b, c, z, g) in
       let m : q.at + 8 + 4 * n - start ≡ 40 + 4 * n = omega (arith, s) in
       let all : Wrote l0 q.at (number 4 40 ⨾ number 4 0 ⨾ listed info_lay (q.at + 8 + 4 * n - start) h.value) l3 =
-      wrote_then (wrote_number (rw f at e1)) (wrote_then (wrote_number e2) (record { same = e3 ∙ laid-fine (listed info_lay (q.at + 8 + 4 * n - start)) h.judged (q.at + 8) l2 }) (omega arith)) refl in (
+      wrote_then (wrote_number e1) (wrote_then (wrote_number e2) (record { same = e3 ∙ laid-fine (listed info_lay (q.at + 8 + 4 * n - start)) h.judged (q.at + 8) l2 }) (omega arith)) refl in (
         eu ∙ split_behind user_splits q.at (record { word = q.word; byte = q.byte; at = q.at + 8 }) (unfold pen_behind in refl),
-        whole-laid (body_lay 2) h (wrote_patched all p (u.at - start - gone) ep e4) (rw (t, m, c, append_assoc)),
+        whole-laid (body_lay 2) h (wrote_patched all p (u.at - (start + gone)) ep e4) (rw (t, m, c, append_assoc)),
       )
 
 -- ---- a content
@@ -552,25 +528,26 @@ module _ (w x : List ℕ) (i j at : ℕ) {most : ℕ} (h : Ready content_lay (co
     content-fits =
         (rw (ap (λ (z : Pen). z.word) placed) c.there, ap (λ (z : Pen). z.at) placed ∙ ap (λ (k : ℕ). at + k) name_size_lem, omega (arith, body-size, whole-size, h.short))
 
-    module _ (kind n : ℕ) (ek : kind ≡ get_or w q.word 0) (en : n ≡ get_or w (q.word + 1) 0) where
-      infos-judged : times n info w x (q.word + 2) q.byte ≡ fine h.value.infos h.word h.byte
-      infos-judged = rw (en, ap (λ (z : Pen). z.word) placed, ap (λ (z : Pen). z.byte) placed) c.infos
+    -- in the record that the writer has there, which is the same one
+    module _ {y z : List ℕ} (ey : y ≡ w) (ez : z ≡ x) (kind n : ℕ) (ek : kind ≡ get_or y q.word 0) (en : n ≡ get_or y (q.word + 1) 0) where
+      infos-judged : times n info y z (q.word + 2) q.byte ≡ fine h.value.infos h.word h.byte
+      infos-judged = rw (en, ey, ez, ap (λ (z : Pen). z.word) placed, ap (λ (z : Pen). z.byte) placed) c.infos
 
       kind_is : h.value.type ≡ kind
-      kind_is = c.type ∙ rw (ek, ap (λ (z : Pen). z.word) placed) refl
+      kind_is = c.type ∙ rw (ek, ey, ap (λ (z : Pen). z.word) placed) refl
 
-      pub body_ready : Ready (body_lay kind) (times n info w x (q.word + 2) q.byte) (at + 32) most
+      pub body_ready : Ready (body_lay kind) (times n info y z (q.word + 2) q.byte) (at + 32) most
       body_ready = ready_within h infos-judged (rw (← kind_is) (omega (arith, body-size, whole-size)))
 
       pub content_done : (l0 : List ℕ) {l1 l2 l3 l4 : List ℕ} {e u : Pen} → l1 ≡ laid name_lay (next_text (λ n. leb n 28) w x i j) at l0
           → l2 ≡ sets l1 (at + 28) (written (number 1 n ⨾ number 1 kind ⨾ number 2 0))
-          → e ≡ pen_behind (body_lay kind) (times n info w x (q.word + 2) q.byte) (at + 32)
-          → l3 ≡ laid (body_lay kind) (times n info w x (q.word + 2) q.byte) (at + 32) l2
+          → e ≡ pen_behind (body_lay kind) (times n info y z (q.word + 2) q.byte) (at + 32)
+          → l3 ≡ laid (body_lay kind) (times n info y z (q.word + 2) q.byte) (at + 32) l2
           → u.word ≡ e.word → u.byte ≡ e.byte → u.at ≡ e.at + padding_of (e.at - at) → l4 ≡ sets l3 e.at (replicate (padding_of (e.at - at)) 0)
           → Leaves content_lay (content w x i j) at l0 u l4
       unfolding content_lay size written
       content_done l0 {l1} {l2} {l3} {l4} {e} {u} e1 e2 ee e3 uw ub ua e4 =
-          let count : n ≡ length h.value.infos = sym (times-length info w x n (q.word + 2) q.byte infos-judged) in
+          let count : n ≡ length h.value.infos = sym (times-length info y z n (q.word + 2) q.byte infos-judged) in
           let pe : e ≡ record { word = h.word; byte = h.byte; at = at + 32 + size (body_lay kind h.value.infos) } = ee ∙ behind-fine (body_lay kind) infos-judged (at + 32) in
           let pa : e.at ≡ at + 32 + size (body_lay kind h.value.infos) = ap (λ (z : Pen). z.at) pe in
           let bs : size (content_body h.value) ≡ 32 + size (body_lay kind h.value.infos) = rw (← kind_is) body-size in
@@ -591,9 +568,9 @@ module _ (w x : List ℕ) (i j at : ℕ) {most : ℕ} (h : Ready content_lay (co
 -- ---- a section
 
 -- the texture names
-module _ (n : ℕ) (w x : List ℕ) {most : ℕ} (h : Ready names_lay (times n (next_text (wide 4)) w x 4 0) 20 most) where
+module _ (n : ℕ) (w x : List ℕ) (i j at : ℕ) (twenty : at ≡ 20) {most : ℕ} (h : Ready names_lay (times n (next_text (wide 4)) w x i j) at most) where
   names_count : length h.value ≡ n
-  names_count = times-length (next_text (wide 4)) w x n 4 0 h.judged
+  names_count = times-length (next_text (wide 4)) w x n i j h.judged
 
   end : ℕ
   end = 20 + (4 * length h.value + size (parts ended h.value))
@@ -602,26 +579,26 @@ module _ (n : ℕ) (w x : List ℕ) {most : ℕ} (h : Ready names_lay (times n (
   unfolding names_lay size end
   names_size = omega (arith, names_count, listed-size ended (4 * length h.value) h.value, length-replicate {A = ℕ} (padding_of (20 + (4 * length h.value + size (parts ended h.value)))) 0)
 
-  pub names_ready : Ready (listed ended (20 + 4 * n - 20)) (times n (next_text (wide 4)) w x 4 0) 20 most
+  pub names_ready : Ready (listed ended (at + 4 * n - 20)) (times n (next_text (wide 4)) w x i j) at most
   names_ready =
-      let z = listed-size ended (20 + 4 * n - 20) h.value in
+      let z = listed-size ended (at + 4 * n - 20) h.value in
       ready_within h h.judged (omega (arith, names_size, names_count, z))
 
-  pub names_done : (l0 : List ℕ) {l1 l2 : List ℕ} {q u : Pen} → q ≡ pen_behind (listed ended (20 + 4 * n - 20)) (times n (next_text (wide 4)) w x 4 0) 20
-      → l1 ≡ laid (listed ended (20 + 4 * n - 20)) (times n (next_text (wide 4)) w x 4 0) 20 l0
+  pub names_done : (l0 : List ℕ) {l1 l2 : List ℕ} {q u : Pen} → q ≡ pen_behind (listed ended (at + 4 * n - 20)) (times n (next_text (wide 4)) w x i j) at
+      → l1 ≡ laid (listed ended (at + 4 * n - 20)) (times n (next_text (wide 4)) w x i j) at l0
       → u.word ≡ q.word → u.byte ≡ q.byte → u.at ≡ q.at + padding_of q.at → l2 ≡ sets l1 q.at (replicate (padding_of q.at) 0)
-      → Leaves names_lay (times n (next_text (wide 4)) w x 4 0) 20 l0 u l2
+      → Leaves names_lay (times n (next_text (wide 4)) w x i j) at l0 u l2
   unfolding names_lay written size end
   names_done l0 {l1} {l2} {q} {u} e1 e2 uw ub ua e3 =
-      let m : 20 + 4 * n - 20 ≡ 4 * length h.value = omega (arith, names_count) in
-      let pq : q ≡ record { word = h.word; byte = h.byte; at = 20 + size (listed ended (20 + 4 * n - 20) h.value) } = e1 ∙ behind-fine (listed ended (20 + 4 * n - 20)) h.judged 20 in
-      let pa : q.at ≡ 20 + size (listed ended (20 + 4 * n - 20) h.value) = ap (λ (z : Pen). z.at) pq in
-      let z = listed-size ended (20 + 4 * n - 20) h.value in
-      let en : q.at ≡ 20 + (4 * length h.value + size (parts ended h.value)) = omega (arith, pa, z) in
-      let w1 : Wrote l0 20 (listed ended (4 * length h.value) h.value) l1 = record { same = e2 ∙ laid-fine (listed ended (20 + 4 * n - 20)) h.judged 20 l0 ∙ rw m refl } in
+      let m : at + 4 * n - 20 ≡ 4 * length h.value = omega (arith, names_count, twenty) in
+      let pq : q ≡ record { word = h.word; byte = h.byte; at = at + size (listed ended (at + 4 * n - 20) h.value) } = e1 ∙ behind-fine (listed ended (at + 4 * n - 20)) h.judged at in
+      let pa : q.at ≡ at + size (listed ended (at + 4 * n - 20) h.value) = ap (λ (z : Pen). z.at) pq in
+      let z = listed-size ended (at + 4 * n - 20) h.value in
+      let en : q.at ≡ 20 + (4 * length h.value + size (parts ended h.value)) = omega (arith, pa, z, twenty) in
+      let w1 : Wrote l0 at (listed ended (4 * length h.value) h.value) l1 = record { same = e2 ∙ laid-fine (listed ended (at + 4 * n - 20)) h.judged at l0 ∙ rw m refl } in
       let w2 : Wrote l1 q.at (zeros (padding_of (20 + (4 * length h.value + size (parts ended h.value))))) l2 = wrote_bytes (e3 ∙ rw en refl) in (
         whole-behind names_lay h (uw ∙ ap (λ (z : Pen). z.word) pq) (ub ∙ ap (λ (z : Pen). z.byte) pq)
-            (ua ∙ rw en (omega (arith, names_size, names_count))),
+            (ua ∙ rw en (omega (arith, names_size, names_count, twenty))),
         whole-laid names_lay h (wrote_then w1 w2 (rw m at pa)) refl,
       )
 
@@ -655,41 +632,42 @@ module _ (w x : List ℕ) {most : ℕ} (h : Ready section_lay (section w x 0 0) 
     pub names_there : Ready names_lay (times n (next_text (wide 4)) w x 4 0) 20 most
     names_there = ready_within h names_judged (omega (arith, names_end_lem, contents_end, section_size_lem h.value))
 
-    module _ (q : Pen) (eq : q ≡ pen_behind names_lay (times n (next_text (wide 4)) w x 4 0) 20) (k : ℕ) (ek : k ≡ get_or w 3 0) where
+    -- and in the record that the writer has there, which is the same one
+    module _ (q : Pen) (eq : q ≡ pen_behind names_lay (times n (next_text (wide 4)) w x 4 0) 20) {y z : List ℕ} (ey : y ≡ w) (ez : z ≡ x) (k : ℕ) (ek : k ≡ get_or w 3 0) where
       after_names : q ≡ record { word = at.word; byte = at.byte; at = 20 + size (names_lay ts) }
       after_names = eq ∙ behind-fine names_lay names_judged 20
 
       table_at : q.at ≡ content_table h.value
       table_at = ap (λ (z : Pen). z.at) after_names ∙ omega (arith, names_end_lem)
 
-      contents-judged : times k content w x q.word q.byte ≡ fine cs h.word h.byte
-      contents-judged = rw (ek, ap (λ (z : Pen). z.word) after_names, ap (λ (z : Pen). z.byte) after_names) at.contents
+      contents-judged : times k content y z q.word q.byte ≡ fine cs h.word h.byte
+      contents-judged = rw (ek, ey, ez, ap (λ (z : Pen). z.word) after_names, ap (λ (z : Pen). z.byte) after_names) at.contents
 
       from : q.at + 4 * k - 0 ≡ content_table h.value + 4 * length cs
-      from = omega (arith, table_at, times-length content w x k q.word q.byte contents-judged)
+      from = omega (arith, table_at, times-length content y z k q.word q.byte contents-judged)
 
-      pub contents_there : Ready (listed content_lay (q.at + 4 * k - 0)) (times k content w x q.word q.byte) q.at most
+      pub contents_there : Ready (listed content_lay (q.at + 4 * k - 0)) (times k content y z q.word q.byte) q.at most
       contents_there = ready_within h contents-judged (rw (from, table_at) (omega (arith, contents_end, section_size_lem h.value)))
 
       pub section_done : (l0 : List ℕ) {l1 l2 l3 l4 l5 l6 : List ℕ} {e : Pen} {p s : ℕ}
           → l1 ≡ sets l0 0 (written (bytes own_bytes ⨾ number 4 0 ⨾ frame_lay (get_or w 0 0) (get_or w 1 0) (get_or w 2 0) (get_or w 3 0))) → l2 ≡ put 4 l1 16 0
-          → l3 ≡ laid names_lay (times n (next_text (wide 4)) w x 4 0) 20 l2 → p ≡ 16 → l4 ≡ put 4 l3 p q.at
-          → e ≡ pen_behind (listed content_lay (q.at + 4 * k - 0)) (times k content w x q.word q.byte) q.at
-          → l5 ≡ laid (listed content_lay (q.at + 4 * k - 0)) (times k content w x q.word q.byte) q.at l4 → s ≡ 4 → l6 ≡ put 4 l5 s e.at
+          → l3 ≡ laid names_lay (times n (next_text (wide 4)) w x 4 0) 20 l2 → p ≡ 16 → l4 ≡ put 4 l3 p (q.at - 0)
+          → e ≡ pen_behind (listed content_lay (q.at + 4 * k - 0)) (times k content y z q.word q.byte) q.at
+          → l5 ≡ laid (listed content_lay (q.at + 4 * k - 0)) (times k content y z q.word q.byte) q.at l4 → s ≡ 4 → l6 ≡ put 4 l5 s (e.at - 0)
           → l6 ≡ laid section_lay (section w x 0 0) 0 l0
       unfolding frame_lay rowLay size written
       section_done l0 {l1} {l2} {l3} {l4} {l5} {l6} {e} {p} {s} e1 e2 e3 ep e4 ee e5 es e6 =
           let nt : n ≡ length ts = sym (times-length (next_text (wide 4)) w x n 4 0 names_judged) in
-          let nc : k ≡ length cs = sym (times-length content w x k q.word q.byte contents-judged) in
+          let nc : k ≡ length cs = sym (times-length content y z k q.word q.byte contents-judged) in
           let end : e.at ≡ section_size h.value =
           ap (λ (z : Pen). z.at) (ee ∙ behind-fine (listed content_lay (q.at + 4 * k - 0)) contents-judged q.at) ∙ rw (from, table_at) contents_end in
           let w1 : Wrote l0 0 (bytes own_bytes ⨾ number 4 0 ⨾ frame_lay (get_or w 0 0) (get_or w 1 0) (get_or w 2 0) (get_or w 3 0)) l1 = record { same = e1 } in
           let w2 : Wrote l1 16 (nothing ⨾ number 4 0 ⨾ names_lay ts) l3 =
           wrote_like (wrote_then {b = names_lay ts} (wrote_number e2) (record { same = e3 ∙ laid-fine names_lay names_judged 20 l2 }) refl) refl in
-          let w3 : Wrote l1 16 (nothing ⨾ number 4 q.at ⨾ names_lay ts) l4 = wrote_patched w2 p q.at ep e4 in
+          let w3 : Wrote l1 16 (nothing ⨾ number 4 q.at ⨾ names_lay ts) l4 = wrote_patched w2 p q.at ep (let z : q.at - 0 ≡ q.at = omega arith in rw z at e4) in
           let w4 : Wrote l4 q.at (listed content_lay (q.at + 4 * k - 0) cs) l5 = record { same = e5 ∙ laid-fine (listed content_lay (q.at + 4 * k - 0)) contents-judged q.at l4 } in
           let w5 : Wrote l0 0 ((bytes own_bytes ⨾ number 4 0 ⨾ frame_lay (get_or w 0 0) (get_or w 1 0) (get_or w 2 0) (get_or w 3 0)) ⨾ (nothing ⨾ number 4 q.at ⨾ names_lay ts) ⨾ listed content_lay (q.at + 4 * k - 0) cs) l5 =
           wrote_then w1 (wrote_then w3 w4 (omega (arith, table_at, names_end_lem))) refl in
           let w6 : Wrote l0 0 (bytes own_bytes ⨾ number 4 0 ⨾ frame_lay (get_or w 0 0) (get_or w 1 0) (get_or w 2 0) (get_or w 3 0) ⨾ number 4 q.at ⨾ names_lay ts ⨾ listed content_lay (q.at + 4 * k - 0) cs) l5 =
           wrote_like w5 (simp append_assoc) in
-          whole-laid section_lay h (wrote_patched w6 s e.at es e6) (rw (end, from, table_at, sym at.frames, sym at.looping, sym en ∙ nt, sym ek ∙ nc) pieces)
+          whole-laid section_lay h (wrote_patched w6 s e.at es (let z : e.at - 0 ≡ e.at = omega arith in rw z at e6)) (rw (end, from, table_at, sym at.frames, sym at.looping, sym en ∙ nt, sym ek ∙ nc) pieces)

@@ -7,18 +7,18 @@ use mathlib.Core.Logic.{inl, inr}
 use native.Mathlib.Nat.{add-zero}
 use native.Mathlib.Omega.{arith}
 use lib.ListN.{length, replicate, length-append, length-replicate}
-use lib.Seq.{sets}
+use lib.Seq.{sets, length-sets}
 use Rattle.base.specs.Number.{le, put}
 use Rattle.base.specs.Placeholder.{entry_at}
 use Rattle.base.proofs.Apart.{sets_past}
-use Rattle.base.proofs.Numbers.{length-le, patch_late}
+use Rattle.base.proofs.Numbers.{length-le, length-put, patch_late}
 use Rattle.base.proofs.Placeholders.{entry_there}
 use Rattle.base.proofs.Stores.{sets-append, sets_over}
-use Rattle.bflan.specs.declared.writer.Pen.{Pen}
+use Rattle.bflan.specs.declared.writer.Writer.{Writer}
 use Rattle.bflan.specs.Judge.{Judged, fine, bad_word, bad_text, J, times}
 use Rattle.bflan.specs.Layout.{Layout, number, bytes, ◌⨾◌, size, written, parts, table}
 use Rattle.bflan.specs.Limits.{limit}
-use Rattle.bflan.specs.inner.Pen.{Ready, laid, pen_behind, listed}
+use Rattle.bflan.specs.inner.Pen.{Pen, moved, next, Ready, laid, pen_behind, HasNext, behind, listed}
 use Rattle.bflan.proofs.judge.Inversion.{times_more, times-length}
 use Rattle.bflan.proofs.judge.Laws.{fine_to}
 use Rattle.bflan.proofs.Layouts.{size-written, size-table}
@@ -64,6 +64,42 @@ wrote_patched {l} {o} {at} {k} {m} {a} {b} h p n {r} e f =
 -- what a stored part leaves: the place behind it, and the bytes
 abbrev pub Leaves : {A : Type 0} → (A → Layout) → Judged A → ℕ → List ℕ → Pen → List ℕ → Type 0
 Leaves lay r at out u o = (u ≡ pen_behind lay r at) × (o ≡ laid lay r at out)
+
+-- the writer behind a part, by what storing the part leaves
+pub wrote_behind : {A : Type 0} (lay : A → Layout) (r : Judged A) (w : Writer) {u : Pen} {o : List ℕ} → Leaves lay r w.at w.out.now u o
+    → moved w u o ≡ moved w (pen_behind lay r w.at) (laid lay r w.at w.out.now)
+wrote_behind lay r w (a, b) = rw (a, b)
+
+-- a writer that moved to the same place, with the same bytes
+pub moved_alike : (w : Writer) {u v : Pen} {o m : List ℕ} → u ≡ v → o ≡ m → moved w u o ≡ moved w v m
+moved_alike w a b = rw (a, b)
+
+-- a writer that moved, and moves on
+pub moved_on : (w : Writer) {v : Writer} {q : Pen} {o : List ℕ} → v ≡ moved w q o → (u : Pen) (m : List ℕ) → moved v u m ≡ moved w u m
+moved_on w e u m = rw e
+
+-- a pen, by its two places that change
+pub pen_alike : {i j b at a : ℕ} → i ≡ j → at ≡ a → ◌≡◌ {A = Pen} (record { word = i; byte = b; at = at }) (record { word = j; byte = b; at = a })
+pen_alike e f = rw (e, f)
+
+pub length-laid : {A : Type 0} (lay : A → Layout) (r : Judged A) (at : ℕ) (out : List ℕ) → length (laid lay r at out) ≡ length out
+unfolding laid
+length-laid lay (fine a i j) at out = length-sets out at (written (lay a))
+length-laid lay (bad_word i) at out = refl
+length-laid lay (bad_text j) at out = refl
+
+-- where a writer stands, its record, and its section
+abbrev pub pen_of : Writer → Pen
+pen_of w = record { word = w.word; byte = w.byte; at = w.at }
+
+abbrev pub words_of : Writer → List ℕ
+words_of w = w.words.now
+
+abbrev pub texts_of : Writer → List ℕ
+texts_of w = w.texts.now
+
+abbrev pub stored_of : Writer → List ℕ
+stored_of w = w.out.now
 
 -- ---- what was judged fine
 
@@ -239,33 +275,27 @@ module _ {X : Type 0} (p : J X) (lay : X → Layout) (w x : List ℕ) where
   none-laid zero i j at out l = refl
   none-laid (suc n) i j at out l = absurd (omega arith)
 
--- a loop over a run of n, from q₀ and out₀ on: what is left, from here, is what all of it is, from the start
-pub record Running {X : Type 0} (p : J X) (lay : X → Layout) (w x : List ℕ) (n : ℕ) (q₀ : Pen) (out₀ : List ℕ) (left : ℕ) (q : Pen) (out : List ℕ) : Type 0 where
-  pub ready : Ready (parts lay) (times left p w x q.word q.byte) q.at (length out)
-  pub long : length out ≡ length out₀
-  pub ends : pen_behind (parts lay) (times left p w x q.word q.byte) q.at ≡ pen_behind (parts lay) (times n p w x q₀.word q₀.byte) q₀.at
-  pub same : laid (parts lay) (times left p w x q.word q.byte) q.at out ≡ laid (parts lay) (times n p w x q₀.word q₀.byte) q₀.at out₀
+-- a loop over a run of n, from w₀ on: what is left, from here, is what all of it is, from the start
+pub record Running {X : Type 0} (p : J X) (lay : X → Layout) (n : ℕ) (w₀ : Writer) (left : ℕ) (w : Writer) : Type 0 where
+  pub ready : HasNext (parts lay) (times left p) w
+  pub ends : behind (parts lay) (times left p) w ≡ behind (parts lay) (times n p) w₀
 
-module _ {X : Type 0} {p : J X} {lay : X → Layout} {w x : List ℕ} {n : ℕ} {q₀ : Pen} {out₀ : List ℕ} where
-  module _ {left : ℕ} {q : Pen} {out : List ℕ} (h : Running p lay w x n q₀ out₀ left q out) where
-    pub running_first : 0 < left → Ready lay (p w x q.word q.byte) q.at (length out)
-    running_first l = first_of p lay w x left q.word q.byte q.at l h.ready
+module _ {X : Type 0} {p : J X} {lay : X → Layout} {n : ℕ} {w₀ : Writer} {left : ℕ} {w : Writer} (h : Running p lay n w₀ left w) where
+  pub running_first : 0 < left → HasNext lay p w
+  running_first l = first_of p lay w.words.now w.texts.now left w.word w.byte w.at l h.ready
 
-    pub running_turn : 0 < left → {u : Pen} {m : List ℕ} → Leaves lay (p w x q.word q.byte) q.at out u m
-        → length m ≡ length out → Running p lay w x n q₀ out₀ (left - 1) u m
-    running_turn l {u} (e, f) g =
-        let s = times_splits p lay w x left q.word q.byte q.at l h.ready u e in
-        record {
-          ready = rw g (rest_ready s q.at h.ready u e);
-          long = g ∙ h.long;
-          ends = split_behind s q.at u e ∙ h.ends;
-          same = rw f (split_laid s q.at u e out) ∙ h.same;
-        }
+  pub running_turn : 0 < left → {u : Writer} → u ≡ behind lay p w → Running p lay n w₀ (left - 1) u
+  running_turn l e =
+      let q : Pen = pen_behind lay (next p w) w.at in
+      let s = times_splits p lay w.words.now w.texts.now left w.word w.byte w.at l h.ready q refl in
+      record {
+        ready = rw e (ready_in (length-laid lay (next p w) w.at w.out.now) (rest_ready s w.at h.ready q refl));
+        ends = rw e (moved_alike w (split_behind s w.at q refl) (split_laid s w.at q refl w.out.now)) ∙ h.ends;
+      }
 
-    pub running_end : left ≤ 0
-        → Leaves (parts lay) (times n p w x q₀.word q₀.byte) q₀.at out₀ q out
-    running_end l =
-        (sym (none-behind p lay w x left q.word q.byte q.at l) ∙ h.ends, sym (none-laid p lay w x left q.word q.byte q.at out l) ∙ h.same)
+  pub running_end : left ≤ 0 → w ≡ behind (parts lay) (times n p) w₀
+  running_end l =
+      sym (moved_alike w (none-behind p lay w.words.now w.texts.now left w.word w.byte w.at l) (none-laid p lay w.words.now w.texts.now left w.word w.byte w.at w.out.now l)) ∙ h.ends
 
 -- ---- behind a table of offsets
 
@@ -318,18 +348,15 @@ module _ {X : Type 0} (lay : X → Layout) (base : ℕ) where
       stores_between out tab (tab + 4) at u (le 4 (at - base)) (written (table lay (u - base) zs)) (written (lay y)) (written (parts lay zs)) a b (omega (arith, n, g))
       ∙ ap (λ (k : ℕ). sets (sets out tab (le 4 (at - base) ++ written (table lay k zs))) at (written (lay y) ++ written (parts lay zs))) f
 
-module _ {X : Type 0} (p : J X) (lay : X → Layout) (w x : List ℕ) (base : ℕ) where
-  -- a loop over a run of n with its table at `tab`, i of them stored: what is left, from here, is what all of it is, from the start
-  pub record Going (n tab : ℕ) (q₀ : Pen) (out₀ : List ℕ) (i : ℕ) (q : Pen) (out : List ℕ) : Type 0 where
-    pub ready : Ready (parts lay) (times (n - i) p w x q.word q.byte) q.at (length out)
-    pub apart : tab + 4 * n ≤ q.at
-    pub above : base ≤ q.at
-    pub long : length out ≡ length out₀
-    pub ends : pen_behind (parts lay) (times (n - i) p w x q.word q.byte) q.at
-        ≡ pen_behind (listed lay (tab + 4 * n - base)) (times n p w x q₀.word q₀.byte) tab
-    pub same : tabled lay base (times (n - i) p w x q.word q.byte) (tab + 4 * i) q.at out
-        ≡ laid (listed lay (tab + 4 * n - base)) (times n p w x q₀.word q₀.byte) tab out₀
+-- a loop over a run of n with its table at `tab`, i of them stored: what is left, from here, is what all of it is, from the start
+pub record Going {X : Type 0} (p : J X) (lay : X → Layout) (base n tab : ℕ) (w₀ : Writer) (i : ℕ) (w : Writer) : Type 0 where
+  pub ready : HasNext (parts lay) (times (n - i) p) w
+  pub apart : tab + 4 * n ≤ w.at
+  pub above : base ≤ w.at
+  pub ends : moved w (pen_behind (parts lay) (next (times (n - i) p) w) w.at) (tabled lay base (next (times (n - i) p) w) (tab + 4 * i) w.at w.out.now)
+      ≡ moved w₀ (pen_behind (listed lay (tab + 4 * n - base)) (next (times n p) w₀) tab) (laid (listed lay (tab + 4 * n - base)) (next (times n p) w₀) tab w₀.out.now)
 
+module _ {X : Type 0} (p : J X) (lay : X → Layout) (w x : List ℕ) (base : ℕ) where
   turned : (left tab : ℕ) (q u : Pen) {most : ℕ} (out v m : List ℕ) → 0 < left → base ≤ q.at → tab + 4 * left ≤ q.at
       → Ready (parts lay) (times left p w x q.word q.byte) q.at most
       → v ≡ put 4 out tab (q.at - base) → u ≡ pen_behind lay (p w x q.word q.byte) q.at → m ≡ laid lay (p w x q.word q.byte) q.at v
@@ -356,79 +383,80 @@ module _ {X : Type 0} (p : J X) (lay : X → Layout) (w x : List ℕ) (base : �
   stopped (suc n) i j tab at out l = absurd (omega arith)
 
 -- from where the writing stands, behind the table, to where it is after a turn
-module _ {X : Type 0} {p : J X} {lay : X → Layout} {w x : List ℕ} {base n tab i : ℕ} {q₀ q : Pen} {out₀ out : List ℕ} (h : Going p lay w x base n tab q₀ out₀ i q out) (l : i < n) where
-  pub going_first : {most : ℕ} → most ≡ length out → Ready lay (p w x q.word q.byte) q.at most
-  going_first e = ready_in e (first_of p lay w x (n - i) q.word q.byte q.at (omega arith) h.ready)
+module _ {X : Type 0} {p : J X} {lay : X → Layout} {base n tab i : ℕ} {w₀ w : Writer} (h : Going p lay base n tab w₀ i w) (l : i < n) where
+  pub going_first : {most : ℕ} → most ≡ length w.out.now → Ready lay (next p w) w.at most
+  going_first e = ready_in e (first_of p lay w.words.now w.texts.now (n - i) w.word w.byte w.at (omega arith) h.ready)
 
-  pub going_turn : {c : ℕ} → c ≡ n → {v m : List ℕ} {u : Pen} → v ≡ put 4 out (entry_at tab c i) (q.at - base)
-      → Leaves lay (p w x q.word q.byte) q.at v u m → length m ≡ length out
-      → Going p lay w x base n tab q₀ out₀ (i + 1) u m
-  going_turn {c} ec {v} {m} {u} d (e, f) g =
+  pub going_turn : {c : ℕ} → c ≡ n → {v : List ℕ} {u : Writer} → v ≡ put 4 w.out.now (entry_at tab c i) (w.at - base)
+      → u ≡ moved w (pen_behind lay (next p w) w.at) (laid lay (next p w) w.at v)
+      → Going p lay base n tab w₀ (i + 1) u
+  going_turn {c} ec {v} d e =
       let k : 0 < n - i = omega (arith, l) in
-      let s = times_splits p lay w x (n - i) q.word q.byte q.at k h.ready u e in
-      let a : u.at ≡ q.at + size (lay s.first) = ap (λ (z : Pen). z.at) (e ∙ behind-fine lay s.starts q.at) in
+      let q : Pen = pen_behind lay (next p w) w.at in
+      let s = times_splits p lay w.words.now w.texts.now (n - i) w.word w.byte w.at k h.ready q refl in
+      let a : q.at ≡ w.at + size (lay s.first) = ap (λ (z : Pen). z.at) (behind-fine lay s.starts w.at) in
       let there : entry_at tab c i ≡ tab + 4 * i = rw ec (entry_there tab n i l (omega (arith, h.apart, h.ready.short, l))) in
       let one : n - (i + 1) ≡ n - i - 1 = omega arith in
-      let next : tab + 4 * (i + 1) ≡ tab + 4 * i + 4 = omega arith in
+      let after : tab + 4 * (i + 1) ≡ tab + 4 * i + 4 = omega arith in
+      let long : length (laid lay (next p w) w.at v) ≡ length w.out.now = length-laid lay (next p w) w.at v ∙ rw d (length-put 4 w.out.now (entry_at tab c i) (w.at - base)) in
       record {
-        ready = rw (one, g) (rest_ready s q.at h.ready u e);
-        apart = omega (arith, h.apart, a);
-        above = omega (arith, h.above, a);
-        long = g ∙ h.long;
-        ends = rw one (split_behind s q.at u e ∙ h.ends);
-        same = rw (one, next) (turned p lay w x base (n - i) (tab + 4 * i) q u out v m k h.above (omega (arith, h.apart, l)) h.ready (rw there at d) e f ∙ h.same);
+        ready = rw (e, one) (ready_in long (rest_ready s w.at h.ready q refl));
+        apart = rw e (omega (arith, h.apart, a));
+        above = rw e (omega (arith, h.above, a));
+        ends = rw (e, one, after)
+            (moved_alike w (split_behind s w.at q refl)
+            (turned p lay w.words.now w.texts.now base (n - i) (tab + 4 * i) (pen_of w) q w.out.now v (laid lay (next p w) w.at v) k h.above (omega (arith, h.apart, l)) h.ready (rw there at d) refl refl))
+            ∙ h.ends;
       }
 
--- behind a table of n entries
-abbrev pub behind_table : Pen → ℕ → Pen
-behind_table s n = record { word = s.word; byte = s.byte; at = s.at + 4 * n }
+-- behind a table of n entries, which are stored in m
+abbrev pub behind_table : Writer → ℕ → List ℕ → Writer
+behind_table w n m = record w { at = w.at + 4 * n; out = record w.out { now = m } }
 
 -- from where the writing stands before the table, whose places are held by zeros
-module _ {X : Type 0} {p : J X} {lay : X → Layout} {w x : List ℕ} {base n tab : ℕ} {m : List ℕ} (s : Pen) {most : ℕ}
-    (h : Ready (listed lay (s.at + 4 * n - base)) (times n p w x s.word s.byte) s.at most) (e : tab ≡ s.at) where
-  pub going_start : base ≤ s.at → length m ≡ most → Going p lay w x base n tab (behind_table s n) m 0 (behind_table s n) m
+module _ {X : Type 0} {p : J X} {lay : X → Layout} {base n tab : ℕ} {m : List ℕ} (w : Writer)
+    (h : HasNext (listed lay (w.at + 4 * n - base)) (times n p) w) (e : tab ≡ w.at) where
+  pub going_start : base ≤ w.at → length m ≡ length w.out.now → Going p lay base n tab (behind_table w n m) 0 (behind_table w n m)
   going_start b g =
-      let k = listed-size lay (s.at + 4 * n - base) h.value in
-      let c = times-length p w x n s.word s.byte h.judged in
-      let a : s.at + 4 * n + size (parts lay h.value) ≡ s.at + size (listed lay (s.at + 4 * n - base) h.value) = omega (arith, k, c) in
+      let k = listed-size lay (w.at + 4 * n - base) h.value in
+      let c = times-length p w.words.now w.texts.now n w.word w.byte h.judged in
+      let a : w.at + 4 * n + size (parts lay h.value) ≡ w.at + size (listed lay (w.at + 4 * n - base) h.value) = omega (arith, k, c) in
       let z : n - 0 ≡ n = omega arith in
-      let t : tab + 4 * 0 ≡ s.at = omega (arith, e) in
+      let t : tab + 4 * 0 ≡ w.at = omega (arith, e) in
       record {
         ready = rw z (record { value = h.value; word = h.word; byte = h.byte; judged = h.judged; room = rw (a, g) h.room; short = rw a h.short });
         apart = omega (arith, e);
         above = omega (arith, b);
-        long = refl;
-        ends = rw (z, e)
-            (behind-fine (parts lay) h.judged (s.at + 4 * n)
+        ends = rw (z, t, e)
+            (moved_alike w
+            (behind-fine (parts lay) h.judged (w.at + 4 * n)
             ∙ ap (λ (g : ℕ). record { word = h.word; byte = h.byte; at = g }) a
-            ∙ sym (behind-fine (listed lay (s.at + 4 * n - base)) h.judged s.at));
-        same = rw (z, t, e)
-            (tabled_fine lay base h.judged s.at (s.at + 4 * n) m
-            ∙ listed_stored lay (s.at + 4 * n - base) h.value m s.at (s.at + 4 * n) (rw c refl)
-            ∙ sym (laid-fine (listed lay (s.at + 4 * n - base)) h.judged s.at m));
+            ∙ sym (behind-fine (listed lay (w.at + 4 * n - base)) h.judged w.at))
+            (tabled_fine lay base h.judged w.at (w.at + 4 * n) m
+            ∙ listed_stored lay (w.at + 4 * n - base) h.value m w.at (w.at + 4 * n) (rw c refl)
+            ∙ sym (laid-fine (listed lay (w.at + 4 * n - base)) h.judged w.at m)));
       }
 
   -- at the end the zeros are all stored over
-  pub going_end : (out : List ℕ) → m ≡ sets out s.at (replicate (4 * n) 0) → {i : ℕ} {q : Pen} {o : List ℕ} → Going p lay w x base n tab (behind_table s n) m i q o → n ≤ i
-      → (q ≡ pen_behind (listed lay (s.at + 4 * n - base)) (times n p w x s.word s.byte) s.at)
-      × (o ≡ laid (listed lay (s.at + 4 * n - base)) (times n p w x s.word s.byte) s.at out)
-  going_end out f {i} {q} {o} k l =
+  pub going_end : m ≡ sets w.out.now w.at (replicate (4 * n) 0) → {i : ℕ} {u : Writer} → Going p lay base n tab (behind_table w n m) i u → n ≤ i
+      → u ≡ behind (listed lay (w.at + 4 * n - base)) (times n p) w
+  going_end f {i} {u} k l =
       let z : n - i ≤ 0 = omega (arith, l) in
       let g = length-replicate {A = ℕ} (4 * n) 0 in
-      let y = listed-size lay (s.at + 4 * n - base) h.value in
-      let b = size-written (listed lay (s.at + 4 * n - base) h.value) in
-      let c = times-length p w x n s.word s.byte h.judged in
-      let over : laid (listed lay (s.at + 4 * n - base)) (times n p w x s.word s.byte) s.at m
-      ≡ laid (listed lay (s.at + 4 * n - base)) (times n p w x s.word s.byte) s.at out =
+      let y = listed-size lay (w.at + 4 * n - base) h.value in
+      let b = size-written (listed lay (w.at + 4 * n - base) h.value) in
+      let c = times-length p w.words.now w.texts.now n w.word w.byte h.judged in
+      let over : laid (listed lay (w.at + 4 * n - base)) (next (times n p) w) w.at m
+      ≡ laid (listed lay (w.at + 4 * n - base)) (next (times n p) w) w.at w.out.now =
       rw (
-        laid-fine (listed lay (s.at + 4 * n - base)) h.judged s.at m,
-        laid-fine (listed lay (s.at + 4 * n - base)) h.judged s.at out,
+        laid-fine (listed lay (w.at + 4 * n - base)) h.judged w.at m,
+        laid-fine (listed lay (w.at + 4 * n - base)) h.judged w.at w.out.now,
         f,
       )
-      (sets_over out s.at (replicate (4 * n) 0) (written (listed lay (s.at + 4 * n - base) h.value)) (omega (arith, g, y, b, c))) in (
-        rw (← e) (sym (none-behind p lay w x (n - i) q.word q.byte q.at z) ∙ k.ends),
-        sym (stopped p lay w x base (n - i) q.word q.byte (tab + 4 * i) q.at o z) ∙ k.same ∙ rw e over,
-      )
+      (sets_over w.out.now w.at (replicate (4 * n) 0) (written (listed lay (w.at + 4 * n - base) h.value)) (omega (arith, g, y, b, c))) in
+      sym (moved_alike u (none-behind p lay u.words.now u.texts.now (n - i) u.word u.byte u.at z) (stopped p lay u.words.now u.texts.now base (n - i) u.word u.byte (tab + 4 * i) u.at u.out.now z))
+      ∙ k.ends
+      ∙ rw e (moved_alike w refl over)
 
 -- where its parts start
 pub listed-fits : {X : Type 0} (p : J X) (lay : X → Layout) (w x : List ℕ) (from n i j : ℕ) {at most : ℕ} → Ready (listed lay from) (times n p w x i j) at most → at + 4 * n ≤ limit

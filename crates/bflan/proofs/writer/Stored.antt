@@ -1,43 +1,20 @@
--- Numbers and texts as they are stored, of any format: single fields, a row of numbers, and a text with what is behind it.
+-- Numbers and texts as they are stored, of any format: a row of numbers, and a text with what is behind it.
 -- Assumes nothing.
-use Prim.Native.Nat.{ℕ, zero, suc, ◌+◌, ◌*◌, ◌/◌, ◌%◌, ◌^◌, ◌≤◌, ◌<◌}
+use Prim.Native.Nat.{ℕ, ◌+◌, ◌≤◌, ◌<◌}
 use mathlib.Core.Path.{◌≡◌, refl, sym, ap, ◌∙◌}
 use mathlib.Core.Bool.{Bool, true}
 use mathlib.Core.List.{List, [], ◌∷◌}
-use native.Mathlib.Nat.{mul_assoc, mod-add-div, pow-succ'}
 use native.Mathlib.Omega.{arith}
 use lib.ListN.{length, get_or, take, drop}
 use lib.Seq.{sets}
-use Rattle.base.specs.Number.{le, put}
-use Rattle.base.proofs.Numbers.{put-put}
-use Rattle.bflan.specs.declared.writer.Pen.{Pen}
+use Rattle.base.specs.Number.{put}
 use Rattle.bflan.specs.Judge.{next_text, wide}
 use Rattle.bflan.specs.Layout.{Layout, number, bytes, ◌⨾◌, size, written, row as rowLay, ended}
 use Rattle.bflan.specs.Limits.{limit}
-use Rattle.bflan.specs.inner.Pen.{Ready}
+use Rattle.bflan.specs.inner.Pen.{Pen, Ready}
 use Rattle.bflan.proofs.judge.Laws.{TextAt, text_at}
 use Rattle.bflan.proofs.reader.Rows.{offset_by, offset_is}
 use Rattle.bflan.proofs.writer.Pens.{Leaves, Wrote, wrote_number, wrote_bytes, wrote_then, whole-laid, whole-behind}
-
--- ---- single fields
-
--- the lowest k bytes
-low : (k a q : ℕ) → le k (a + 256 ^ k * q) ≡ le k a
-unfolding le
-low zero a q = refl
-low (suc k) a q =
-    let e : 256 ^ suc k * q ≡ 256 * (256 ^ k * q) = rw (pow-succ', mul_assoc) in
-    let m : (a + 256 ^ suc k * q) % 256 ≡ a % 256 = omega (arith, e) in
-    let d : (a + 256 ^ suc k * q) / 256 ≡ a / 256 + 256 ^ k * q = omega (arith, e) in
-    rw (m, d, low k (a / 256) q)
-
-pub put_low : (k : ℕ) (s : List ℕ) (at v : ℕ) → put k s at (v % 256 ^ k) ≡ put k s at v
-unfolding put
-put_low k s at v = ap (sets s at) (sym (low k (v % 256 ^ k) (v / 256 ^ k)) ∙ ap (le k) (mod-add-div v (256 ^ k)))
-
--- a place that was held and patched
-pub offset_stored : (l : List ℕ) (at p v : ℕ) {m o : List ℕ} → p ≡ at → m ≡ put 4 l at 0 → o ≡ put 4 m p v → o ≡ put 4 l at v
-offset_stored l at p v e f g = g ∙ rw (e, f) (put-put 4 l at 0 v)
 
 -- ---- a row of numbers, stored one after another: the first of them o behind at
 

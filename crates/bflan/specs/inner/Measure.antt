@@ -2,11 +2,14 @@
 use Rattle.std.specs.Prelude.{ℕ, zero, suc, ◌+◌, Bool, ◌&&◌, List, Result, Ok, Err, ltb, length, get_or}
 use Rattle.base.specs.Choice.{pick}
 use Rattle.base.specs.Fill.{padding_of}
+use Rattle.bflan.specs.declared.curve.Curve.{Curve}
 use Rattle.bflan.specs.declared.judge.Mark.{Mark}
 use Rattle.bflan.specs.declared.judge.Misfit.{Misfit}
-use Rattle.bflan.specs.declared.judge.Place.{Place}
+use Rattle.bflan.specs.declared.judge.Rest.{Rest}
 use Rattle.bflan.specs.declared.judge.Misfit.TheVariants.{Word, Text}
-use Rattle.bflan.specs.Judge.{Judged, fine, bad_word, bad_text}
+use Rattle.bflan.specs.Judge.{Judged, fine, bad_word, bad_text, J}
+use Rattle.bflan.specs.Layout.{Layout, size}
+use Rattle.bflan.specs.pai1.Curves.{curve_number}
 use Rattle.bflan.specs.inner.Walk.{sat}
 
 -- with the size that a value has
@@ -14,6 +17,14 @@ unfoldable pub verdict_of : {A : Type 0} → (A → ℕ) → Judged A → Result
 verdict_of size (fine a i j) = Ok (record { at = record { word = i; byte = j }; size = sat (size a) })
 verdict_of size (bad_word i) = Err (Word i)
 verdict_of size (bad_text j) = Err (Text j)
+
+-- what comes next, as it is judged
+abbrev pub next : {A : Type 0} → J A → Rest → Judged A
+next p r = p r.words.now r.texts.now r.at.word r.at.byte
+
+-- with the bytes that it has in the section
+abbrev pub measured : {A : Type 0} → (A → Layout) → J A → Rest → Result Mark Misfit
+measured lay p r = verdict_of (λ a. size (lay a)) (next p r)
 
 -- a word is there and the test holds of it
 unfoldable pub fits : (ℕ → Bool) → List ℕ → ℕ → Bool
@@ -23,9 +34,18 @@ fits test w i = ltb i (length w) && test (get_or w i 0)
 unfoldable pub word_if : (ℕ → Bool) → List ℕ → ℕ → Result ℕ Misfit
 word_if test w i = pick (fits test w i) (Ok (get_or w i 0)) (Err (Word i))
 
--- a place behind n more words
-abbrev pub past : ℕ → Place → Place
-past n p = record { word = p.word + n; byte = p.byte }
+-- a curve as its number
+abbrev pub numbered : Result Curve Misfit → Result ℕ Misfit
+numbered (Ok curve) = Ok (curve_number curve)
+numbered (Err e) = Err e
+
+-- a record behind its next n words
+abbrev pub past : ℕ → Rest → Rest
+past n r = record r { at = record { word = r.at.word + n; byte = r.at.byte } }
+
+-- behind a part
+abbrev pub behind : Mark → Rest → Rest
+behind m r = record r { at = m.at }
 
 -- n bytes more
 abbrev pub mark_grown : ℕ → Mark → Mark
@@ -51,7 +71,7 @@ unfoldable pub onward : Result Mark Misfit → (Mark → Result Mark Misfit) →
 onward (Ok m) rest = grown m.size (rest m)
 onward (Err e) rest = Err e
 
--- n parts one after another, by what is answered of a part at a word and a text byte
-unfoldable pub each : (ℕ → ℕ → Result Mark Misfit) → ℕ → ℕ → ℕ → Result Mark Misfit
-each part zero i j = Ok (record { at = record { word = i; byte = j }; size = 0 })
-each part (suc n) i j = onward (part i j) (λ m. each part n m.at.word m.at.byte)
+-- n parts one after another, by what is answered of each
+unfoldable pub each : (Rest → Result Mark Misfit) → ℕ → Rest → Result Mark Misfit
+each part zero r = Ok (record { at = r.at; size = 0 })
+each part (suc n) r = onward (part r) (λ m. each part n (behind m r))

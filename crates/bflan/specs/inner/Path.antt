@@ -33,11 +33,6 @@ after_base (stop f) = None
 unfoldable pub datum_base : List ℕ → ℕ → ℕ → Option ℕ
 datum_base s b d = pick (eqb (get 4 s b) fleu) (pick (ltb d (get 1 s (b + 4))) (after_base (many d datum s (b + 8))) None) None
 
--- one step after another
-unfoldable pub info_under : List ℕ → Option ℕ → ℕ → Option ℕ
-info_under s (Some b) i = info_base s b i
-info_under s None i = None
-
 -- ---- what stands in a section that reads
 
 -- the target that starts at b, and its keys

@@ -1,10 +1,24 @@
 -- What the walk that writes leaves of a part that was judged fine, and where it stands then.
-use Rattle.std.specs.Prelude.{ℕ, ◌+◌, ◌≤◌, ◌≡◌, List}
+use Rattle.std.specs.Prelude.{ℕ, ◌+◌, ◌≤◌, ◌≡◌, List, length}
 use Rattle.std.proofs.lemmas.List.Edits.{sets}
-use Rattle.bflan.specs.declared.writer.Pen.{Pen}
-use Rattle.bflan.specs.Judge.{Judged, fine, bad_word, bad_text}
+use Rattle.bflan.specs.declared.writer.Writer.{Writer}
+use Rattle.bflan.specs.Judge.{Judged, fine, bad_word, bad_text, J}
 use Rattle.bflan.specs.Layout.{Layout, ◌⨾◌, size, written, parts, table}
 use Rattle.bflan.specs.Limits.{limit}
+
+-- where the writing stands: the next word, the next text byte, and the next byte of the section
+pub record Pen : Type 0 where
+  pub word : ℕ
+  pub byte : ℕ
+  pub at : ℕ
+
+-- a writer with another pen, and other bytes in its section
+abbrev pub moved : Writer → Pen → List ℕ → Writer
+moved w q out = record w { word = q.word; byte = q.byte; at = q.at; out = record w.out { now = out } }
+
+-- what comes next in a writer's record, as it is judged
+abbrev pub next : {A : Type 0} → J A → Writer → Judged A
+next p w = p w.words.now w.texts.now w.word w.byte
 
 module _ {A : Type 0} (lay : A → Layout) where
   -- a part that was judged fine and has room from `at` on in a list of `most` bytes
@@ -27,6 +41,14 @@ module _ {A : Type 0} (lay : A → Layout) where
   pen_behind (fine a i j) at = record { word = i; byte = j; at = at + size (lay a) }
   pen_behind (bad_word i) at = record { word = 0; byte = 0; at = at }
   pen_behind (bad_text j) at = record { word = 0; byte = 0; at = at }
+
+  -- the next part was judged fine, and has room
+  abbrev pub HasNext : J A → Writer → Type 0
+  HasNext p w = Ready (next p w) w.at (length w.out.now)
+
+  -- the writer behind that part
+  abbrev pub behind : J A → Writer → Writer
+  behind p w = moved w (pen_behind (next p w) w.at) (laid (next p w) w.at w.out.now)
 
 -- parts behind the table of their offsets, the first of which is `from`
 unfoldable pub listed : {X : Type 0} → (X → Layout) → ℕ → List X → Layout

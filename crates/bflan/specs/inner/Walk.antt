@@ -1,13 +1,13 @@
--- What a walk over a section leaves behind: its tally, and the two tables, by the items that it met.
-use Rattle.std.specs.Prelude.{Result, Ok, Err, ℕ, min, ◌+◌, ◌-◌, List, [], ◌∷◌, map, eqb, length}
+-- What a walk over a section leaves behind: the two tables, and what was counted, by the items that it met.
+use Rattle.std.specs.Prelude.{Result, Ok, Err, Option, Some, None, ℕ, min, ◌+◌, ◌-◌, List, [], ◌∷◌, map, eqb, length}
 use Rattle.std.proofs.Math.Seq.{slice}
 use Rattle.std.proofs.lemmas.List.Edits.{sets}
 use Rattle.base.specs.Choice.{pick}
 use Rattle.base.specs.Utf8.{replacements}
-use Rattle.base.specs.declared.error.PastEnd.{PastEnd as Past}
 use Rattle.bflan.specs.declared.fault.Fault.{Fault}
+use Rattle.bflan.specs.declared.reader.tally.Tables.{Tables}
 use Rattle.bflan.specs.declared.reader.tally.Tally.{Tally}
-use Rattle.bflan.specs.Reader.{past_fault, Res, ok, stop, Item, word, text}
+use Rattle.bflan.specs.Reader.{Res, ok, stop, Item, word, text}
 use Rattle.bflan.specs.Items.{shown_at, words_of, texts_of}
 
 -- numbers as items: a word each
@@ -51,22 +51,39 @@ tallied s t [] = t
 tallied s t (word v ∷ is) = tallied s (with_words t 1) is
 tallied s t (text a n ∷ is) = tallied s (with_text_of s t a n) is
 
--- a walk goes on with a tally at a position, or is stopped
+-- ---- the tables
+
+-- with these items behind what they have
+abbrev pub after : List ℕ → Tables → List Item → Tables
+after s t is =
+    record t {
+      words = record t.words { now = sets t.words.now t.tally.words (words_of s is) };
+      texts = record t.texts { now = sets t.texts.now t.tally.bytes (texts_of s is) };
+      tally = tallied s t.tally is;
+    }
+
+-- ---- a walk: its answer and, where it goes on, the tables then
+
+-- it goes on at a position, or is stopped
 abbrev pub Walk : Type 0
-Walk = Result (Tally × ℕ) Fault
+Walk = Result ℕ Fault
 
--- a walk after a run of n words
-unfoldable pub after_run : Result ℕ Past → Tally → ℕ → Walk
-after_run (Ok next) t n = Ok (with_words t n, next)
-after_run (Err e) t n = Err (past_fault e)
-
--- ---- a walk over two tables: its answer and, where it goes on, the tables then
-
-unfoldable pub walk_of : List ℕ → Tally → List ℕ → List ℕ → Res (List Item) → Walk × List ℕ × List ℕ
-walk_of s t w x (ok is p) = (Ok (tallied s t is, p), sets w t.words (words_of s is), sets x t.bytes (texts_of s is))
-walk_of s t w x (stop f) = (Err f, [], [])
+unfoldable pub walk_of : List ℕ → Tables → Res (List Item) → Walk × Option Tables
+walk_of s t (ok is p) = (Ok p, Some (after s t is))
+walk_of s t (stop f) = (Err f, None)
 
 -- the same as the code has it: of a walk that was stopped the tables don't count
-unfoldable pub walked : Walk → List ℕ → List ℕ → Walk × List ℕ × List ℕ
-walked (Ok on) w x = (Ok on, w, x)
-walked (Err f) w x = (Err f, [], [])
+unfoldable pub walked : Walk → Tables → Walk × Option Tables
+walked (Ok p) t = (Ok p, Some t)
+walked (Err f) t = (Err f, None)
+
+-- ---- a walk over a whole reading into two lists: what it counted and, where it went through, the lists then. Text k is wanted
+
+unfoldable pub read_into : List ℕ → ℕ → List ℕ → List ℕ → Res (List Item) → Result Tally Fault × Option (List ℕ × List ℕ)
+read_into s k w x (ok is p) = (Ok (tallied s (empty_tally k) is), Some (sets w 0 (words_of s is), sets x 0 (texts_of s is)))
+read_into s k w x (stop f) = (Err f, None)
+
+-- the same as the code has it
+unfoldable pub told : Result Tally Fault → List ℕ → List ℕ → Result Tally Fault × Option (List ℕ × List ℕ)
+told (Ok t) w x = (Ok t, Some (w, x))
+told (Err f) w x = (Err f, None)

@@ -3,6 +3,8 @@
 use Rattle.std.specs.Prelude.{ℕ, zero, suc, ◌+◌, ◌*◌, ◌^◌, Bool, true, false, ◌&&◌, List, [], ◌∷◌, eqb, leb, ltb, length, get_or}
 use Rattle.base.specs.Choice.{pick}
 use Rattle.base.specs.Number.{get}
+use Rattle.bflan.specs.declared.curve.Curve.{Curve}
+use Rattle.bflan.specs.declared.curve.Curve.TheVariants.{Constant, Step, Hermite}
 use Rattle.bflan.specs.declared.place.Place.{Place}
 use Rattle.bflan.specs.declared.place.Place.TheVariants.{FrameCount, Looping, Layer, Target, Key, Value}
 use Rattle.bflan.specs.declared.place.Field.{Field}
@@ -61,14 +63,22 @@ pub data Spot : Type 0 where
 unfoldable pub stride : ℕ → ℕ
 stride curve = total (key_widths curve) + key_skip curve
 
+-- the curve that reading has for a number: one above 2 is a Constant's
+abbrev pub curve_by : ℕ → Curve
+curve_by zero = Constant
+curve_by (suc zero) = Step
+curve_by (suc (suc zero)) = Hermite
+curve_by (suc (suc (suc n))) = Constant
+
 -- the target that starts at b, as reading has it: its curve and key count, and where its keys begin
 abbrev pub track_at : List ℕ → ℕ → Track
 track_at s b =
-    record { start = b; curve = curve_of (get 1 s (b + 2)); count = count_of (get 1 s (b + 2)) (get 2 s (b + 4)); keys = b + get 4 s (b + 8) }
+    record { start = b; curve = curve_by (get 1 s (b + 2)); count = count_of (get 1 s (b + 2)) (get 2 s (b + 4)); keys = b + get 4 s (b + 8) }
 
 -- a key of it
 unfoldable pub key_in : List ℕ → ℕ → ℕ → Spot
-key_in s b k = pick (ltb k (track_at s b).count) (spot ((track_at s b).keys + k * stride (track_at s b).curve) (key (track_at s b).curve)) nowhere
+key_in s b k =
+    pick (ltb k (track_at s b).count) (spot ((track_at s b).keys + k * stride (curve_of (get 1 s (b + 2)))) (key (curve_of (get 1 s (b + 2))))) nowhere
 
 -- under the datum that starts at b: three lists of base count values
 unfoldable pub value_in : List ℕ → ℕ → ℕ → ℕ → Spot

@@ -2,48 +2,48 @@
 ghost use Rattle.std.specs.Prelude.{◌≡◌, List, ℕ, ◌≤◌, length};
 ghost use Rattle.bflan.specs.pai1.Judge.{content};
 ghost use Rattle.bflan.specs.Judge.{times};
-ghost use Rattle.bflan.specs.Layout.{size, parts};
+ghost use Rattle.bflan.specs.Layout.{parts};
 ghost use Rattle.bflan.specs.pai1.Layout.{table_from, content_lay};
-ghost use Rattle.bflan.specs.inner.Measure.{verdict_of};
+ghost use Rattle.bflan.specs.inner.Measure.{measured};
 ghost use Rattle.bflan.specs.inner.JudgeParts.{after_name};
 
-use crate::judge::info::infos;
-use crate::judge::text::name;
-use crate::judge::times::times;
-use crate::judge::word::word_below;
-use crate::judge::{Mark, Misfit, Place};
+use crate::judge::{Mark, Misfit, Rest};
+use crate::reader::content::USER;
 
 // Where a content's info table stands in it.
+#[tactic(auto, unfolding(crate::specs::pai1::Layout::table_from))]
 pub(crate) fn table_from(kind: u32) -> usize
     ensures { result ≡ table_from kind }
 {
-    if kind == 2 {
+    if kind == USER {
         return 40;
     }
     32
 }
 
-// What is behind a content's name.
-fn named(words: &[u32], texts: &[u8], at: Place) -> Result<Mark, Misfit>
-    ensures { (name : List ℕ) → length name ≤ 28 → result ≡ verdict_of (λ c. size (content_lay c)) (after_name name words.now texts.now at.word at.byte) }
-{
-    let kind = word_below(words, at.word, 5)?;
-    let n = word_below(words, at.word + 1, 256)? as usize;
-    let head = table_from(kind) + 4 * n;
-    let rest = infos(words, texts, at.past(2), n)?;
-    Ok(rest.grown(head).padded())
-}
+impl Rest<'_> {
+    // What is behind a content's name.
+    fn named(self) -> Result<Mark, Misfit>
+        ensures { (name : List ℕ) → length name ≤ 28 → result ≡ measured content_lay (after_name name) self.entry }
+    {
+        let kind = self.word_below(0, 5)?;
+        let n = self.word_below(1, 256)? as usize;
+        let head = table_from(kind) + 4 * n;
+        let rest = self.past(2).infos(n)?;
+        Ok(rest.grown(head).padded())
+    }
 
-pub(crate) fn content(words: &[u32], texts: &[u8], at: Place) -> Result<Mark, Misfit>
-    ensures { result ≡ verdict_of (λ c. size (content_lay c)) (content words.now texts.now at.word at.byte) }
-{
-    let name = name(words, texts, at)?;
-    named(words, texts, name.at)
-}
+    fn content(self) -> Result<Mark, Misfit>
+        ensures { result ≡ measured content_lay content self.entry }
+    {
+        let name = self.name()?;
+        self.behind(name).named()
+    }
 
-// `n` contents.
-pub(crate) fn contents(words: &[u32], texts: &[u8], at: Place, n: usize) -> Result<Mark, Misfit>
-    ensures { result ≡ verdict_of (λ cs. size (parts content_lay cs)) (times n content words.now texts.now at.word at.byte) }
-{
-    times(n, at, move |at| content(words, texts, at))
+    // `n` contents.
+    pub(crate) fn contents(self, n: usize) -> Result<Mark, Misfit>
+        ensures { result ≡ measured (parts content_lay) (times n content) self.entry }
+    {
+        self.times(n, |part| part.content())
+    }
 }

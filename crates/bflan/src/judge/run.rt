@@ -2,21 +2,28 @@
 ghost use Rattle.std.specs.Prelude.{◌≡◌, List, ℕ, ◌<◌, ◌≤◌, length};
 ghost use Rattle.bflan.specs.Judge.{next_word, wide, row, times};
 ghost use Rattle.bflan.specs.Layout.{number, size, parts};
+ghost use Rattle.bflan.specs.pai1.Curves.{curve_number};
 ghost use Rattle.bflan.specs.pai1.Layout.{key_lay};
 ghost use Rattle.bflan.specs.inner.Measure.{verdict_of};
 ghost use Rattle.bflan.specs.pai1.Record.{key_widths};
 
+use crate::curve::Curve;
 use crate::judge::word::word_below;
-use crate::judge::{Mark, Misfit, Place};
+use crate::judge::{Mark, Misfit, Position};
 
 // The next `n` words.
-pub(crate) fn run(words: &[u32], at: Place, n: usize) -> Result<Mark, Misfit>
+// Kept: no `Rest`. Tried: of a slice in a struct no proof knows that its items are u32, and `run` reads none. `pairs` and `keys` go with it.
+#[tactic(auto, using(crate::proofs::judge::JudgeParts::run_there, crate::proofs::judge::JudgeParts::run_short))]
+pub(crate) fn run(words: &[u32], at: Position, n: usize) -> Result<Mark, Misfit>
     requires { n ≤ 17179869184 }
     ensures { (x : List ℕ) → result ≡ verdict_of (λ vs. size (parts (number 4) vs)) (times n (next_word (wide 4)) words.now x at.word at.byte) }
 {
     if n <= words.len().saturating_sub(at.word) {
         return Ok(Mark {
-            at: at.past(n),
+            at: Position {
+                word: at.word + n,
+                ..at
+            },
             size: 4 * n,
         });
     }
@@ -27,7 +34,7 @@ pub(crate) fn run(words: &[u32], at: Place, n: usize) -> Result<Mark, Misfit>
 }
 
 // `n` keys of a frame and a u16.
-fn pairs(words: &[u32], at: Place, n: usize) -> Result<Mark, Misfit>
+fn pairs(words: &[u32], at: Position, n: usize) -> Result<Mark, Misfit>
     requires { n < 65536 }
     ensures { (x : List ℕ) → result ≡ verdict_of (λ ks. size (parts (key_lay 1) ks)) (times n (row (key_widths 1)) words.now x at.word at.byte) }
 {
@@ -40,19 +47,19 @@ fn pairs(words: &[u32], at: Place, n: usize) -> Result<Mark, Misfit>
         word += 2;
     }
     Ok(Mark {
-        at: Place { word, ..at },
+        at: Position { word, ..at },
         size: 8 * n,
     })
 }
 
 // The next `n` keys of a curve.
-pub(crate) fn keys(words: &[u32], at: Place, curve: u32, n: usize) -> Result<Mark, Misfit>
+pub(crate) fn keys(words: &[u32], at: Position, curve: Curve, n: usize) -> Result<Mark, Misfit>
     requires { n < 65536 }
-    ensures { (x : List ℕ) → result ≡ verdict_of (λ ks. size (parts (key_lay curve) ks)) (times n (row (key_widths curve)) words.now x at.word at.byte) }
+    ensures { (x : List ℕ) → result ≡ verdict_of (λ ks. size (parts (key_lay (curve_number curve)) ks)) (times n (row (key_widths (curve_number curve))) words.now x at.word at.byte) }
 {
     match curve {
-        0 => run(words, at, n),
-        1 => pairs(words, at, n),
-        _ => run(words, at, 3 * n),
+        Curve::Constant => run(words, at, n),
+        Curve::Step => pairs(words, at, n),
+        Curve::Hermite => run(words, at, 3 * n),
     }
 }

@@ -1,30 +1,30 @@
 // Targets: four words and keys.
-ghost use Rattle.std.specs.Prelude.{◌≡◌, List, ℕ};
+ghost use Rattle.std.specs.Prelude.{◌≡◌};
 ghost use Rattle.bflan.specs.pai1.Judge.{target};
 ghost use Rattle.bflan.specs.Judge.{times};
-ghost use Rattle.bflan.specs.Layout.{size, parts};
+ghost use Rattle.bflan.specs.Layout.{parts};
 ghost use Rattle.bflan.specs.pai1.Layout.{target_lay};
-ghost use Rattle.bflan.specs.inner.Measure.{verdict_of};
+ghost use Rattle.bflan.specs.inner.Measure.{measured};
 
 use crate::judge::run::keys;
-use crate::judge::times::times;
-use crate::judge::word::{target_at, word_below};
-use crate::judge::{Mark, Misfit, Place};
+use crate::judge::{Mark, Misfit, Rest};
 
-pub(crate) fn target(words: &[u32], letters: u32, at: Place) -> Result<Mark, Misfit>
-    ensures { (x : List ℕ) → result ≡ verdict_of (λ t. size (target_lay t)) (target letters words.now x at.word at.byte) }
-{
-    word_below(words, at.word, 256)?;
-    target_at(words, letters, at.word + 1)?;
-    let curve = word_below(words, at.word + 2, 3)?;
-    let n = word_below(words, at.word + 3, 65536)?;
-    let rest = keys(words, at.past(4), curve, n as usize)?;
-    Ok(rest.grown(12))
-}
+impl Rest<'_> {
+    fn target(self, letters: u32) -> Result<Mark, Misfit>
+        ensures { result ≡ measured target_lay (target letters) self.entry }
+    {
+        self.word_below(0, 256)?;
+        self.past(1).target_at(letters)?;
+        let curve = self.past(2).curve_at()?;
+        let n = self.word_below(3, 65536)?;
+        let rest = keys(self.words, self.past(4).at, curve, n as usize)?;
+        Ok(rest.grown(12))
+    }
 
-// `n` targets.
-pub(crate) fn targets(words: &[u32], letters: u32, at: Place, n: usize) -> Result<Mark, Misfit>
-    ensures { (x : List ℕ) → result ≡ verdict_of (λ ts. size (parts target_lay ts)) (times n (target letters) words.now x at.word at.byte) }
-{
-    times(n, at, move |at| target(words, letters, at))
+    // `n` targets.
+    pub(crate) fn targets(self, letters: u32, n: usize) -> Result<Mark, Misfit>
+        ensures { result ≡ measured (parts target_lay) (times n (target letters)) self.entry }
+    {
+        self.times(n, move |part| part.target(letters))
+    }
 }

@@ -1,9 +1,10 @@
 // Single words, and tests of them: a word that is missing fits nothing.
-ghost use Rattle.std.specs.Prelude.{◌≡◌, ℕ, Bool, ltb, get_or};
+ghost use Rattle.std.specs.Prelude.{◌≡◌, ◌+◌, ◌<◌, ℕ, Bool, ltb, get_or};
 ghost use Rattle.bflan.specs.pai1.Letters.{letters_fit, target_fits};
-ghost use Rattle.bflan.specs.inner.Measure.{word_if};
+ghost use Rattle.bflan.specs.inner.Measure.{numbered, word_if};
 
-use crate::judge::Misfit;
+use crate::curve::Curve;
+use crate::judge::{Misfit, Rest};
 use crate::letters::{AnimInfoType, kind_of, target_fits};
 
 // The word at `i`, or 0 past the end.
@@ -45,16 +46,39 @@ fn listed(letters: u32) -> bool
     }
 }
 
-// The word at `i`, if it is there and letters that a record may have.
-pub(crate) fn letters_at(words: &[u32], i: usize) -> Result<u32, Misfit>
-    ensures { result ≡ word_if letters_fit words.now i }
-{
-    word_where(words, i, |word| listed(word))
-}
+impl Rest<'_> {
+    // The word `k` on, if it is there and below `bound`.
+    pub(crate) fn word_below(self, k: usize, bound: usize) -> Result<u32, Misfit>
+        requires { self.at.word + k < 18446744073709551616 }
+        ensures { result ≡ word_if (λ v. ltb v bound) self.entry.words.now (self.entry.at.word + k) }
+    {
+        word_below(self.words, self.at.word + k, bound)
+    }
 
-// The word at `i`, if it is there and a target that a record may have under these letters.
-pub(crate) fn target_at(words: &[u32], letters: u32, i: usize) -> Result<u32, Misfit>
-    ensures { result ≡ word_if (target_fits letters) words.now i }
-{
-    word_where(words, i, |word| target_fits(letters, word))
+    // The next word, if it is there and letters that a record may have.
+    pub(crate) fn letters_at(self) -> Result<u32, Misfit>
+        ensures { result ≡ word_if letters_fit self.entry.words.now self.entry.at.word }
+    {
+        word_where(self.words, self.at.word, |word| listed(word))
+    }
+
+    // The next word, if it is there and a target that a record may have under these letters.
+    pub(crate) fn target_at(self, letters: u32) -> Result<u32, Misfit>
+        ensures { result ≡ word_if (target_fits letters) self.entry.words.now self.entry.at.word }
+    {
+        word_where(self.words, self.at.word, |word| target_fits(letters, word))
+    }
+
+    // The next word as a curve, if it is there and the number of one.
+    #[tactic(auto, using(crate::proofs::judge::Measures::curve_in, crate::proofs::judge::Measures::curve_over, crate::proofs::judge::Measures::word_if_out))]
+    pub(crate) fn curve_at(self) -> Result<Curve, Misfit>
+        ensures { numbered result ≡ word_if (λ v. ltb v 3) self.entry.words.now self.entry.at.word }
+    {
+        if let Some(number) = self.words.get(self.at.word) {
+            if let Ok(curve) = Curve::try_from(*number) {
+                return Ok(curve);
+            }
+        }
+        Err(Misfit::Word(self.at.word))
+    }
 }

@@ -9,64 +9,42 @@ ghost use Rattle.bflan.specs.inner.Walk.{walk_of, walked};
 
 use crate::letters::{FLEU, letters_of};
 use crate::reader::datum::data;
-use crate::reader::emit::put2;
 use crate::reader::offset::{byte_at, offset_at, word_at};
 use crate::reader::row::sought_cut;
 use crate::reader::table::{Part, visit};
-use crate::reader::tally::{Tally, Walk};
+use crate::reader::tally::{Tables, Walk};
 use crate::reader::target::Targets;
 use crate::section::Section;
 use base::run::numbers_end;
 
 // An extended info: two words, and its data.
-fn extended(s: Section, base: usize, n: u32, words: &mut [u32], texts: &mut [u8], t: Tally) -> Walk
+#[tactic(auto, using(crate::proofs::reader::Walks::walk_stored, crate::proofs::reader::InfoParts::info_extended), unfolding(crate::specs::pai1::Letters::fleu, base::specs::Number::val))]
+fn extended(s: Section, base: usize, n: u32, into: &mut Tables<'_>) -> Walk
     requires { (base + 8 ≤ length s.bytes.now) × (get 4 s.bytes.now base ≡ fleu) × (n ≡ get 1 s.bytes.now (base + 4)) }
-    ensures { (i : ℕ) → walked result words.new texts.new ≡ walk_of s.entry.bytes.now t words.old texts.old (info base s.entry.bytes.now i) }
+    ensures { (i : ℕ) → walked result into.new ≡ walk_of s.entry.bytes.now into.old (info base s.entry.bytes.now i) }
 {
-    let u = put2(words, t, FLEU, n);
-    data(s, base + 8, n as usize, words, texts, u)
+    into.put2(FLEU, n);
+    data(s, base + 8, n as usize, into)
 }
 
 // An info of any other letters: two words, and the targets at its offsets.
-fn standard(
-    s: Section,
-    base: usize,
-    letters: u32,
-    n: u32,
-    words: &mut [u32],
-    texts: &mut [u8],
-    t: Tally,
-) -> Walk
+#[tactic(auto, using(crate::proofs::reader::Walks::told_handed, crate::proofs::reader::InfoParts::info_cut, base::proofs::Runs::table_fits))]
+fn standard(s: Section, base: usize, letters: u32, n: u32, into: &mut Tables<'_>) -> Walk
     requires { (base + 8 ≤ length s.bytes.now) × (letters ≡ get 4 s.bytes.now base) × (letters ≡ fleu → ⊥) × (n ≡ get 1 s.bytes.now (base + 4)) }
-    ensures { (i : ℕ) → walked result words.new texts.new ≡ walk_of s.entry.bytes.now t words.old texts.old (info base s.entry.bytes.now i) }
+    ensures { (i : ℕ) → walked result into.new ≡ walk_of s.entry.bytes.now into.old (info base s.entry.bytes.now i) }
 {
     let table = base + 8;
     let count = n as usize;
     let q = numbers_end(s.bytes, table, count)?;
-    let u = put2(words, t, letters_of(letters), n);
-    visit(
-        &Targets { letters },
-        s,
-        base,
-        table,
-        count,
-        q,
-        words,
-        texts,
-        u,
-    )
+    into.put2(letters_of(letters), n);
+    visit(&Targets { letters }, s, base, table, count, q, into)
 }
 
 // The info that starts at `base`.
-pub(crate) fn info_at(
-    s: Section,
-    base: usize,
-    words: &mut [u32],
-    texts: &mut [u8],
-    t: Tally,
-) -> Walk
+#[tactic(auto, using(crate::proofs::reader::Walks::told_stop, crate::proofs::reader::InfoParts::info_short), unfolding(crate::specs::inner::Row::width_of, crate::specs::pai1::Letters::fleu, base::specs::Number::val))]
+pub(crate) fn info_at(s: Section, base: usize, into: &mut Tables<'_>) -> Walk
     requires { base ≤ 8589934592 }
-    ensures { (i : ℕ) → walked result words.new texts.new ≡ walk_of s.entry.bytes.now t words.old texts.old (info base s.entry.bytes.now i) }
+    ensures { (i : ℕ) → walked result into.new ≡ walk_of s.entry.bytes.now into.old (info base s.entry.bytes.now i) }
 {
     if s.bytes.len() < base + 8 {
         return Err(sought_cut(s.bytes, base, b"\x04\x01\x01\x02"));
@@ -74,9 +52,9 @@ pub(crate) fn info_at(
     let letters = word_at(s.bytes, base);
     let n = byte_at(s.bytes, base + 4);
     if letters == FLEU {
-        return extended(s, base, n, words, texts, t);
+        return extended(s, base, n, into);
     }
-    standard(s, base, letters, n, words, texts, t)
+    standard(s, base, letters, n, into)
 }
 
 // Infos, as parts of a table.
@@ -88,14 +66,7 @@ impl Part for Infos {
 
     ghost most = { 8589934592 };
 
-    fn read_at(
-        &self,
-        s: Section,
-        base: usize,
-        words: &mut [u32],
-        texts: &mut [u8],
-        t: Tally,
-    ) -> Walk {
-        info_at(s, base, words, texts, t)
+    fn read_at(&self, s: Section, base: usize, into: &mut Tables<'_>) -> Walk {
+        info_at(s, base, into)
     }
 }

@@ -1,4 +1,5 @@
-// Numbers that are known to be there. They are read without a test, by the bytes (base's readers test, since they ask nothing of a caller).
+// Numbers that are known to be there, read without a test.
+// Kept: base's reads without a test ask for the bytes, so are not public. edit's `read::<N>(s, at).unwrap()` tests again what a head's test covers.
 ghost use Rattle.std.specs.Prelude.{◌≡◌, ◌+◌, ◌<◌, ◌≤◌, length};
 ghost use Rattle.base.specs.Number.{get};
 
@@ -10,20 +11,20 @@ pub(crate) fn byte_at(s: &[u8], at: usize) -> u32
     u32::from(s[at])
 }
 
-#[tactic(auto, using(base::proofs::Numbers::get_zero, base::proofs::Numbers::get_suc))]
+#[tactic(auto, using(base::proofs::Numbers::from_two))]
 pub(crate) fn half_at(s: &[u8], at: usize) -> u32
     requires { at + 2 ≤ length s.now }
     ensures { (result ≡ get 2 s.now at) × (result < 65536) }
 {
-    byte_at(s, at) + 256 * byte_at(s, at + 1)
+    u32::from(u16::from_le_bytes([s[at], s[at + 1]]))
 }
 
-#[tactic(auto, using(base::proofs::Numbers::get_zero, base::proofs::Numbers::get_suc))]
+#[tactic(auto, using(base::proofs::Numbers::from_four))]
 pub(crate) fn word_at(s: &[u8], at: usize) -> u32
     requires { at + 4 ≤ length s.now }
     ensures { result ≡ get 4 s.now at }
 {
-    half_at(s, at) + 65536 * half_at(s, at + 2)
+    u32::from_le_bytes([s[at], s[at + 1], s[at + 2], s[at + 3]])
 }
 
 // An entry of an offset table.

@@ -5,7 +5,7 @@ ghost use Rattle.base.specs.Number.{read_of};
 ghost use Rattle.bflan.specs.inner.Row.{width_of, cut_in, sought_cut};
 
 use crate::fault::Fault;
-use base::cursor::{seek_to, u8_at, u16_at, u32_at};
+use base::cursor::{self, seek_to};
 use base::error::PastEnd;
 
 // A number of one or two bytes; any other width is four.
@@ -14,15 +14,16 @@ fn number_at(s: &[u8], at: usize, width: u8) -> Result<(u32, usize), PastEnd>
     ensures { result ≡ read_of (width_of width) s.now at }
 {
     if width == 1 {
-        return u8_at(s, at);
+        return cursor::number_at::<u8>(s, at);
     }
     if width == 2 {
-        return u16_at(s, at);
+        return cursor::number_at::<u16>(s, at);
     }
-    u32_at(s, at)
+    cursor::number_at::<u32>(s, at)
 }
 
 // The first read of a row at `at` that is refused. Where all its numbers are there, it is one of no bytes behind them.
+#[tactic(auto, using(crate::proofs::reader::Rows::cut_here, crate::proofs::reader::Rows::cut_next, crate::proofs::reader::Rows::cut_none))]
 pub(crate) fn cut(s: &[u8], at: usize, widths: &[u8]) -> Fault
     ensures { result ≡ cut_in (map width_of widths.now) s.now at }
 {

@@ -1,20 +1,20 @@
 // The section as a whole: a head of twenty bytes, textures, contents, and the seek to its end.
-ghost use Rattle.std.specs.Prelude.{◌≡◌, ℕ, ◌+◌, ◌*◌, ◌≤◌, length};
-ghost use Rattle.std.proofs.lemmas.List.Edits.{sets};
+ghost use Rattle.std.specs.Prelude.{◌≡◌, ℕ, List, ◌+◌, ◌*◌, ◌≤◌, length, map};
 ghost use Rattle.base.specs.Run.{numbers_at};
-ghost use Rattle.bflan.specs.pai1.Reading.{flag_of, body, section};
+ghost use Rattle.bflan.specs.Reader.{word};
+ghost use Rattle.bflan.specs.pai1.Reading.{body, section};
 ghost use Rattle.bflan.specs.inner.SectionParts.{header, as_header, head, as_head, head_words, after_head, contents_and_size, textures_and_contents};
-ghost use Rattle.bflan.specs.inner.Walk.{with_words, walk_of, walked};
+ghost use Rattle.bflan.specs.inner.Walk.{after, walk_of, walked};
 
 use crate::fault::Fault;
+use crate::read::flag_of;
 use crate::reader::content::contents_of;
-use crate::reader::emit::put2;
 use crate::reader::offset::{byte_at, half_at, word_at};
 use crate::reader::row::cut;
-use crate::reader::tally::{Tally, Walk};
+use crate::reader::tally::{Tables, Walk};
 use crate::reader::texture::textures;
 use crate::section::Section;
-use base::cursor::{seek_to, u32_at};
+use base::cursor::{number_at, seek_to};
 use base::run::numbers_end;
 
 // The letters `pai1`, as the number that their four bytes are.
@@ -28,12 +28,12 @@ pub struct SectionHeader {
 }
 
 // The header, read through a cursor.
-#[tactic(auto, unfolding(crate::specs::inner::SectionParts::header, crate::specs::Reader::num))]
+#[tactic(auto, using(crate::proofs::reader::SectionParts::header_whole), unfolding(crate::specs::inner::SectionParts::header, crate::specs::Reader::num))]
 fn header_at(s: &[u8]) -> Result<SectionHeader, Fault>
     ensures { as_header result ≡ header s.now 0 }
 {
-    let (magic, p) = u32_at(s, 0)?;
-    let (size, _q) = u32_at(s, p)?;
+    let (magic, p) = number_at::<u32>(s, 0)?;
+    let (size, _q) = number_at::<u32>(s, p)?;
     Ok(SectionHeader { magic, size })
 }
 
@@ -48,6 +48,7 @@ pub struct SectionHead {
 }
 
 // The head, tested once: where it is short, the read that is refused is looked for.
+#[tactic(auto, using(crate::proofs::reader::SectionParts::head_short, crate::proofs::reader::SectionParts::head_there), unfolding(crate::specs::inner::Row::width_of))]
 fn head_at(s: &[u8]) -> Result<SectionHead, Fault>
     ensures { as_head result ≡ head s.now 8 }
 {
@@ -68,41 +69,27 @@ fn head_at(s: &[u8]) -> Result<SectionHead, Fault>
     })
 }
 
-// The word of the looping byte: any but 0 is yes.
-#[tactic(auto, unfolding(crate::specs::pai1::Reading::flag_of))]
-fn flag_of(b: u32) -> u32
-    ensures { result ≡ flag_of b }
-{
-    u32::from(b != 0)
-}
-
 // The four words of the head.
-fn put_head(words: &mut [u32], t: Tally, h: SectionHead) -> Tally
-    ensures { (result ≡ with_words t 4) × (words.new ≡ sets words.old t.words (head_words h)) }
+fn put_head(into: &mut Tables<'_>, h: SectionHead)
+    ensures { (s : List ℕ) → into.new ≡ after s into.old (map word (head_words h)) }
 {
     let looping = flag_of(h.looping);
-    let u = put2(words, t, h.frames, looping);
-    put2(words, u, h.textures, h.contents)
+    into.put2(h.frames, looping);
+    into.put2(h.textures, h.contents);
 }
 
 // The contents, and the seek to the section's end.
-fn ending(
-    s: Section,
-    size: usize,
-    table: usize,
-    n: usize,
-    words: &mut [u32],
-    texts: &mut [u8],
-    t: Tally,
-) -> Walk
-    ensures { (i : ℕ) → walked result words.new texts.new ≡ walk_of s.entry.bytes.now t words.old texts.old (contents_and_size size table n s.entry.bytes.now i) }
+#[tactic(auto, using(crate::proofs::reader::Walks::turn_no, crate::proofs::reader::SectionParts::ending_is, crate::proofs::reader::SectionParts::ending_past, crate::proofs::reader::SectionParts::ending_on, crate::proofs::reader::Walks::handed_on))]
+fn ending(s: Section, size: usize, table: usize, n: usize, into: &mut Tables<'_>) -> Walk
+    ensures { (i : ℕ) → walked result into.new ≡ walk_of s.entry.bytes.now into.old (contents_and_size size table n s.entry.bytes.now i) }
 {
-    let (u, _p) = contents_of(s, table, n, words, texts, t)?;
+    let _p = contents_of(s, table, n, into)?;
     let end = seek_to(s.bytes, size)?;
-    Ok((u, end))
+    Ok(end)
 }
 
 // The textures by their `nt` offsets, `p` being the place behind these, and then the contents.
+#[tactic(auto, using(crate::proofs::reader::Walks::turn_no, crate::proofs::reader::Walks::handed_on, crate::proofs::reader::SectionParts::parts_is))]
 fn parts(
     s: Section,
     size: usize,
@@ -110,53 +97,47 @@ fn parts(
     p: usize,
     table: usize,
     nc: usize,
-    words: &mut [u32],
-    texts: &mut [u8],
-    t: Tally,
+    into: &mut Tables<'_>,
 ) -> Walk
     requires { 20 + 4 * nt ≤ length s.bytes.now }
-    ensures { walked result words.new texts.new ≡ walk_of s.entry.bytes.now t words.old texts.old (textures_and_contents size (numbers_at nt s.entry.bytes.now 20) table nc s.entry.bytes.now p) }
+    ensures { walked result into.new ≡ walk_of s.entry.bytes.now into.old (textures_and_contents size (numbers_at nt s.entry.bytes.now 20) table nc s.entry.bytes.now p) }
 {
-    let (u, _q) = textures(s, 20, 20, nt, p, words, texts, t)?;
-    ending(s, size, table, nc, words, texts, u)
+    let _q = textures(s, 20, 20, nt, p, into)?;
+    ending(s, size, table, nc, into)
 }
 
 // What is behind the head of a section.
-fn behind_head(
-    s: Section,
-    size: usize,
-    h: SectionHead,
-    words: &mut [u32],
-    texts: &mut [u8],
-    t: Tally,
-) -> Walk
+#[tactic(auto, using(crate::proofs::reader::Walks::told_handed, crate::proofs::reader::SectionParts::behind_cut, base::proofs::Runs::table_fits))]
+fn behind_head(s: Section, size: usize, h: SectionHead, into: &mut Tables<'_>) -> Walk
     requires { 20 ≤ length s.bytes.now }
-    ensures { walked result words.new texts.new ≡ walk_of s.entry.bytes.now t words.old texts.old (after_head size h s.entry.bytes.now 20) }
+    ensures { walked result into.new ≡ walk_of s.entry.bytes.now into.old (after_head size h s.entry.bytes.now 20) }
 {
     let nt = h.textures as usize;
     let p = numbers_end(s.bytes, 20, nt)?;
     let nc = h.contents as usize;
     let table = h.table as usize;
-    let u = put_head(words, t, h);
-    parts(s, size, nt, p, table, nc, words, texts, u)
+    put_head(into, h);
+    parts(s, size, nt, p, table, nc, into)
 }
 
 // What is behind the section's first eight bytes.
-fn body_at(s: Section, size: usize, words: &mut [u32], texts: &mut [u8], t: Tally) -> Walk
-    ensures { walked result words.new texts.new ≡ walk_of s.entry.bytes.now t words.old texts.old (body size s.entry.bytes.now 8) }
+#[tactic(auto, using(crate::proofs::reader::Walks::told_handed, crate::proofs::reader::SectionParts::body_stop, crate::proofs::reader::SectionParts::body_on, crate::proofs::reader::SectionParts::head_fits))]
+fn body_at(s: Section, size: usize, into: &mut Tables<'_>) -> Walk
+    ensures { walked result into.new ≡ walk_of s.entry.bytes.now into.old (body size s.entry.bytes.now 8) }
 {
     let h = head_at(s.bytes)?;
-    behind_head(s, size, h, words, texts, t)
+    behind_head(s, size, h, into)
 }
 
 // The section from its start.
-pub(crate) fn section_at(s: Section, words: &mut [u32], texts: &mut [u8], t: Tally) -> Walk
-    ensures { walked result words.new texts.new ≡ walk_of s.entry.bytes.now t words.old texts.old (section s.entry.bytes.now 0) }
+#[tactic(auto, using(crate::proofs::reader::Walks::told_handed, crate::proofs::reader::Walks::told_stop, crate::proofs::reader::SectionParts::section_short, crate::proofs::reader::SectionParts::section_pai1, crate::proofs::reader::SectionParts::section_other), unfolding(crate::specs::pai1::Reading::own_letters, base::specs::Number::val))]
+pub(crate) fn section_at(s: Section, into: &mut Tables<'_>) -> Walk
+    ensures { walked result into.new ≡ walk_of s.entry.bytes.now into.old (section s.entry.bytes.now 0) }
 {
     let h = header_at(s.bytes)?;
     let magic = h.magic;
     if magic != PAI1 {
-        return Err(Fault::OtherLetters(magic));
+        return Err(Fault::OtherLetters(magic as usize));
     }
-    body_at(s, h.size as usize, words, texts, t)
+    body_at(s, h.size as usize, into)
 }

@@ -5,7 +5,7 @@ ghost use Rattle.bflan.specs.Reader.{P, Item, visit};
 ghost use Rattle.bflan.specs.inner.Walk.{walk_of, walked};
 
 use crate::reader::offset::offset_at;
-use crate::reader::tally::{Tally, Walk};
+use crate::reader::tally::{Tables, Walk};
 use crate::section::Section;
 
 // A kind of part: how the one that starts at a place is read (`part`), and the farthest place that it is asked for at (`most`).
@@ -14,19 +14,13 @@ pub(crate) trait Part {
 
     ghost most: { ℕ };
 
-    fn read_at(
-        &self,
-        s: Section,
-        base: usize,
-        words: &mut [u32],
-        texts: &mut [u8],
-        t: Tally,
-    ) -> Walk
+    fn read_at(&self, s: Section, base: usize, into: &mut Tables<'_>) -> Walk
         requires { base ≤ most }
-        ensures { (i : ℕ) → walked result words.new texts.new ≡ walk_of s.entry.bytes.now t words.old texts.old (part self.now base s.entry.bytes.now i) };
+        ensures { (i : ℕ) → walked result into.new ≡ walk_of s.entry.bytes.now into.old (part self.now base s.entry.bytes.now i) };
 }
 
 // The parts at the `n` offsets of the table at `table`, which count from `base`.
+#[tactic(auto, using(crate::proofs::reader::Walks::visit_end, crate::proofs::reader::Walks::walking_end))]
 pub(crate) fn visit<Q: Part>(
     kind: &Q,
     s: Section,
@@ -34,18 +28,15 @@ pub(crate) fn visit<Q: Part>(
     table: usize,
     n: usize,
     pos: usize,
-    words: &mut [u32],
-    texts: &mut [u8],
-    t: Tally,
+    into: &mut Tables<'_>,
 ) -> Walk
     requires { (base ≤ 8589934592) × (base + 4294967295 ≤ Q.most) × (table + 4 * n ≤ length s.bytes.now) }
-    ensures { walked result words.new texts.new ≡ walk_of s.entry.bytes.now t words.old texts.old (visit base (Q.part kind.now) (numbers_at n s.entry.bytes.now table) s.entry.bytes.now pos) }
+    ensures { walked result into.new ≡ walk_of s.entry.bytes.now into.old (visit base (Q.part kind.now) (numbers_at n s.entry.bytes.now table) s.entry.bytes.now pos) }
 {
     let mut p = pos;
-    let mut u = t;
     for i in 0..n {
         let off = offset_at(s.bytes, table + 4 * i);
-        (u, p) = kind.read_at(s, base + off, words, texts, u)?;
+        p = kind.read_at(s, base + off, into)?;
     }
-    Ok((u, p))
+    Ok(p)
 }

@@ -1,5 +1,5 @@
-// What a walk over a section has counted, and where it stands.
-ghost use Rattle.std.specs.Prelude.{◌≡◌, ◌+◌, min};
+// Where a walk over a section stores what it reads, and what it has counted.
+ghost use Rattle.std.specs.Prelude.{◌≡◌, ◌+◌, ◌≤◌, min};
 ghost use Rattle.bflan.specs.inner.Walk.{sat, empty_tally, with_words, with_text};
 
 use crate::fault::Fault;
@@ -7,6 +7,7 @@ use crate::fault::Fault;
 // Words and text bytes so far, which are also the places of the next ones, and U+FFFD put in so far; how many texts come before the one that is
 // wanted; and that one's place and length, once it was met. `left` counts down, from 0 to the largest usize: no section has so many texts that it
 // comes to 0 twice. A count that a usize does not hold stays at the largest one.
+// Kept: `start` and `len` in no `Option`. It would say again what `left` tells, and an enum of the three would be matched at each text.
 #[derive(Clone, Copy)]
 pub struct Tally {
     pub words: usize,
@@ -17,10 +18,16 @@ pub struct Tally {
     pub len: usize,
 }
 
-// A walk goes on with a tally at a position, or is stopped.
-// Kept: the two tables and the tally go as three parameters. As one struct of two references and the tally, each contract on the way would have to
-// say as well that both references are still the same ones, by their ghost names: two equations more, in the place of two parameters.
-pub(crate) type Walk = Result<(Tally, usize), Fault>;
+// The tables that a walk stores in, at the places that its tally has. What would stand past a table's end is dropped.
+#[derive(Drop)]
+pub struct Tables<'w> {
+    pub words: &'w mut [u32],
+    pub texts: &'w mut [u8],
+    pub tally: Tally,
+}
+
+// A walk goes on at a position, or is stopped.
+pub(crate) type Walk = Result<usize, Fault>;
 
 pub(crate) fn fresh(want: usize) -> Tally
     ensures { result ≡ empty_tally want }
@@ -35,45 +42,29 @@ pub(crate) fn fresh(want: usize) -> Tally
     }
 }
 
-// `n` words more.
-#[tactic(auto, unfolding(crate::specs::inner::Walk::with_words))]
-pub(crate) fn more_words(t: Tally, n: usize) -> Tally
-    ensures { result ≡ with_words t n }
-{
-    Tally {
-        words: t.words.saturating_add(n),
-        bytes: t.bytes,
-        replaced: t.replaced,
-        left: t.left,
-        start: t.start,
-        len: t.len,
+impl Tally {
+    // `n` words more. A caller's proof does not know that a field holds no more than a usize does, so the second promise says it.
+    #[tactic(auto, unfolding(crate::specs::inner::Walk::with_words))]
+    pub(crate) fn add_words(&mut self, n: usize)
+        ensures { (self.new ≡ with_words self.old n) × (self.old.words ≤ 18446744073709551615) }
+    {
+        self.words = self.words.saturating_add(n);
     }
-}
 
-// A text more, at `start` with `len` bytes in the section and `size` bytes decoded. `replaced` is the sum with this text's U+FFFD.
-#[tactic(auto, unfolding(crate::specs::inner::Walk::with_text))]
-pub(crate) fn more_text(t: Tally, start: usize, len: usize, size: usize, replaced: usize) -> Tally
-    ensures { result ≡ with_text t start len size replaced }
-{
-    let left = t.left;
-    let words = t.words.saturating_add(1);
-    let bytes = t.bytes.saturating_add(size);
-    if left == 0 {
-        return Tally {
-            words,
-            bytes,
-            replaced,
-            left: 18446744073709551615,
-            start,
-            len,
-        };
-    }
-    Tally {
-        words,
-        bytes,
-        replaced,
-        left: left - 1,
-        start: t.start,
-        len: t.len,
+    // A text more, at `start` with `len` bytes in the section and `size` bytes decoded. `replaced` is the sum with this text's U+FFFD.
+    #[tactic(auto, unfolding(crate::specs::inner::Walk::with_text))]
+    pub(crate) fn add_text(&mut self, start: usize, len: usize, size: usize, replaced: usize)
+        ensures { self.new ≡ with_text self.old start len size replaced }
+    {
+        self.words = self.words.saturating_add(1);
+        self.bytes = self.bytes.saturating_add(size);
+        self.replaced = replaced;
+        if self.left == 0 {
+            self.left = 18446744073709551615;
+            self.start = start;
+            self.len = len;
+            return;
+        }
+        self.left -= 1;
     }
 }

@@ -7,15 +7,15 @@ ghost use Rattle.bflan.specs.inner.Sought.{as_name, name_end, AsIs, guess_of};
 ghost use Rattle.bflan.specs.inner.Walk.{walk_of, walked};
 
 use crate::fault::Fault;
-use crate::reader::emit::put_text;
 use crate::reader::offset::offset_at;
-use crate::reader::tally::{Tally, Walk};
+use crate::reader::tally::{Tables, Walk};
 use crate::section::Section;
 use base::cursor::null_terminated_string_at;
 use base::seek::seek;
 use base::text::plain_text;
 
 // A name: where it starts, its length, the position behind its zero, and whether it is known to be shown as it is.
+// Kept: `plain` is a flag beside the others, none of which it makes void. Two kinds of names would have the same three fields.
 #[derive(Clone, Copy)]
 pub struct Name {
     pub start: usize,
@@ -39,6 +39,8 @@ fn ended_name(s: &[u8], p: usize) -> Result<Name, Fault>
 }
 
 // The texture name that starts at `base`, where it stands. It is tried first whether it has `guess` bytes; that changes no answer.
+// Kept: `guess` is no `Option`. A plain text has 8 to 32 bytes, so 0 is a guess that fails.
+#[tactic(auto, using(crate::proofs::reader::Walks::handed_on, crate::proofs::reader::Emits::texture_past, crate::proofs::reader::Emits::texture_on))]
 fn name_at(s: &[u8], base: usize, guess: usize) -> Result<Name, Fault>
     ensures { ((i : ℕ) → as_name result ≡ texture base s.now i) × (name_end result ≤ length s.now) × AsIs s.now result }
 {
@@ -72,45 +74,38 @@ fn guess_at(s: &[u8], at: usize, left: usize, off: usize) -> usize
 }
 
 // The text that starts at `base`, read as a texture name is, and stored. A datum's key text is such a one.
-pub(crate) fn text_at(
-    s: Section,
-    base: usize,
-    words: &mut [u32],
-    texts: &mut [u8],
-    t: Tally,
-) -> Walk
-    ensures { (i : ℕ) → walked result words.new texts.new ≡ walk_of s.entry.bytes.now t words.old texts.old (texture base s.entry.bytes.now i) }
+#[tactic(auto, using(crate::proofs::reader::Walks::told_handed, crate::proofs::reader::Walks::told_items))]
+#[inline(always)]
+pub(crate) fn text_at(s: Section, base: usize, into: &mut Tables<'_>) -> Walk
+    ensures { (i : ℕ) → walked result into.new ≡ walk_of s.entry.bytes.now into.old (texture base s.entry.bytes.now i) }
 {
     let name = name_at(s.bytes, base, 0)?;
-    let u = put_text(s, name.start, name.len, name.plain, words, texts, t);
-    Ok((u, name.next))
+    into.put_text(s, name.start, name.len, name.plain);
+    Ok(name.next)
 }
 
-// The texture names at the `n` offsets of the table at `table`, which count from `base`. Each is found and then stored, with no tally handed back
-// by a call: its words would be stored one by one and read in pairs, which a processor has to wait for.
-// Kept: a loop beside `visit`, for that reason, and since a name is guessed from the entry behind its own.
+// The texture names at the `n` offsets of the table at `table`, which count from `base`.
+// Kept: a loop beside `visit`, since a name is guessed from the entry behind its own, which a `Part` does not see.
+#[tactic(auto, using(crate::proofs::reader::Walks::visit_end, crate::proofs::reader::Walks::walking_end))]
 pub(crate) fn textures(
     s: Section,
     base: usize,
     table: usize,
     n: usize,
     pos: usize,
-    words: &mut [u32],
-    texts: &mut [u8],
-    t: Tally,
+    into: &mut Tables<'_>,
 ) -> Walk
     requires { (base ≤ 16777216) × (table + 4 * n ≤ length s.bytes.now) }
-    ensures { walked result words.new texts.new ≡ walk_of s.entry.bytes.now t words.old texts.old (visit base texture (numbers_at n s.entry.bytes.now table) s.entry.bytes.now pos) }
+    ensures { walked result into.new ≡ walk_of s.entry.bytes.now into.old (visit base texture (numbers_at n s.entry.bytes.now table) s.entry.bytes.now pos) }
 {
     let mut p = pos;
-    let mut u = t;
     for i in 0..n {
         let at = table + 4 * i;
         let off = offset_at(s.bytes, at);
         let guess = guess_at(s.bytes, at, n - i, off);
         let name = name_at(s.bytes, base + off, guess)?;
-        u = put_text(s, name.start, name.len, name.plain, words, texts, u);
+        into.put_text(s, name.start, name.len, name.plain);
         p = name.next;
     }
-    Ok((u, p))
+    Ok(p)
 }

@@ -1,58 +1,34 @@
-// Fields of the section that is written, and the words and texts that they come from. What would stand past the end is dropped.
-ghost use Rattle.std.specs.Prelude.{◌≡◌, ◌+◌, ◌-◌, ◌≤◌, length, take, drop};
+// Fields of the section that is written, and the texts that it takes over. What would stand past the end is dropped.
+ghost use Rattle.std.specs.Prelude.{◌≡◌, ◌+◌, ◌-◌, ◌<◌, ◌≤◌, length, take, drop};
 ghost use Rattle.std.proofs.lemmas.List.Edits.{sets};
 ghost use Rattle.base.specs.Number.{put};
-ghost use Rattle.base.specs.Placeholder.{entry_at};
 ghost use Rattle.bflan.specs.Judge.{next_text, wide};
 ghost use Rattle.bflan.specs.Layout.{number, ◌⨾◌, written, ended};
-ghost use Rattle.bflan.specs.inner.Pen.{Ready, laid, pen_behind};
+ghost use Rattle.bflan.specs.inner.Pen.{HasNext, behind};
 
 use crate::judge::word::word_of;
-use crate::writer::Pen;
+use crate::writer::Writer;
 use base::fill::copy;
-use base::number::{write_u8, write_u16};
-use base::placeholder::{Placeholders32, patch_u32, placeholder_of, write_placeholder_u32};
-
-// The lowest byte of a word.
-pub(crate) fn put_byte(out: &mut [u8], at: usize, v: u32)
-    ensures { out.new ≡ put 1 out.old at v }
-{
-    write_u8(out, at, (v % 256) as u8);
-}
-
-// The lowest two bytes of a word.
-pub(crate) fn put_half(out: &mut [u8], at: usize, v: u32)
-    ensures { out.new ≡ put 2 out.old at v }
-{
-    write_u16(out, at, (v % 65536) as u16);
-}
+use base::number::write;
+use base::placeholder::{Placeholder32, patch_u32};
 
 // Two bytes and a reserve of two.
 pub(crate) fn put_counts(out: &mut [u8], at: usize, a: u32, b: u32)
     requires { at ≤ 16777216 }
     ensures { out.new ≡ sets out.old at (written (number 1 a ⨾ number 1 b ⨾ number 2 0)) }
 {
-    put_byte(out, at, a);
-    put_byte(out, at + 1, b);
-    put_half(out, at + 2, 0);
+    write::<u8>(out, at, a);
+    write::<u8>(out, at + 1, b);
+    write::<u16>(out, at + 2, 0);
 }
 
-// An offset that counts from `base`: its place is held, and patched with how far away `to` is.
-pub(crate) fn put_offset(out: &mut [u8], at: usize, base: usize, to: usize)
-    requires { (base ≤ to) × (to ≤ 16777216) }
-    ensures { out.new ≡ put 4 out.old at (to - base) }
+// How far `to` is from `from`, at a place that was held for it.
+pub(crate) fn put_distance(out: &mut [u8], place: Placeholder32, from: usize, to: usize)
+    requires { (from ≤ to) × (to < 4294967296) }
+    ensures { out.new ≡ put 4 out.old place.0 (to - from) }
 {
-    let place = write_placeholder_u32(out, at);
-    patch_u32(out, place, (to - base) as u32);
-}
-
-// The offset of entry `i` of a table, which counts from `base`: how far away `to` is.
-pub(crate) fn put_entry(out: &mut [u8], table: Placeholders32, i: usize, base: usize, to: usize)
-    requires { (base ≤ to) × (to ≤ 16777216) }
-    ensures { out.new ≡ put 4 out.old (entry_at table.0 table.1 i) (to - base) }
-{
-    let place = placeholder_of(table, i);
-    patch_u32(out, place, (to - base) as u32);
+    // Kept: a cast. The distance fits, which is proved; `u32::try_from(to - from).unwrap()` says no more, and its test makes writing 1 to 3 % longer.
+    patch_u32(out, place, (to - from) as u32);
 }
 
 // The `n` bytes of the texts from `from` on.
@@ -64,21 +40,18 @@ pub(crate) fn put_chars(texts: &[u8], from: usize, n: usize, out: &mut [u8], at:
     copy(&texts[from..end], out, at);
 }
 
-// A text and its zero.
-pub(crate) fn put_ended(words: &[u32], texts: &[u8], pen: Pen, out: &mut [u8]) -> Pen
-    requires { Ready ended (next_text (wide 4) words.now texts.now pen.word pen.byte) pen.at (length out.old) }
-    ensures { (result ≡ pen_behind ended (next_text (wide 4) words.now texts.now pen.word pen.byte) pen.at)
-        × (out.new ≡ laid ended (next_text (wide 4) words.now texts.now pen.word pen.byte) pen.at out.old) }
-{
-    let i = pen.word;
-    let from = pen.byte;
-    let at = pen.at;
-    let n = word_of(words, i) as usize;
-    put_chars(texts, from, n, out, at);
-    put_byte(out, at + n, 0);
-    Pen {
-        word: i + 1,
-        byte: from + n,
-        at: at + n + 1,
+impl Writer<'_, '_> {
+    // A text and its zero.
+    pub(crate) fn put_ended(&mut self)
+        requires { HasNext ended (next_text (wide 4)) self.old }
+        ensures { self.new ≡ behind ended (next_text (wide 4)) self.old }
+    {
+        let at = self.at;
+        let n = word_of(self.words, self.word) as usize;
+        put_chars(self.texts, self.byte, n, self.out, at);
+        write::<u8>(self.out, at + n, 0);
+        self.word += 1;
+        self.byte += n;
+        self.at = at + n + 1;
     }
 }

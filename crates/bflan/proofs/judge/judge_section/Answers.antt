@@ -12,12 +12,12 @@ use Rattle.bflan.proofs.judge.judge_section.Goals as goal
 
 pub returns-in_err-info : goal.returns-in_err-info
 unfolding section whole
-returns-in_err-info c = handed_on c.from_residual.ensures.1 ∙ refused_first _ _ _ _ _ _ (sym c.judge_info.ensures ∙ c.in_err-info.was)
+returns-in_err-info c = handed_on c.from_residual.ensures.1 ∙ refused_first _ _ _ _ _ _ (sym c.pane.ensures ∙ c.in_err-info.was)
 
 pub returns-in_err-end : goal.returns-in_err-end
 unfolding section
-returns-in_err-end c = handed_on c.from_residual-in_err-end.ensures.1 ∙ none_more _ c.in_err-end.was ∙ whole-fine (λ (a : PaneAnimInfo). size (section_lay a)) pane c.args.words.now c.args.texts.now 0 0 _ _ (sym c.judge_info.ensures ∙ c.in_ok-info.was) c.ends.ensures
+returns-in_err-end c = handed_on c.from_residual-in_err-end.ensures.1 ∙ none_more _ c.in_err-end.was ∙ whole-fine (λ (a : PaneAnimInfo). size (section_lay a)) pane (record { words = c.args.words; texts = c.args.texts; at = record { word = 0; byte = 0 } }) _ _ (sym c.pane.ensures ∙ c.in_ok-info.was) (rw c.behind.ensures at c.ends.ensures)
 
 pub returns : goal.returns
 unfolding section
-returns c = more _ c.in_ok-end.was c.grown.ensures ∙ whole-fine (λ (a : PaneAnimInfo). size (section_lay a)) pane c.args.words.now c.args.texts.now 0 0 _ _ (sym c.judge_info.ensures ∙ c.in_ok-info.was) c.ends.ensures
+returns c = more _ c.in_ok-end.was c.grown.ensures ∙ whole-fine (λ (a : PaneAnimInfo). size (section_lay a)) pane (record { words = c.args.words; texts = c.args.texts; at = record { word = 0; byte = 0 } }) _ _ (sym c.pane.ensures ∙ c.in_ok-info.was) (rw c.behind.ensures at c.ends.ensures)

@@ -12,13 +12,13 @@ pub returns-then-size-gt-LIMIT : goal.returns-then-size-gt-LIMIT
 returns-then-size-gt-LIMIT c = reading-long section _ _ _ c.if-size-gt-LIMIT.true
 
 pub returns-then-words-needs : goal.returns-then-words-needs
-returns-then-words-needs c = reading-words section _ _ _ (omega (arith, c.if-size-gt-LIMIT.false)) (section_countable _ (λ i. (c.type_inv.section i).fits) (omega (arith, c.if-size-gt-LIMIT.false))) _ _ _ (sym c.in_ok-needs.ensures) c.if-words-needs.true
+returns-then-words-needs c = reading-words section _ _ _ (omega (arith, c.if-size-gt-LIMIT.false)) (section_countable _ (λ i. (c.type_inv.section i).fits) (omega (arith, c.if-size-gt-LIMIT.false))) _ _ (sym c.in_ok-needs.ensures) c.if-words-needs.true
 
 pub returns-then-texts-needs : goal.returns-then-texts-needs
-returns-then-texts-needs c = reading-texts section _ _ _ (omega (arith, c.if-size-gt-LIMIT.false)) (section_countable _ (λ i. (c.type_inv.section i).fits) (omega (arith, c.if-size-gt-LIMIT.false))) _ _ _ (sym c.in_ok-needs.ensures) (omega (arith, c.if-words-needs.false)) c.if-texts-needs.true
+returns-then-texts-needs c = reading-texts section _ _ _ (omega (arith, c.if-size-gt-LIMIT.false)) (section_countable _ (λ i. (c.type_inv.section i).fits) (omega (arith, c.if-size-gt-LIMIT.false))) _ _ (sym c.in_ok-needs.ensures) (omega (arith, c.if-words-needs.false)) c.if-texts-needs.true
 
 pub returns-in_err-needs : goal.returns-in_err-needs
 returns-in_err-needs c = rw (handed_on c.from_residual.ensures.1) (reading-stop section _ _ _ (omega (arith, c.if-size-gt-LIMIT.false)) _ _ (sym c.in_err-needs.ensures))
 
 pub returns : goal.returns
-returns c = reading_on section _ _ _ (omega (arith, c.if-size-gt-LIMIT.false)) (section_countable _ (λ i. (c.type_inv.section i).fits) (omega (arith, c.if-size-gt-LIMIT.false))) _ _ _ (sym c.in_ok-needs.ensures) _ _ _ _ (omega (arith, c.if-words-needs.false)) (omega (arith, c.if-texts-needs.false)) c.fresh.ensures c.section_at.ensures
+returns c = reading_on section _ _ _ (omega (arith, c.if-size-gt-LIMIT.false)) (section_countable _ (λ i. (c.type_inv.section i).fits) (omega (arith, c.if-size-gt-LIMIT.false))) _ _ (sym c.in_ok-needs.ensures) _ _ _ (omega (arith, c.if-words-needs.false)) (omega (arith, c.if-texts-needs.false)) c.walk.ensures

@@ -7,4 +7,4 @@ use Rattle.bflan.proofs.reader.Walks.{Walking}
 use Rattle.bflan.proofs.reader.datum.data.Given as goal
 
 abbrev pub invariant-loop-i : goal.invariant-loop-i
-invariant-loop-i l = Walking l.s.bytes.now (many l.n datum l.s.bytes.now l.p) l.initial.u l.initial.words l.initial.texts (many (l.n - l._i) datum l.s.bytes.now l.q) l.u l.words l.texts
+invariant-loop-i l = Walking l.s.bytes.now (many l.n datum l.s.bytes.now l.p) l.initial.into (many (l.n - l._i) datum l.s.bytes.now l.q) l.into

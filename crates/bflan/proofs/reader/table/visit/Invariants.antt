@@ -7,4 +7,4 @@ use Rattle.bflan.proofs.reader.table.visit.Given as goal
 
 abbrev pub invariant-loop-i : goal.invariant-loop-i
 invariant-loop-i g l =
-    Walking l.s.bytes.now (visit l.base (g.Q.Part.part l.kind) (numbers_at l.n l.s.bytes.now l.table) l.s.bytes.now l.pos) l.initial.u l.initial.words l.initial.texts (visit_from l.base (g.Q.Part.part l.kind) l.s.bytes.now l.table l.n l.i l.p) l.u l.words l.texts
+    Walking l.s.bytes.now (visit l.base (g.Q.Part.part l.kind) (numbers_at l.n l.s.bytes.now l.table) l.s.bytes.now l.pos) l.initial.into (visit_from l.base (g.Q.Part.part l.kind) l.s.bytes.now l.table l.n l.i l.p) l.into

@@ -8,4 +8,4 @@ use Rattle.bflan.proofs.reader.texture.textures.Given as goal
 
 abbrev pub invariant-loop-i : goal.invariant-loop-i
 invariant-loop-i l =
-    Walking l.s.bytes.now (visit l.base texture (numbers_at l.n l.s.bytes.now l.table) l.s.bytes.now l.pos) l.initial.u l.initial.words l.initial.texts (visit_from l.base texture l.s.bytes.now l.table l.n l.i l.p) l.u l.words l.texts
+    Walking l.s.bytes.now (visit l.base texture (numbers_at l.n l.s.bytes.now l.table) l.s.bytes.now l.pos) l.initial.into (visit_from l.base texture l.s.bytes.now l.table l.n l.i l.p) l.into

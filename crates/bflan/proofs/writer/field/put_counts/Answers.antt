@@ -8,4 +8,4 @@ use Rattle.bflan.proofs.writer.field.put_counts.Goals as goal
 
 pub returns : goal.returns
 unfolding le rowLay written
-returns c = row_stored (puts_more c.put_byte.ensures refl (puts_more c.put_byte-2.ensures refl (puts_more c.put_half.ensures refl puts_none)))
+returns c = row_stored (puts_more c.write.ensures refl (puts_more c.write-2.ensures refl (puts_more c.write-3.ensures refl puts_none)))

@@ -11,4 +11,4 @@ use Rattle.bflan.proofs.writer.section.put_start.Goals as goal
 
 pub returns : goal.returns
 unfolding frame_lay row written le own_letters val
-returns c = (c.write_placeholder_u32-size.ensures.0, row_stored {ks = 4 ∷ 4 ∷ 2 ∷ 1 ∷ 1 ∷ 2 ∷ 2 ∷ []} {vs = own_letters ∷ 0 ∷ _ ∷ _ ∷ 0 ∷ _ ∷ _ ∷ []} (puts_more c.write_u32.ensures refl (puts_more c.write_placeholder_u32-size.ensures.1 refl (puts_more c.put_half.ensures c.word_of-frames.ensures (puts_more c.put_byte.ensures c.word_of-looping.ensures (puts_more c.put_byte-2.ensures refl (puts_more c.put_half-2.ensures c.word_of-textures.ensures (puts_more c.put_half-3.ensures c.word_of-contents.ensures puts_none))))))))
+returns c = (c.write_placeholder_u32-size.ensures.0, row_stored {ks = 4 ∷ 4 ∷ 2 ∷ 1 ∷ 1 ∷ 2 ∷ 2 ∷ []} {vs = own_letters ∷ 0 ∷ _ ∷ _ ∷ 0 ∷ _ ∷ _ ∷ []} (puts_more c.write.ensures refl (puts_more c.write_placeholder_u32-size.ensures.1 refl (puts_more c.write-2.ensures c.word_of-frames.ensures (puts_more c.write-3.ensures c.word_of-looping.ensures (puts_more c.write-4.ensures refl (puts_more c.write-5.ensures c.word_of-textures.ensures (puts_more c.write-6.ensures c.word_of-contents.ensures puts_none))))))))
