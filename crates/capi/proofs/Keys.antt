@@ -24,7 +24,6 @@ unfolding key_words
 hermite_said f v s k hf hv hs e = rw (e, patterns_back (f, v, s) (record { frame = hf; value = hv; slope = hs }))
 
 pub three_said : (n x y z : ℕ) → (n ≡ 1 → ⊥) → (n ≡ 2 → ⊥) → x ∷ y ∷ z ∷ [] ≡ new_key_values n x y z
-unfolding new_key_values
 three_said zero x y z a b = refl
 three_said (suc zero) x y z a b = absurd (a refl)
 three_said (suc (suc zero)) x y z a b = absurd (b refl)

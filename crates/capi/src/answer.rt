@@ -6,6 +6,7 @@ ghost use Rattle.std.proofs.lemmas.List.Edits.{sets};
 pub(crate) fn put(list: &mut [usize], numbers: &[usize])
     ensures { list.new ≡ sets list.old 0 numbers.now }
 {
+    // Kept: tried `list.iter_mut().zip(numbers)`. Nothing is known of a list's values after an adapter of `iter_mut`, and its goals stay open.
     for (at, number) in numbers.iter().enumerate() {
         if at < list.len() {
             list[at] = *number;

@@ -8,6 +8,7 @@ use base::outcome::Answer;
 use bflan::place::Place;
 use edit::field::field_at;
 
+#[tactic(auto, using(edit::proofs::FieldAt::counted_field), unfolding(crate::specs::FieldNumbers::field_numbers))]
 pub(crate) fn field(section: &[u8], place: Place, answer: &mut [usize])
     ensures { answer.new ≡ sets answer.old 0 (field_numbers section.now place) }
 {

@@ -1,10 +1,10 @@
 // Functions of base, bflan and edit for a program in C or Rust. Each calls the function of the same name and has its contract, but for
 // the eight `nnbfl_edit_*` and the six `nnbfl_field_*`, which call `edit` with the change and `field_at` with the place that their
-// numbers say. A slice is passed as
-// its address and its length, and an answer that is an enum comes back as numbers in a list. None asks anything of the caller but
-// that the slices are there and that no byte that a call may change is in another of its slices. README.md has them as C sees them.
+// numbers say. A slice is passed as its address and its length, and an answer that is an enum comes back as numbers in a list. None
+// asks anything of the caller but that the slices are there and that no byte that a call may change is in another of its slices.
+// README.md has them as C sees them.
 //
-// Kept: the C interface has a function for each field, and numbers for an answer and for a key's kind.
+// Kept: C has a function for each field, and an answer comes back as numbers.
 #![tactic(auto)]
 
 mod answer;
@@ -90,6 +90,7 @@ pub extern "C" fn nnbfl_first_fault(text: &[u8]) -> usize
     base::text::first_fault(text)
 }
 
+#[tactic(auto, using(base::proofs::Outcomes::flat_first))]
 #[unsafe(no_mangle)]
 pub extern "C" fn nnbfl_read(
     section: &[u8],
@@ -140,6 +141,7 @@ pub extern "C" fn nnbfl_text_part<'a>(
     text.len()
 }
 
+#[tactic(auto, using(base::proofs::Outcomes::flat_first))]
 #[unsafe(no_mangle)]
 pub extern "C" fn nnbfl_write(words: &[u32], texts: &[u8], out: &mut [u8], answer: &mut [usize])
     ensures { (out.new ≡ (writing words.now texts.now out.old).1)
@@ -291,6 +293,7 @@ pub extern "C" fn nnbfl_edit_value(
     change(section, journal, count, place, 1, value, 0, 0, answer);
 }
 
+#[tactic(auto, using(base::proofs::Outcomes::flat_first))]
 #[unsafe(no_mangle)]
 pub extern "C" fn nnbfl_undo(
     section: &mut [u8],

@@ -10,7 +10,7 @@ use lib.Dec.{eqb, leb, ltb}
 use lib.ListN.{length, get_or, take, drop, length-drop}
 use lib.Seq.{sets, get_or-drop}
 use Rattle.base.specs.Number.{le, put}
-use Rattle.base.proofs.Numbers.{low, length-le}
+use Rattle.base.proofs.Numbers.{length-le}
 use Rattle.base.proofs.Stores.{sets-turn}
 use Rattle.bflan.specs.Limits.{limit}
 use Rattle.bflan.proofs.place.Fields.{and_left, and_right}
@@ -135,46 +135,32 @@ size_twelve n h a b c d = go (eqb n 12) refl
 
 -- ---- the first bytes of them, stored
 
-pub le_one : (a : ℕ) → le 1 (a % 256) ≡ le 1 a
-unfolding le
-le_one a = let e : a % 256 % 256 ≡ a % 256 = omega arith in rw e
-
-pub le_two : (b : ℕ) → le 2 (b % 65536) ≡ le 2 b
-unfolding le
-le_two b =
-    let p : b % 65536 % 256 ≡ b % 256 = omega arith in
-    let u : b / 256 ≡ b % 65536 / 256 + 256 * (b / 65536) = omega arith in
-    let v : b % 65536 / 256 < 256 = omega arith in
-    let w : b % 65536 / 256 % 256 ≡ b % 65536 / 256 = omega arith in
-    let q : b % 65536 / 256 % 256 ≡ b / 256 % 256 = w ∙ sym (low (b % 65536 / 256) (b / 65536) v) ∙ ap (λ (n : ℕ). n % 256) (sym u) in
-    rw (p, q)
-
 pub put_at : (s : List ℕ) (o o' v : ℕ) → o ≡ o' → put 4 s o v ≡ sets s o' (le 4 v)
 unfolding put
 put_at s o o' v e = ap (λ (k : ℕ). sets s k (le 4 v)) e
 
-pub behind-put : (s : List ℕ) (at a : ℕ) (v : List ℕ) {s₁ : List ℕ} → s₁ ≡ put 4 s at a → sets s₁ (at + 4) v ≡ sets s at (le 4 a ++ v)
+pub behind_put : (s : List ℕ) (at a : ℕ) (v : List ℕ) {s₁ : List ℕ} → s₁ ≡ put 4 s at a → sets s₁ (at + 4) v ≡ sets s at (le 4 a ++ v)
 unfolding put
-behind-put s at a v {s₁} e = sets-turn s at (le 4 a ++ v) (le 4 a) v s₁ (at + 4) refl e (ap (λ (k : ℕ). at + k) (sym (length-le 4 a)))
+behind_put s at a v {s₁} e = sets-turn s at (le 4 a ++ v) (le 4 a) v s₁ (at + 4) refl e (ap (λ (k : ℕ). at + k) (sym (length-le 4 a)))
 
 module _ (s : List ℕ) (at : ℕ) (p : Packed) (n : ℕ) where
-  pub packed_1 : n ≡ 1 → put 1 s at (p.a % 256) ≡ sets s at (take n (unpacked p))
+  pub packed_1 : n ≡ 1 → put 1 s at p.a ≡ sets s at (take n (unpacked p))
   unfolding put unpacked
-  packed_1 e = rw (e, le_one p.a) (unfold le in refl)
+  packed_1 e = rw e (unfold le in refl)
 
-  pub packed_2 : n ≡ 2 → put 2 s at (p.a % 65536) ≡ sets s at (take n (unpacked p))
+  pub packed_2 : n ≡ 2 → put 2 s at p.a ≡ sets s at (take n (unpacked p))
   unfolding put unpacked
-  packed_2 e = rw (e, le_two p.a) (unfold le in refl)
+  packed_2 e = rw e (unfold le in refl)
 
   pub packed_4 : n ≡ 4 → put 4 s at p.a ≡ sets s at (take n (unpacked p))
   unfolding put unpacked
   packed_4 e = rw e (unfold le in refl)
 
-  pub packed_6 : n ≡ 6 → {s₁ s₂ : List ℕ} → s₁ ≡ put 4 s at p.a → s₂ ≡ put 2 s₁ (at + 4) (p.b % 65536) → s₂ ≡ sets s at (take n (unpacked p))
+  pub packed_6 : n ≡ 6 → {s₁ s₂ : List ℕ} → s₁ ≡ put 4 s at p.a → s₂ ≡ put 2 s₁ (at + 4) p.b → s₂ ≡ sets s at (take n (unpacked p))
   packed_6 e {s₁} {s₂} e₁ e₂ =
       let l : sets s at (le 4 p.a ++ le 2 p.b) ≡ sets s at (take 6 (unpacked p)) = unfold unpacked le in refl in
-      let w : put 2 s₁ (at + 4) (p.b % 65536) ≡ sets s₁ (at + 4) (le 2 p.b) = unfold put in ap (sets s₁ (at + 4)) (le_two p.b) in
-      rw e (e₂ ∙ w ∙ behind-put s at p.a (le 2 p.b) e₁ ∙ l)
+      let w : put 2 s₁ (at + 4) p.b ≡ sets s₁ (at + 4) (le 2 p.b) = unfold put in refl in
+      rw e (e₂ ∙ w ∙ behind_put s at p.a (le 2 p.b) e₁ ∙ l)
 
   pub packed_12 : n ≡ 12 → {s₁ s₂ s₃ : List ℕ} → s₁ ≡ put 4 s at p.a → s₂ ≡ put 4 s₁ (at + 4) p.b → s₃ ≡ put 4 s₂ (at + 8) p.c → s₃ ≡ sets s at (take n (unpacked p))
   packed_12 e {s₁} {s₂} {s₃} e₁ e₂ e₃ =
@@ -182,8 +168,8 @@ module _ (s : List ℕ) (at : ℕ) (p : Packed) (n : ℕ) where
       let l : sets s at (le 4 p.a ++ (le 4 p.b ++ le 4 p.c)) ≡ sets s at (take 12 (unpacked p)) = unfold unpacked le in refl in
       let w = put_at s₂ (at + 8) (at + 4 + 4) p.c q in
       rw e
-      (e₃ ∙ w ∙ behind-put s₁ (at + 4) p.b (le 4 p.c) e₂
-      ∙ behind-put s at p.a (le 4 p.b ++ le 4 p.c) e₁ ∙ l)
+      (e₃ ∙ w ∙ behind_put s₁ (at + 4) p.b (le 4 p.c) e₂
+      ∙ behind_put s at p.a (le 4 p.b ++ le 4 p.c) e₁ ∙ l)
 
 -- ---- entries
 
@@ -204,18 +190,18 @@ entry_read j n h =
     rw (get_or-drop (entry_words * n) j 0 0, get_or-drop (entry_words * n) j 1 0, get_or-drop (entry_words * n) j 2 0, get_or-drop (entry_words * n) j 3 0, get_or-drop (entry_words * n) j 4 0, add-zero) at f
 
 module _ (e : Entry) (size : ℕ) where
-  pub restorable-size : restorable size (entry_list e) ≡ true → field_size e.count ≡ true
+  pub restorable_size : restorable size (entry_list e) ≡ true → field_size e.count ≡ true
   unfolding restorable entry_list
-  restorable-size h = and_left (field_size e.count) (all_zero (drop e.count (bytes_in (entry_list e))) && leb (e.at + e.count) size) h
+  restorable_size h = and_left (field_size e.count) (all_zero (drop e.count (bytes_in (entry_list e))) && leb (e.at + e.count) size) h
 
-  pub restorable-fits : restorable size (entry_list e) ≡ true → e.at + e.count ≤ size
+  pub restorable_fits : restorable size (entry_list e) ≡ true → e.at + e.count ≤ size
   unfolding restorable entry_list
-  restorable-fits h =
+  restorable_fits h =
       let z = all_zero (drop e.count (bytes_in (entry_list e))) in
       leb-true (e.at + e.count) size (and_right z (leb (e.at + e.count) size) (and_right (field_size e.count) (z && leb (e.at + e.count) size) h))
 
-  pub restorable-inside : restorable size (entry_list e) ≡ true → e.at < size
-  restorable-inside h = omega (arith, restorable-fits h, size_some e.count (restorable-size h))
+  pub restorable_inside : restorable size (entry_list e) ≡ true → e.at < size
+  restorable_inside h = omega (arith, restorable_fits h, size_some e.count (restorable_size h))
 
 -- ---- undoing
 

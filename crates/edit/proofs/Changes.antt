@@ -1,9 +1,9 @@
 -- A change: which values a field takes, its bytes as they are written, the entry of the bytes that stood there, and what the call answers.
 -- Assumes nothing.
-use Prim.Native.Nat.{ℕ, zero, suc, ◌+◌, ◌-◌, ◌*◌, ◌/◌, ◌%◌, ◌^◌, ◌<◌, ◌≤◌, min}
+use Prim.Native.Nat.{ℕ, zero, suc, ◌+◌, ◌-◌, ◌*◌, ◌/◌, ◌^◌, ◌<◌, ◌≤◌, min}
 use mathlib.Core.Path.{◌≡◌, refl, sym, ap, ◌∙◌}
 use mathlib.Core.Bool.{Bool, true, false, ◌&&◌, and-true, and-false}
-use mathlib.Core.List.{List, [], ◌∷◌, ◌++◌, append-nil}
+use mathlib.Core.List.{List, [], ◌∷◌, ◌++◌}
 use native.Mathlib.Nat.{add-zero}
 use native.Mathlib.Omega.{arith}
 use borrow.Author.Tests.{leb-true, leb-false, lt-ltb, le-ltb}
@@ -11,13 +11,8 @@ use lib.Dec.{leb, ltb}
 use lib.ListN.{length, get_or, take, drop, replicate, length-drop}
 use lib.Seq.{sets, take-nil, drop-drop, length-take-le}
 use Rattle.base.specs.Choice.{pick}
-use Rattle.base.specs.Number.{le, val, get, put}
+use Rattle.base.specs.Number.{le, val, get}
 use Rattle.base.specs.Outcome.{Outcome}
-use Rattle.base.specs.Float.{float_of, hermite_of, pattern_of, patterns_of, put_patterns}
-use Rattle.base.specs.declared.float.Binary32.{Binary32}
-use Rattle.base.specs.declared.float.Hermite.{Hermite as HermiteForm}
-use Rattle.base.specs.declared.float.HermiteBits.{HermiteBits}
-use Rattle.base.proofs.Floats.{pattern_back, patterns_back}
 use Rattle.base.proofs.Numbers.{get_zero, get_suc}
 use Rattle.bflan.specs.Answer.{too_long}
 use Rattle.bflan.specs.Layout.{written, row}
@@ -41,10 +36,8 @@ use Rattle.edit.specs.declared.values.Values.{Values}
 use Rattle.edit.specs.declared.values.Values.TheVariants.{One, Two, Three}
 use Rattle.edit.specs.Editing.{of_editing, old_at, at_spot, on_reading, editing}
 use Rattle.edit.specs.Format.{pai1}
-use Rattle.edit.specs.Journal.{entry_words, capacity, padded, entry_of, field_size}
-use Rattle.edit.specs.inner.Packing.{edit_error, packed, entry_list, values_in, one_most}
-use Rattle.edit.proofs.Calls.{size_some, le_one, le_two, put_at, behind-put}
-use Rattle.edit.proofs.Entries.{field_size_lem}
+use Rattle.edit.specs.Journal.{entry_words, capacity, padded, entry_of}
+use Rattle.edit.specs.inner.Packing.{edit_error, unpacked, packed, words_of, entry_list, values_in, one_most}
 
 -- ---- which values a field takes
 
@@ -63,24 +56,24 @@ one_width k m e (a ∷ []) = most_below a m (256 ^ k) e ∙ sym (and-true (ltb a
 one_width k m e (a ∷ b ∷ vs) = sym (and-false (ltb a (256 ^ k)))
 
 module _ (vs : List ℕ) where
-  pub fit-frames : one_most vs 65535 ≡ fit FrameCount vs
+  pub fit_frames : one_most vs 65535 ≡ fit FrameCount vs
   unfolding fit widths allowed
-  fit-frames = one_width 2 65535 refl vs ∙ sym (and-true (fit_widths (2 ∷ []) vs))
+  fit_frames = one_width 2 65535 refl vs ∙ sym (and-true (fit_widths (2 ∷ []) vs))
 
-  pub fit-layer : one_most vs 255 ≡ fit Layer vs
+  pub fit_layer : one_most vs 255 ≡ fit Layer vs
   unfolding fit widths allowed
-  fit-layer = one_width 1 255 refl vs ∙ sym (and-true (fit_widths (1 ∷ []) vs))
+  fit_layer = one_width 1 255 refl vs ∙ sym (and-true (fit_widths (1 ∷ []) vs))
 
-  pub fit-value : one_most vs 4294967295 ≡ fit Value vs
+  pub fit_value : one_most vs 4294967295 ≡ fit Value vs
   unfolding fit widths allowed
-  fit-value = one_width 4 4294967295 refl vs ∙ sym (and-true (fit_widths (4 ∷ []) vs))
+  fit_value = one_width 4 4294967295 refl vs ∙ sym (and-true (fit_widths (4 ∷ []) vs))
 
-  pub fit-key : (c : ℕ) (t : Bool) → t ≡ fit_widths (key_widths c) vs → t ≡ fit (Key c) vs
+  pub fit_key : (c : ℕ) (t : Bool) → t ≡ fit_widths (key_widths c) vs → t ≡ fit (Key c) vs
   unfolding fit widths allowed
-  fit-key c t e = e ∙ sym (and-true (fit_widths (key_widths c) vs))
+  fit_key c t e = e ∙ sym (and-true (fit_widths (key_widths c) vs))
 
   pub fit_constant : (c : ℕ) → c ≡ 0 → one_most vs 4294967295 ≡ fit (Key c) vs
-  fit_constant c e = fit-key c (one_most vs 4294967295) (one_width 4 4294967295 refl vs ∙ (unfold key_widths in rw e))
+  fit_constant c e = fit_key c (one_most vs 4294967295) (one_width 4 4294967295 refl vs ∙ (unfold key_widths in rw e))
 
 -- looping is 0 or 1
 low_loop : (a : ℕ) → leb a 1 ≡ ltb a 256 && leb a 1
@@ -90,11 +83,11 @@ low_loop a = go (leb a 1) refl
     go true e = let h = leb-true a 1 e in rw (lt-ltb a 256 (omega arith))
     go false e = sym (and-false (ltb a 256))
 
-pub fit-looping : (vs : List ℕ) → one_most vs 1 ≡ fit Looping vs
+pub fit_looping : (vs : List ℕ) → one_most vs 1 ≡ fit Looping vs
 unfolding fit widths allowed one_most fit_widths
-fit-looping [] = refl
-fit-looping (a ∷ []) = low_loop a ∙ ap (λ (t : Bool). t && leb a 1) (sym (and-true (ltb a 256)))
-fit-looping (a ∷ b ∷ vs) = ap (λ (t : Bool). t && leb a 1) (sym (and-false (ltb a 256)))
+fit_looping [] = refl
+fit_looping (a ∷ []) = low_loop a ∙ ap (λ (t : Bool). t && leb a 1) (sym (and-true (ltb a 256)))
+fit_looping (a ∷ b ∷ vs) = ap (λ (t : Bool). t && leb a 1) (sym (and-false (ltb a 256)))
 
 -- a key's values
 pub step_one : (a : ℕ) → false ≡ fit_widths (4 ∷ 2 ∷ []) (values_in (One a))
@@ -119,40 +112,6 @@ module _ (a : ℕ) (b : ℕ) (vs : List ℕ) (k : ℕ) where
   none_more : fit_widths (k ∷ []) (a ∷ b ∷ vs) ≡ true → ⊥
   unfolding fit_widths
   none_more e = unlike (sym (and-false (ltb a (256 ^ k))) ∙ e)
-
--- a value has as many of its lowest bytes as its width says
-module _ (s : List ℕ) (at v : ℕ) where
-  one_written : (k : ℕ) → sets s at (le k v) ≡ sets s at (written (row (k ∷ []) (v ∷ [])))
-  unfolding written row
-  one_written k = ap (sets s at) (sym (append-nil (le k v)))
-
-  pub byte-written : put 1 s at (v % 256) ≡ sets s at (written (row (1 ∷ []) (v ∷ [])))
-  unfolding put
-  byte-written = ap (sets s at) (le_one v) ∙ one_written 1
-
-  pub half_written : put 2 s at (v % 65536) ≡ sets s at (written (row (2 ∷ []) (v ∷ [])))
-  unfolding put
-  half_written = ap (sets s at) (le_two v) ∙ one_written 2
-
-  pub word-written : put 4 s at v ≡ sets s at (written (row (4 ∷ []) (v ∷ [])))
-  unfolding put
-  word-written = one_written 4
-
--- a new key
-module _ (s : List ℕ) (at : ℕ) where
-  pub step_written : {s₁ s₂ : List ℕ} (a v : ℕ) → s₁ ≡ put 4 s at a → s₂ ≡ put 2 s₁ (at + 4) (v % 65536) → s₂ ≡ sets s at (written (row (4 ∷ 2 ∷ []) (a ∷ v ∷ [])))
-  unfolding written row
-  step_written {s₁} {s₂} a v e₁ e₂ = e₂ ∙ half_written s₁ (at + 4) v ∙ behind-put s at a (le 2 v ++ []) e₁
-
-  pub hermite_written : (b : HermiteBits) → put_patterns s at b ≡ sets s at (written (row (4 ∷ 4 ∷ 4 ∷ []) (b.0 ∷ b.1 ∷ b.2 ∷ [])))
-  unfolding put_patterns written row
-  hermite_written b =
-      let s₁ : List ℕ = put 4 s at b.0 in
-      let s₂ : List ℕ = put 4 s₁ (at + 4) b.1 in
-      let q : at + 8 ≡ at + 4 + 4 = omega arith in
-      put_at s₂ (at + 8) (at + 4 + 4) b.2 q ∙ one_written s₂ (at + 4 + 4) b.2 4
-      ∙ behind-put s₁ (at + 4) b.1 (le 4 b.2 ++ []) refl
-      ∙ behind-put s at b.0 (le 4 b.1 ++ (le 4 b.2 ++ [])) refl
 
 -- ---- a field that takes so many values has as many widths
 
@@ -188,34 +147,17 @@ three_widths (Key (suc zero)) a b c e = absurd (unlike (step_three a b c ∙ e))
 three_widths (Key (suc (suc k))) a b c e = refl
 three_widths Value a b c e = absurd (none_more a b (c ∷ []) 4 e)
 
--- so its bytes are those of a key of that many values
-module _ (s : List ℕ) (at : ℕ) (f : Field) where
-  pub constant_put : (curve v : ℕ) → f ≡ Key curve → fit f (v ∷ []) ≡ true → put 4 s at v ≡ sets s at (written (row (widths f) (v ∷ [])))
-  unfolding widths
-  constant_put curve v e h =
-      let w : fit_widths (widths (Key curve)) (v ∷ []) ≡ true = widths-fit (Key curve) (v ∷ []) (ap (λ (g : Field). fit g (v ∷ [])) (sym e) ∙ h) in
-      word-written s at v ∙ ap (λ (ks : List ℕ). sets s at (written (row ks (v ∷ [])))) (sym (ap widths e ∙ one_widths curve v w))
-
-  module _ (v : Values) (h : fit f (values_in v) ≡ true) where
-    pub step_put : (a b : ℕ) → v ≡ Two a b → {s₁ s₂ : List ℕ} → s₁ ≡ put 4 s at a → s₂ ≡ put 2 s₁ (at + 4) (b % 65536) → s₂ ≡ sets s at (written (row (widths f) (values_in v)))
-    unfolding values_in
-    step_put a b e e₁ e₂ =
-        let w : fit_widths (widths f) (a ∷ b ∷ []) ≡ true = widths-fit f (a ∷ b ∷ []) (ap (λ (z : Values). fit f (values_in z)) (sym e) ∙ h) in
-        step_written s at a b e₁ e₂ ∙ ap (λ (ks : List ℕ). sets s at (written (row ks (a ∷ b ∷ [])))) (sym (two_widths f a b w)) ∙ ap (λ (z : Values). sets s at (written (row (widths f) (values_in z)))) (sym e)
-
-    pub hermite_put : (a b c : ℕ) → v ≡ Three a b c → {s' : List ℕ} → s' ≡ put_patterns s at (a, b, c) → s' ≡ sets s at (written (row (widths f) (values_in v)))
-    unfolding values_in
-    hermite_put a b c e e' =
-        let w : fit_widths (widths f) (a ∷ b ∷ c ∷ []) ≡ true = widths-fit f (a ∷ b ∷ c ∷ []) (ap (λ (z : Values). fit f (values_in z)) (sym e) ∙ h) in
-        e' ∙ hermite_written s at (a, b, c) ∙ ap (λ (ks : List ℕ). sets s at (written (row ks (a ∷ b ∷ c ∷ [])))) (sym (three_widths f a b c w)) ∙ ap (λ (z : Values). sets s at (written (row (widths f) (values_in z)))) (sym e)
-
--- a key that is given by its bits
-module _ (s : List ℕ) (at : ℕ) where
-  pub float_put : {s' : List ℕ} (v : ℕ) (x : Binary32) → v < 2 ^ 32 → x ≡ float_of v → s' ≡ put 4 s at (pattern_of x) → s' ≡ put 4 s at v
-  float_put v x h e d = d ∙ ap (put 4 s at) (ap pattern_of e ∙ pattern_back v h)
-
-  pub patterns_put : {s' : List ℕ} (a b c : ℕ) (k : HermiteForm) → a < 2 ^ 32 → b < 2 ^ 32 → c < 2 ^ 32 → k ≡ hermite_of (a, b, c) → s' ≡ put_patterns s at (patterns_of k) → s' ≡ put_patterns s at (a, b, c)
-  patterns_put a b c k ha hb hc e d = d ∙ ap (put_patterns s at) (ap patterns_of e ∙ patterns_back (a, b, c) (record { frame = ha; value = hb; slope = hc }))
+-- so its bytes are the first of the values' words
+pub bytes_packed : (f : Field) (v : Values) → fit f (values_in v) ≡ true → take (total (widths f)) (unpacked (words_of v)) ≡ written (row (widths f) (values_in v))
+unfolding widths total unpacked words_of values_in written row le
+bytes_packed FrameCount (One a) h = refl
+bytes_packed Looping (One a) h = refl
+bytes_packed Layer (One a) h = refl
+bytes_packed (Target letters) (One a) h = refl
+bytes_packed (Key c) (One a) h = rw (one_widths c a (widths-fit (Key c) (a ∷ []) h)) refl
+bytes_packed Value (One a) h = refl
+bytes_packed f (Two a b) h = rw (two_widths f a b (widths-fit f (a ∷ b ∷ []) h)) refl
+bytes_packed f (Three a b c) h = rw (three_widths f a b c (widths-fit f (a ∷ b ∷ c ∷ []) h)) refl
 
 -- ---- the bytes that stood there
 
@@ -290,14 +232,6 @@ unfolding entry_list packed entry_of
 entry_kept j s count at n m old en eo h =
     let l : length (take m (drop at s)) ≡ m = length-take-le m (drop at s) (rw length-drop (omega arith)) in
     rw (eo, en, l)
-
--- a field's size, of which the code has the number
-module _ (f : Field) {n : ℕ} (en : n ≡ total (widths f)) where
-  pub size-good : field_size n ≡ true
-  size-good = rw en (field_size_lem f)
-
-  pub size_room : (at k : ℕ) → at + total (widths f) ≤ k → at < k
-  size_room at k h = omega (arith, h, size_some n size-good, en)
 
 -- ---- the call, in a section that reads
 

@@ -3,13 +3,12 @@
 use Prim.Native.Nat.{ℕ, zero, suc, ◌+◌, ◌≤◌}
 use mathlib.Core.Path.{◌≡◌, refl, ap, sym, ◌∙◌}
 use mathlib.Core.List.{List}
-use native.Mathlib.Omega.{arith}
 use borrow.Author.Tests.{le-leb}
-use lib.ListN.{length, get_or}
+use lib.ListN.{length}
 use Rattle.base.specs.Number.{get}
 use Rattle.base.specs.Outcome.{Outcome, outcome_of, accepted, counted}
 use Rattle.base.proofs.Floats.{pattern_back, patterns_back}
-use Rattle.base.proofs.Numbers.{Bytes, get_lt, get_zero, get_suc}
+use Rattle.base.proofs.Numbers.{Bytes, get_lt}
 use Rattle.bflan.specs.declared.fault.Fault.{Fault}
 use Rattle.bflan.specs.declared.fault.Fault.TheVariants.{PastEnd, NoZero, OtherLetters}
 use Rattle.bflan.specs.Answer.{no_place, of_fault}
@@ -33,11 +32,6 @@ use Rattle.edit.specs.declared.field.FieldValue.{FieldValue}
 use Rattle.bflan.specs.declared.place.Place.{Place}
 use Rattle.edit.specs.Editing.{key_words}
 use Rattle.edit.specs.FieldAt.{key_of, field_value, read_at, at_located, field_at, at_found, field_in, of_value, of_field, of_counted_value}
-
--- ---- what is read
-
-pub byte_there : (s : List ℕ) (at : ℕ) → get_or s at 0 ≡ get 1 s at
-byte_there s at = let z : get 0 s (at + 1) ≡ 0 = get_zero s (at + 1) in let e = get_suc 0 s at in omega (arith, z, e)
 
 -- ---- the answer, by where the field is
 

@@ -1,6 +1,6 @@
 -- The two public calls: for any arguments what they answer, and what the section and the journal hold afterwards (document 01, 'Edits and
 -- undo' and the refusals' table). The order of the refusals is the order of the cases.
-use Rattle.std.specs.Prelude.{ℕ, ◌+◌, ◌-◌, ◌*◌, ◌&&◌, List, [], ◌∷◌, Result, Ok, Err, eqb, leb, ltb, length, take, drop}
+use Rattle.std.specs.Prelude.{ℕ, ◌+◌, ◌-◌, ◌*◌, ◌&&◌, List, [], ◌∷◌, Result, eqb, leb, ltb, length, take, drop}
 use Rattle.std.proofs.lemmas.List.Edits.{sets}
 use Rattle.base.specs.Choice.{pick}
 use Rattle.base.specs.Float.{pattern_of, patterns_of}

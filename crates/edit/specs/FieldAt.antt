@@ -4,7 +4,6 @@
 use Rattle.std.specs.Prelude.{ℕ, zero, suc, List, [], ◌∷◌, Result, Ok, Err, get_or}
 use Rattle.base.specs.Float.{float_of, hermite_of}
 use Rattle.base.specs.Outcome.{Outcome, outcome_of, accepted, counted}
-use Rattle.bflan.specs.Answer.{too_long, no_place, of_fault}
 use Rattle.bflan.specs.pai1.FieldValues.{numbers_in, as_read, values_at}
 use Rattle.bflan.specs.pai1.Locating.{of_locate_error, locating}
 use Rattle.bflan.specs.pai1.Places.{widths, first, Found, missing, found, field_of}
@@ -13,7 +12,7 @@ use Rattle.bflan.specs.declared.place.Field.{Field}
 use Rattle.bflan.specs.declared.place.Field.TheVariants.{FrameCount as frames, Looping as looping, Layer as layer, Target as number, Key as key, Value as value}
 use Rattle.bflan.specs.declared.place.FieldSpot.{FieldSpot}
 use Rattle.bflan.specs.declared.place.LocateError.{LocateError}
-use Rattle.bflan.specs.declared.place.LocateError.TheVariants.{TooLong, Fault as Unread, NoSuchPlace}
+use Rattle.bflan.specs.declared.place.LocateError.TheVariants.{NoSuchPlace}
 use Rattle.bflan.specs.declared.place.Place.{Place}
 use Rattle.edit.specs.declared.field.FieldValue.{FieldValue}
 use Rattle.edit.specs.declared.field.FieldValue.TheVariants.{FrameCount, Looping, Layer, Target, Key, Value}

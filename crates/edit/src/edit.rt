@@ -8,12 +8,10 @@ ghost use Rattle.edit.specs.Format.{pai1};
 ghost use Rattle.edit.specs.Journal.{entry_words, entry_of};
 ghost use Rattle.edit.specs.inner.Packing.{edit_error, values_in};
 
-use crate::journal::{ENTRY_WORDS, Entry, packed_at, put_entry};
+use crate::journal::{ENTRY_WORDS, Entry, Packed, packed_at, put_entry, put_packed};
 use crate::key::NewKey;
 use crate::spot::{field_as, spot_at, way_of};
 use crate::values::{Values, fits, place_of, size_of, values_of};
-use base::float::{HermiteBits, from_bits, hermite_from_bits, write_f32, write_hermite};
-use base::number::{write_u8, write_u16, write_u32};
 use base::outcome::{Answer, Numbers};
 use bflan::fault::Fault;
 use bflan::place::{Field, LocateError};
@@ -72,6 +70,7 @@ impl Answer for EditError {
 }
 
 // The entry of the field at `at`, stored as entry `count`.
+#[tactic(auto, using(crate::proofs::Changes::entry_kept))]
 fn keep_old(section: &[u8], journal: &mut [u32], count: usize, at: usize, f: Field)
     requires { (length section.now ≤ 16777216) × (at + total (widths f) ≤ length section.now) × (entry_words * count + entry_words ≤ length journal.old) }
     ensures { journal.new ≡ sets journal.old (entry_words * count) (entry_of at (old_at section.now at (total (widths f)))) }
@@ -82,43 +81,20 @@ fn keep_old(section: &[u8], journal: &mut [u32], count: usize, at: usize, f: Fie
         journal,
         count,
         Entry {
-            at: at as u32,
+            at: u32::try_from(at).unwrap(),
             count: n,
             old,
         },
     );
 }
 
-// One value at `at`.
-fn put_one(out: &mut [u8], at: usize, f: Field, v: u32)
-    requires { (at < length out.old) × (fit f (v ∷ []) ≡ true) }
-    ensures { out.new ≡ sets out.old at (written (row (widths f) (v ∷ []))) }
-{
-    match f {
-        Field::FrameCount => write_u16(out, at, (v % 65536) as u16),
-        Field::Looping => write_u8(out, at, (v % 256) as u8),
-        Field::Layer => write_u8(out, at, (v % 256) as u8),
-        Field::Target(_letters) => write_u8(out, at, (v % 256) as u8),
-        Field::Key(_curve) => write_f32(out, at, from_bits(v)),
-        Field::Value => write_u32(out, at, v),
-    }
-}
-
-// The field at `at`, with values that it takes: two are a Step key's, and three a Hermite key's.
+// The field at `at`, with values that it takes.
+#[tactic(auto, using(crate::proofs::Changes::bytes_packed))]
 fn write_field(section: &mut [u8], at: usize, f: Field, v: Values)
-    requires { (at < length section.old) × (fit f (values_in v) ≡ true) }
+    requires { (at + total (widths f) ≤ length section.old) × (fit f (values_in v) ≡ true) }
     ensures { section.new ≡ sets section.old at (written (row (widths f) (values_in v))) }
 {
-    match v {
-        Values::One(a) => put_one(section, at, f, a),
-        Values::Two(a, b) => {
-            write_f32(section, at, from_bits(a));
-            write_u16(section, at + 4, (b % 65536) as u16);
-        }
-        Values::Three(a, b, c) => {
-            write_hermite(section, at, hermite_from_bits(HermiteBits(a, b, c)))
-        }
-    }
+    put_packed(section, at, size_of(f), Packed::from(v));
 }
 
 #[tactic(auto, unfolding(crate::specs::Editing::at_spot, crate::specs::Journal::capacity))]
@@ -145,8 +121,8 @@ fn change_at(
     Err(EditError::Unfit)
 }
 
-// Makes a change, and answers the new count of journal entries. (Kept: the journal and its count as two parameters here and in `undo`. A struct
-// of both would hold the journal as `&mut`, which `undo` does not ask of its callers.)
+// Makes a change, and answers the new count of journal entries.
+// Kept: the journal and its count as two parameters here and in `undo`. A struct would hold the journal as `&mut`, which `undo` does not ask for.
 pub fn edit(
     section: &mut [u8],
     journal: &mut [u32],

@@ -2,29 +2,28 @@
 ghost use Rattle.std.specs.Prelude.{◌≡◌, ◌+◌, ◌≤◌, length};
 ghost use Rattle.base.specs.Float.{float_of, hermite_of, patterns_at};
 ghost use Rattle.base.specs.Number.{get};
-ghost use Rattle.base.specs.Outcome.{accepted, counted, flat, in_order};
 ghost use Rattle.bflan.specs.pai1.FieldValues.{numbers_in};
 ghost use Rattle.bflan.specs.pai1.Letters.{target_of};
 ghost use Rattle.bflan.specs.pai1.Places.{widths, total};
-ghost use Rattle.bflan.specs.pai1.Reading.{flag_of};
 ghost use Rattle.bflan.specs.pai1.Record.{key_widths};
 ghost use Rattle.edit.specs.FieldAt.{key_of, read_at, field_at, of_value, of_counted_value};
 ghost use Rattle.edit.specs.inner.Packing.{values_in};
 
-use crate::journal::{byte_at, half_at, word_at};
+use crate::journal::number_at;
 use crate::key::NewKey;
 use crate::spot::{field_as, spot_at, way_of};
-use crate::values::{Values, key_values};
+use crate::values::Values;
 use base::float::{Binary32, Hermite, read_f32, read_hermite};
 use base::outcome::{Answer, Numbers};
 use bflan::letters::{AnimInfoType, kind_of};
 use bflan::place::{Field, LocateError, Place};
+use bflan::read::flag_of;
 
 // A field's value, as the record has it.
 #[derive(Clone, Copy)]
 pub enum FieldValue {
     FrameCount(u32),
-    // 0 or 1.
+    // 0 or 1. A number as in every other case, and the word that the record has.
     Looping(u32),
     Layer(u32),
     Target(u32),
@@ -33,8 +32,7 @@ pub enum FieldValue {
     Value(u32),
 }
 
-// Fields that are known to be there.
-
+// A float that is known to be there.
 #[tactic(auto, using(base::proofs::Floats::float_there))]
 fn float_at(s: &[u8], at: usize) -> Binary32
     requires { at + 4 ≤ length s.now }
@@ -43,6 +41,7 @@ fn float_at(s: &[u8], at: usize) -> Binary32
     read_f32(s, at).unwrap().0
 }
 
+// Three floats that are known to be there.
 #[tactic(auto, using(base::proofs::Floats::hermite_there))]
 fn hermite_at(s: &[u8], at: usize) -> Hermite
     requires { at + 12 ≤ length s.now }
@@ -52,6 +51,7 @@ fn hermite_at(s: &[u8], at: usize) -> Hermite
 }
 
 // A key of this curve.
+// Kept: the number, since `key_of` is of any (bflan's `Field::Key`). A `Curve` would need a case for the others.
 #[tactic(auto, unfolding(bflan::specs::pai1::Record::key_widths, bflan::specs::pai1::Places::total, bflan::specs::pai1::FieldValues::numbers_in, crate::specs::FieldAt::key_of, base::specs::Float::patterns_at))]
 fn key_at(s: &[u8], at: usize, curve: u32) -> NewKey
     requires { at + total (key_widths curve) ≤ length s.now }
@@ -59,31 +59,21 @@ fn key_at(s: &[u8], at: usize, curve: u32) -> NewKey
 {
     match curve {
         0 => NewKey::Constant(float_at(s, at)),
-        1 => NewKey::Step(float_at(s, at), half_at(s, at + 4)),
+        1 => NewKey::Step(float_at(s, at), number_at::<u16>(s, at + 4)),
         _ => NewKey::Hermite(hermite_at(s, at)),
     }
 }
 
-// Looping as the record has it.
-#[tactic(auto, unfolding(bflan::specs::pai1::Reading::flag_of))]
-fn flag_of(b: u8) -> u32
-    ensures { result ≡ flag_of b }
-{
-    match b {
-        0 => 0,
-        _ => 1,
-    }
-}
-
-// A target's number as the record has it. (Kept: bflan's `resolve` answers the same. Called here too, it would no longer be compiled into the reading of
-// targets, which takes 3 % longer then.)
+// A target's number as the record has it.
+// Kept: bflan's `resolve` answers the same. Called here too, it is no longer compiled into the reading of targets, and a section of many Step keys takes
+// 4.9 % more instructions to read.
 #[tactic(auto, unfolding(bflan::specs::pai1::Letters::target_of, bflan::specs::pai1::Letters::target_under))]
-fn number_of(letters: u32, raw: u8) -> u8
+fn number_of(letters: u32, raw: u32) -> u32
     ensures { result ≡ target_of letters raw }
 {
     match kind_of(letters) {
         AnimInfoType::Standard(count) => {
-            if raw < count {
+            if raw < u32::from(count) {
                 return raw;
             }
             0
@@ -99,12 +89,12 @@ fn value_at(s: &[u8], at: usize, f: Field) -> FieldValue
     ensures { result ≡ read_at s.now at f }
 {
     match f {
-        Field::FrameCount => FieldValue::FrameCount(half_at(s, at)),
-        Field::Looping => FieldValue::Looping(flag_of(byte_at(s, at))),
-        Field::Layer => FieldValue::Layer(u32::from(byte_at(s, at))),
-        Field::Target(letters) => FieldValue::Target(u32::from(number_of(letters, byte_at(s, at)))),
+        Field::FrameCount => FieldValue::FrameCount(number_at::<u16>(s, at)),
+        Field::Looping => FieldValue::Looping(flag_of(number_at::<u8>(s, at))),
+        Field::Layer => FieldValue::Layer(number_at::<u8>(s, at)),
+        Field::Target(letters) => FieldValue::Target(number_of(letters, number_at::<u8>(s, at))),
         Field::Key(curve) => FieldValue::Key(key_at(s, at, curve)),
-        Field::Value => FieldValue::Value(word_at(s, at)),
+        Field::Value => FieldValue::Value(number_at::<u32>(s, at)),
     }
 }
 
@@ -113,7 +103,7 @@ pub fn field_at(section: &[u8], place: Place) -> Result<FieldValue, LocateError>
 {
     let w = way_of(place);
     let kind = w.kind;
-    // Kept: a match. With `?` the kind and the number are read as one number, for which the processor waits (src/spot.rt).
+    // Kept: a match. With `?` a key of a small section takes 681 instructions in place of 657, which is 3.7 % more.
     match spot_at(section, kind, w.content, w.info, w.target, w.key, w.value) {
         Ok(spot) => {
             let f = field_as(spot.kind, spot.number);
@@ -123,36 +113,11 @@ pub fn field_at(section: &[u8], place: Place) -> Result<FieldValue, LocateError>
     }
 }
 
-#[tactic(auto, unfolding(crate::specs::FieldAt::of_value, crate::specs::inner::Packing::values_in))]
-fn field_values(v: FieldValue) -> Values
-    ensures { values_in result ≡ of_value v }
-{
-    match v {
-        FieldValue::FrameCount(n) => Values::One(n),
-        FieldValue::Looping(n) => Values::One(n),
-        FieldValue::Layer(n) => Values::One(n),
-        FieldValue::Target(n) => Values::One(n),
-        FieldValue::Key(k) => key_values(k),
-        FieldValue::Value(n) => Values::One(n),
-    }
-}
-
-#[tactic(auto, unfolding(base::specs::Outcome::flat, base::specs::Outcome::counted, crate::specs::inner::Packing::values_in))]
-fn of_values(v: Values) -> Numbers
-    ensures { in_order result ≡ flat 5 (counted (accepted (values_in v))) }
-{
-    match v {
-        Values::One(a) => Numbers(0, 1, a as usize, 0, 0),
-        Values::Two(a, b) => Numbers(0, 2, a as usize, b as usize, 0),
-        Values::Three(a, b, c) => Numbers(0, 3, a as usize, b as usize, c as usize),
-    }
-}
-
 // How many values there are, and the values.
 impl Answer for FieldValue {
     ghost outcome = { of_counted_value };
 
     fn numbers(self) -> Numbers {
-        of_values(field_values(self))
+        Values::from(self).numbers()
     }
 }

@@ -5,7 +5,7 @@ ghost use Rattle.base.specs.Number.{get};
 ghost use Rattle.edit.specs.Journal.{entry_words, entry_at, field_size, all_zero};
 ghost use Rattle.edit.specs.inner.Packing.{unpacked, packed, entry_list};
 
-use base::number::{read_u16, read_u32, write_u8, write_u16, write_u32};
+use base::number::{Number, read, write};
 
 // Up to twelve bytes as little-endian words.
 #[derive(Clone, Copy)]
@@ -41,23 +41,26 @@ pub(crate) fn filled(n: u32, p: Packed) -> bool
     }
 }
 
-// The first `n` bytes, stored from `at` on.
+// The first `n` bytes, stored from `at` on. (Compiled into `undo` and into the edit: an undo takes a tenth longer with a call.)
+// Kept: a match over the count. It is known only when this runs, and `write` takes the width as a type. `filled` tests and `packed_at` reads by one too.
+#[tactic(auto, using(crate::proofs::Calls::packed_1, crate::proofs::Calls::packed_2, crate::proofs::Calls::packed_4, crate::proofs::Calls::packed_6, crate::proofs::Calls::packed_12, crate::proofs::Calls::size_twelve))]
+#[inline(always)]
 pub(crate) fn put_packed(out: &mut [u8], at: usize, n: u32, p: Packed)
     requires { (field_size n ≡ true) × (at < length out.old) }
     ensures { out.new ≡ sets out.old at (take n (unpacked p)) }
 {
     match n {
-        1 => write_u8(out, at, (p.a % 256) as u8),
-        2 => write_u16(out, at, (p.a % 65536) as u16),
-        4 => write_u32(out, at, p.a),
+        1 => write::<u8>(out, at, p.a),
+        2 => write::<u16>(out, at, p.a),
+        4 => write::<u32>(out, at, p.a),
         6 => {
-            write_u32(out, at, p.a);
-            write_u16(out, at + 4, (p.b % 65536) as u16);
+            write::<u32>(out, at, p.a);
+            write::<u16>(out, at + 4, p.b);
         }
         _ => {
-            write_u32(out, at, p.a);
-            write_u32(out, at + 4, p.b);
-            write_u32(out, at + 8, p.c);
+            write::<u32>(out, at, p.a);
+            write::<u32>(out, at + 4, p.b);
+            write::<u32>(out, at + 8, p.c);
         }
     }
 }
@@ -80,63 +83,46 @@ pub(crate) fn entry_at(journal: &[u32], n: usize) -> Entry
     }
 }
 
-// Numbers that are known to be there, of one, two and four bytes. Those of two and four are base's reads, which cannot fail here.
-
-#[tactic(auto, using(crate::proofs::FieldAt::byte_there))]
-pub(crate) fn byte_at(s: &[u8], at: usize) -> u8
-    requires { at + 1 ≤ length s.now }
-    ensures { result ≡ get 1 s.now at }
-{
-    s[at]
-}
-
+// A number that is known to be there: base's read, which cannot fail here.
 #[tactic(auto, using(base::proofs::Numbers::read_there))]
-pub(crate) fn half_at(s: &[u8], at: usize) -> u32
-    requires { at + 2 ≤ length s.now }
-    ensures { result ≡ get 2 s.now at }
+pub(crate) fn number_at<N: Number>(s: &[u8], at: usize) -> u32
+    requires { at + N.WIDTH ≤ length s.now }
+    ensures { result ≡ get N.WIDTH s.now at }
 {
-    read_u16(s, at).unwrap().0
-}
-
-#[tactic(auto, using(base::proofs::Numbers::read_there))]
-pub(crate) fn word_at(s: &[u8], at: usize) -> u32
-    requires { at + 4 ≤ length s.now }
-    ensures { result ≡ get 4 s.now at }
-{
-    read_u32(s, at).unwrap().0
+    read::<N>(s, at).unwrap().0
 }
 
 // The `n` bytes from `at` on.
-#[tactic(auto, using(crate::proofs::Calls::size_twelve))]
+#[tactic(auto, using(crate::proofs::Calls::size_twelve, crate::proofs::Changes::old_1, crate::proofs::Changes::old_2, crate::proofs::Changes::old_4, crate::proofs::Changes::old_6, crate::proofs::Changes::old_12))]
 pub(crate) fn packed_at(s: &[u8], at: usize, n: u32) -> Packed
     requires { (field_size n ≡ true) × (at + n ≤ length s.now) }
     ensures { result ≡ packed (take n (drop at s.now)) }
 {
     match n {
         1 => Packed {
-            a: u32::from(byte_at(s, at)),
+            a: number_at::<u8>(s, at),
             b: 0,
             c: 0,
         },
         2 => Packed {
-            a: half_at(s, at),
+            a: number_at::<u16>(s, at),
             b: 0,
             c: 0,
         },
         4 => Packed {
-            a: word_at(s, at),
+            a: number_at::<u32>(s, at),
             b: 0,
             c: 0,
         },
         6 => Packed {
-            a: word_at(s, at),
-            b: half_at(s, at + 4),
+            a: number_at::<u32>(s, at),
+            b: number_at::<u16>(s, at + 4),
             c: 0,
         },
         _ => Packed {
-            a: word_at(s, at),
-            b: word_at(s, at + 4),
-            c: word_at(s, at + 8),
+            a: number_at::<u32>(s, at),
+            b: number_at::<u32>(s, at + 4),
+            c: number_at::<u32>(s, at + 8),
         },
     }
 }

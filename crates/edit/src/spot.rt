@@ -1,10 +1,10 @@
 // Where a field stands, asked and answered in plain numbers.
 //
-// `locate` is a function of its own for the processor, since an edit and `field_at` both call it. An enum that goes into such a function or
-// comes out of it is stored by its parts and read in pairs, or as one number where it lies in another enum, and a processor waits until all of
-// that is stored. It does not wait for numbers.
+// An edit and `field_at` both call `spot_at`, so it is compiled as a function of its own. The caller of such a function stores an enum part by
+// part. The function then loads several parts at once, and the processor waits until all of them are stored. Numbers are passed without that
+// wait. So a place comes in as numbers, and the answer is an error or a struct of numbers.
 //
-// Kept for that speed: a place's numbers as parameters of `spot_at`, and `Way` and `SpotAt`, which say a `Place` and a `Field` in numbers.
+// Kept: `Way`, `SpotAt` and the parameters of `spot_at`, in place of `Place` and `Field`, for that speed.
 ghost use Rattle.std.specs.Prelude.{◌≡◌};
 ghost use Rattle.bflan.specs.pai1.Locating.{locating};
 ghost use Rattle.edit.specs.inner.Packing.{place_as, field_as, spot_as, located_as};

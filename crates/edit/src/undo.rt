@@ -44,7 +44,7 @@ fn restorable(e: Entry, size: usize) -> bool
     false
 }
 
-#[tactic(auto, unfolding(crate::specs::Editing::restored, crate::specs::Journal::restorable, crate::specs::Journal::bytes_in, crate::specs::inner::Packing::entry_list, crate::specs::inner::Packing::unpacked))]
+#[tactic(auto, using(crate::proofs::Calls::restorable_size, crate::proofs::Calls::restorable_inside), unfolding(crate::specs::Editing::restored, crate::specs::Journal::restorable, crate::specs::Journal::bytes_in, crate::specs::inner::Packing::entry_list, crate::specs::inner::Packing::unpacked))]
 fn restore(section: &mut [u8], e: Entry)
     requires { restorable (length section.old) (entry_list e) ≡ true }
     ensures { section.new ≡ restored section.old (entry_list e) }

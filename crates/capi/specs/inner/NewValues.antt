@@ -4,14 +4,14 @@ use Rattle.bflan.specs.declared.place.Place.{Place}
 use Rattle.bflan.specs.declared.place.Place.TheVariants.{FrameCount, Looping, Layer, Target, Key, Value}
 
 -- those of a key: one of a Constant one, two of a Step key, and three of a Hermite key
-unfoldable pub new_key_values : ℕ → ℕ → ℕ → ℕ → List ℕ
+abbrev pub new_key_values : ℕ → ℕ → ℕ → ℕ → List ℕ
 new_key_values zero x y z = x ∷ y ∷ z ∷ []
 new_key_values (suc zero) x y z = x ∷ []
 new_key_values (suc (suc zero)) x y z = x ∷ y ∷ []
 new_key_values (suc (suc (suc n))) x y z = x ∷ y ∷ z ∷ []
 
 -- one at every other place
-unfoldable pub new_values : Place → ℕ → ℕ → ℕ → ℕ → List ℕ
+abbrev pub new_values : Place → ℕ → ℕ → ℕ → ℕ → List ℕ
 new_values FrameCount n x y z = x ∷ []
 new_values Looping n x y z = x ∷ []
 new_values (Layer c i t) n x y z = x ∷ []

@@ -37,6 +37,12 @@ values_in (One a) = a ∷ []
 values_in (Two a b) = a ∷ b ∷ []
 values_in (Three a b c) = a ∷ b ∷ c ∷ []
 
+-- a new value's words as three: zeros stand for those that it does not have
+unfoldable pub words_of : Values → Packed
+words_of (One a) = record { a = a; b = 0; c = 0 }
+words_of (Two a b) = record { a = a; b = b; c = 0 }
+words_of (Three a b c) = record { a = a; b = b; c = c }
+
 -- a place, a field and what locating answers, by their numbers
 unfoldable pub place_as : Kind → ℕ → ℕ → ℕ → ℕ → ℕ → Place
 place_as FrameCount c i t k v = AtFrameCount
