@@ -1,7 +1,10 @@
-// How a program starts and ends. No contract of std can say what is written, so none does here.
+// How a program starts and ends. No contract of std says what is written, or whether it was, so the functions that write have none.
 //
 // No write is lost in silence. One that fails is said on standard error with the system's reason, and nothing more is written: what is
 // already written stays the beginning of the output. When the program ends, it says that the output is not complete.
+ghost use Rattle.std.specs.Prelude.{◌≡◌, ◌&&◌, Ok, is_ok};
+ghost use Rattle.console.specs.declared.program.Failure.TheVariants.{Output};
+
 use crate::argument::{Asked, arguments};
 use crate::reason::Reason;
 use std::io;
@@ -19,8 +22,10 @@ pub enum Failure {
 }
 
 impl From<io::Error> for Failure {
+    ghost from_gives = { λ error failure. failure ≡ Output error };
+
     fn from(error: io::Error) -> Failure {
-        Failure::Output(error)
+        Self::Output(error)
     }
 }
 
@@ -119,33 +124,40 @@ impl Program {
 #[derive(Clone, Copy)]
 pub struct Output {
     program: Program,
-    complete: bool,
+    // What became of the writes: the first failure, if there is one.
+    written: io::Result<()>,
 }
 
 impl Output {
-    pub fn new(program: Program) -> Output {
+    pub fn new(program: Program) -> Output
+        ensures { result ≡ record { program = program; written = Ok tt } }
+    {
         Output {
             program,
-            complete: true,
+            written: Ok(()),
         }
     }
 
     // Whether each write so far was done.
-    pub fn is_complete(self) -> bool {
-        self.complete
+    pub fn is_complete(self) -> bool
+        ensures { result ≡ is_ok self.written }
+    {
+        self.written.is_ok()
     }
 
     // Takes what became of a write. Why one failed is said at once.
-    pub fn note(&mut self, rt: HostRuntime, written: io::Result<()>) {
+    pub fn note(&mut self, rt: HostRuntime, written: io::Result<()>)
+        ensures { is_ok self.new.written ≡ (is_ok self.old.written && is_ok written) }
+    {
         if let Err(error) = written {
             self.program.say_unwritten(rt, error);
-            self.complete = false;
         }
+        self.written = self.written.and(written);
     }
 
     // Says, when the program ends, that a write failed.
     pub fn end(self, rt: HostRuntime) {
-        if !self.complete {
+        if self.written.is_err() {
             self.program.say_incomplete(rt);
         }
     }

@@ -1,6 +1,6 @@
 // What is said of a section that does not read: the refusal's number, its values, and a sentence.
 ghost use Rattle.std.specs.Prelude.{Some};
-ghost use Rattle.console.specs.Refusal.{refused_text, values_text};
+ghost use Rattle.console.specs.Refusal.{refused_text, values_text, letter_text, letters_text, bytes_text, why_text, too_long_text};
 
 use crate::hex::Escaped;
 use crate::room::{MOST, ROOM};
@@ -33,6 +33,7 @@ pub struct Refused(pub Fault);
 impl fmt::Display for Refused {
     ghost output = { λ r. Some (refused_text r.0) };
 
+    #[tactic(auto, using(crate::proofs::Refusals::first_number), unfolding(crate::specs::Refusal::refused_text))]
     fn fmt<W: fmt::Write>(&self, f: &mut fmt::Formatter<W>) -> fmt::Result {
         let number = self.0.numbers().0;
         let values = Values(self.0);
@@ -45,6 +46,9 @@ impl fmt::Display for Refused {
 struct Letter(u8);
 
 impl fmt::Display for Letter {
+    ghost output = { λ l. Some (letter_text l.0) };
+
+    #[tactic(auto, unfolding(crate::specs::Refusal::letter_text))]
     fn fmt<W: fmt::Write>(&self, f: &mut fmt::Formatter<W>) -> fmt::Result {
         match self.0 {
             b'"' => f.write_str("\\\""),
@@ -57,11 +61,14 @@ impl fmt::Display for Letter {
 
 // The four letters; the first is the number's lowest byte.
 #[derive(Clone, Copy)]
-struct Letters(u32);
+struct Letters(usize);
 
 impl fmt::Display for Letters {
+    ghost output = { λ l. Some (letters_text l.0) };
+
+    #[tactic(auto, unfolding(crate::specs::Refusal::letters_text, base::specs::Number::le))]
     fn fmt<W: fmt::Write>(&self, f: &mut fmt::Formatter<W>) -> fmt::Result {
-        let [a, b, c, d] = self.0.to_le_bytes();
+        let [a, b, c, d, ..] = self.0.to_le_bytes();
         write!(f, "{}{}{}{}", Letter(a), Letter(b), Letter(c), Letter(d))
     }
 }
@@ -71,6 +78,9 @@ impl fmt::Display for Letters {
 struct Bytes(usize);
 
 impl fmt::Display for Bytes {
+    ghost output = { λ b. Some (bytes_text b.0) };
+
+    #[tactic(auto, unfolding(crate::specs::Refusal::bytes_text))]
     fn fmt<W: fmt::Write>(&self, f: &mut fmt::Formatter<W>) -> fmt::Result {
         match self.0 {
             1 => f.write_str("1 byte"),
@@ -79,11 +89,14 @@ impl fmt::Display for Bytes {
     }
 }
 
-// Why, up to the line's end. The crate pai1 has the same sentences.
+// Why, up to the line's end. The Rust crate in rust/pai1 says it by the same sentences.
 #[derive(Clone, Copy)]
 pub struct Why(pub Fault);
 
 impl fmt::Display for Why {
+    ghost output = { λ w. Some (why_text w.0) };
+
+    #[tactic(auto, unfolding(crate::specs::Refusal::why_text))]
     fn fmt<W: fmt::Write>(&self, f: &mut fmt::Formatter<W>) -> fmt::Result {
         match self.0 {
             Fault::OtherLetters(letters) => {
@@ -115,6 +128,9 @@ impl fmt::Display for Why {
 pub struct TooLong;
 
 impl fmt::Display for TooLong {
+    ghost output = { λ _. Some too_long_text };
+
+    #[tactic(auto, using(crate::proofs::Refusals::first_number), unfolding(crate::specs::Refusal::too_long_text))]
     fn fmt<W: fmt::Write>(&self, f: &mut fmt::Formatter<W>) -> fmt::Result {
         let number = ReadError::TooLong(ROOM).numbers().0;
         write!(f, "refused {number}: the input is longer than {MOST} bytes")

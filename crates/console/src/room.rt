@@ -17,7 +17,7 @@ pub const BYTES: usize = 65536;
 // What is read at once, and the longest argument.
 pub const PIECE: usize = 4096;
 
-// A room of so many zeros. (Of a large one that is written out in place a search would count the zeros.)
+// A room of N zeros. The programs call this in place of `[0; N]`, since a proof's search would go through all the zeros of such an array.
 pub fn room<T: Copy + Default, const N: usize>() -> [T; N]
     ensures { length result ≡ N }
 {

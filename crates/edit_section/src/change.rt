@@ -1,6 +1,6 @@
 // The changes that can be said: a name, and behind it the numbers of a place and the new value.
 use crate::arguments::{Arguments, Misuse};
-use base::float::{HermiteBits, from_bits, hermite_from_bits};
+use base::float::{Binary32, Hermite, HermiteBits};
 use edit::edit::Change;
 use edit::key::NewKey;
 
@@ -37,15 +37,15 @@ pub(crate) fn step_at(arguments: &mut Arguments, name: &str, i: usize) -> Result
         }
         "constant" => {
             let [c, i, t, k, v] = arguments.numbers::<5>(i)?;
-            key(c, i, t, k, NewKey::Constant(from_bits(v)))
+            key(c, i, t, k, NewKey::Constant(Binary32::from_bits(v)))
         }
         "step" => {
             let [c, i, t, k, frame, v] = arguments.numbers::<6>(i)?;
-            key(c, i, t, k, NewKey::Step(from_bits(frame), v))
+            key(c, i, t, k, NewKey::Step(Binary32::from_bits(frame), v))
         }
         "hermite" => {
             let [c, i, t, k, frame, v, slope] = arguments.numbers::<7>(i)?;
-            let h = hermite_from_bits(HermiteBits(frame, v, slope));
+            let h = Hermite::from_bits(HermiteBits(frame, v, slope));
             key(c, i, t, k, NewKey::Hermite(h))
         }
         "value" => {

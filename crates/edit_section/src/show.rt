@@ -1,6 +1,6 @@
 // What stands at a place, said as the arguments that would put it there.
 use crate::arguments::{Arguments, Misuse};
-use base::float::{Binary32, hermite_to_bits, to_bits};
+use base::float::Binary32;
 use bflan::place::Place;
 use edit::field::FieldValue;
 use edit::key::NewKey;
@@ -59,7 +59,7 @@ impl fmt::Display for Bits {
 
 impl From<Binary32> for Bits {
     fn from(x: Binary32) -> Bits {
-        Bits(to_bits(x))
+        Bits(x.to_bits())
     }
 }
 
@@ -84,7 +84,7 @@ impl fmt::Display for Shown {
                 write!(f, "step{at} {} {value}", Bits::from(frame))
             }
             FieldValue::Key(NewKey::Hermite(h)) => {
-                let b = hermite_to_bits(h);
+                let b = h.to_bits();
                 write!(f, "hermite{at} {} {} {}", Bits(b.0), Bits(b.1), Bits(b.2))
             }
             FieldValue::Value(n) => write!(f, "value{at} {}", Bits(n)),

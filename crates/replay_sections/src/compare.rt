@@ -18,13 +18,15 @@ pub(crate) trait Marked: Copy + PartialEq {
 
 impl Marked for u32 {
     fn mark(place: usize) -> u32 {
-        2779054080 + (place % 65536) as u32
+        let [low, high, ..] = place.to_le_bytes();
+        2779054080 + u32::from(u16::from_le_bytes([low, high]))
     }
 }
 
 impl Marked for u8 {
     fn mark(place: usize) -> u8 {
-        ((place % 256 * 7 + 165) % 256) as u8
+        let [low, ..] = place.to_le_bytes();
+        low.wrapping_mul(7).wrapping_add(165)
     }
 }
 
@@ -37,12 +39,10 @@ pub(crate) fn mark<T: Marked>(places: &mut [T]) {
 
 // Whether places have their marks; `first` of them are before these.
 fn has_marks<T: Marked>(places: &[T], first: usize) -> bool {
-    for (i, place) in places.iter().enumerate() {
-        if *place != T::mark(first.wrapping_add(i)) {
-            return false;
-        }
-    }
-    true
+    places
+        .iter()
+        .enumerate()
+        .all(|(i, place)| *place == T::mark(first.wrapping_add(i)))
 }
 
 // Whether the table among these places begins with the values, and all other places have their marks.

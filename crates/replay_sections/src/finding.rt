@@ -24,11 +24,12 @@ fn find_among(section: &[u8], t: usize, places: &mut [u8]) -> Result<Found, Find
     find_text(section, t, &mut places[BEFORE..END])
 }
 
-// A text that was found: whether it was decoded, and how many of its characters were replaced.
+// Where a text was found.
 #[derive(Clone, Copy)]
-struct Shown {
-    decoded: bool,
-    replaced: usize,
+enum Shown {
+    InSection,
+    // In the scratch: so many of its characters were replaced.
+    Decoded(usize),
 }
 
 // Text t, if it is the one that is wanted: it stands in the section, with no replaced character and all places as they were; or it was
@@ -45,16 +46,13 @@ fn find_wanted(section: &[u8], t: usize, wanted: &[u8]) -> Option<Shown> {
     if text_part(section, part(&places, BEFORE, SCRATCH), source, start, len) != wanted {
         return None;
     }
-    let right = match source {
-        0 => replaced == 0 && is_right(&places, b""),
-        1 => replaced > 0 && start == 0 && is_right(&places, wanted),
-        _ => false,
+    let shown = match source {
+        0 if replaced == 0 && is_right(&places, b"") => Shown::InSection,
+        1 if replaced > 0 && start == 0 && is_right(&places, wanted) => Shown::Decoded(replaced),
+        _ => return None,
     };
-    if right && len == wanted.len() {
-        Some(Shown {
-            decoded: source == 1,
-            replaced,
-        })
+    if len == wanted.len() {
+        Some(shown)
     } else {
         None
     }
@@ -90,20 +88,20 @@ impl Walk<'_> {
     // Looks for the next text, which has `len` bytes. None if it is not the section's.
     fn text(&mut self, len: usize) -> Option<()> {
         let wanted = self.texts.take(len)?;
-        let Shown { decoded, replaced } = find_wanted(self.section, self.text, wanted)?;
-        if decoded {
-            self.decoded = self.decoded.wrapping_add(1);
-        } else {
-            self.in_section = self.in_section.wrapping_add(1);
+        match find_wanted(self.section, self.text, wanted)? {
+            Shown::InSection => self.in_section = self.in_section.wrapping_add(1),
+            Shown::Decoded(replaced) => {
+                self.decoded = self.decoded.wrapping_add(1);
+                self.left = self.left.checked_sub(replaced)?;
+            }
         }
-        self.left = self.left.checked_sub(replaced)?;
         self.text = self.text.wrapping_add(1);
         Some(())
     }
 
-    // Walks over the words of a record: whether each text is the section's, and the record ends where its words, its texts and the section's
-    // texts end, with no replaced character left.
-    fn record(&mut self, words: &[u8]) -> Option<bool> {
+    // Walks over the words of a record. None if a text is not the section's, or if the record does not end where its words, its texts and the
+    // section's texts end, with no replaced character left.
+    fn record(&mut self, words: &[u8]) -> Option<()> {
         for _ in 0..MANY {
             self.place = match self.place.meet(words) {
                 Met::Length(len, next) => {
@@ -112,12 +110,11 @@ impl Walk<'_> {
                 }
                 Met::Other(next) => next,
                 Met::End => {
-                    return Some(
-                        self.place.at == words.len() / 4
-                            && self.texts.0.is_empty()
-                            && self.left == 0
-                            && find_none(self.section, self.text),
-                    );
+                    let ends = self.place.at == words.len() / 4
+                        && self.texts.0.is_empty()
+                        && self.left == 0
+                        && find_none(self.section, self.text);
+                    return if ends { Some(()) } else { None };
                 }
             };
         }
@@ -136,20 +133,20 @@ fn find_all(c: &Case, replaced: usize, counts: &mut Counts) -> bool {
         in_section: 0,
         decoded: 0,
     };
-    let right = walk.record(c.record_words).unwrap_or(false);
+    let right = walk.record(c.record_words).is_some();
     counts.in_section = counts.in_section.wrapping_add(walk.in_section);
     counts.decoded = counts.decoded.wrapping_add(walk.decoded);
     right
 }
 
 // Looks for the texts of a case. (Where the tables are too short, the sample has no texts.)
-pub(crate) fn find_texts(out: HostRuntime, c: &Case, counts: &mut Counts) -> io::Result<()> {
+pub(crate) fn find_texts(c: &Case, counts: &mut Counts) -> io::Result<()> {
     let answer = c.answer;
     match answer.0 {
         0 => {
             let right = find_all(c, answer.3, counts);
-            counts.note(out, right, "texts found")?;
-            counts.replaced = counts.replaced.wrapping_add(answer.3 as u64);
+            counts.note(right, "texts found")?;
+            counts.replaced = counts.replaced.wrapping_add(answer.3);
             Ok(())
         }
         5 => Ok(()),
@@ -159,7 +156,7 @@ pub(crate) fn find_texts(out: HostRuntime, c: &Case, counts: &mut Counts) -> io:
             mark(&mut places);
             let found = find_among(c.section, 0, &mut places).numbers();
             let right = found == answer && is_right(&places, b"");
-            counts.note(out, right, "text refused")
+            counts.note(right, "text refused")
         }
     }
 }

@@ -39,29 +39,31 @@ const PROGRAM: Program = Program {
 };
 
 // Replays a case. False if it is none that the program is made for.
-fn replay_case(out: HostRuntime, item: &Item, counts: &mut Counts) -> io::Result<bool> {
+// Kept: a truth value within a `Result`, here and in what this calls. An error is a write that failed, and `?` hands it up to the program's end;
+// a case of another kind only ends the replay, and the report is still written.
+fn replay_case(item: &Item, counts: &mut Counts) -> io::Result<bool> {
     match item {
         Item::Case(c) => {
-            let right = counts.case(c.answer.0) && read_section(out, c, counts)?;
+            let right = counts.case(c.answer.0) && read_section(c, counts)?;
             if right {
-                find_texts(out, c, counts)?;
+                find_texts(c, counts)?;
             }
             Ok(right)
         }
-        Item::Record(r) => Ok(counts.case(r.answer.0) && write_record(out, r, counts)?),
+        Item::Record(r) => Ok(counts.case(r.answer.0) && write_record(r, counts)?),
     }
 }
 
 // Replays all cases, and gives what is left of the sample: nothing, if that is well-formed. (A proved loop has to end: no case is without a
 // byte.)
-fn replay<'a>(out: HostRuntime, sample: &'a [u8], counts: &mut Counts) -> io::Result<Rest<'a>> {
+fn replay<'a>(sample: &'a [u8], counts: &mut Counts) -> io::Result<Rest<'a>> {
     let mut rest = Rest(sample);
     for _ in 0..sample.len() {
         let mut behind = rest;
         let Some(item) = behind.item() else {
             break;
         };
-        if !replay_case(out, &item, counts)? {
+        if !replay_case(&item, counts)? {
             break;
         }
         rest = behind;
@@ -71,8 +73,8 @@ fn replay<'a>(out: HostRuntime, sample: &'a [u8], counts: &mut Counts) -> io::Re
 
 // Replays a sample and reports.
 fn replay_all(out: HostRuntime, sample: &[u8]) -> io::Result<()> {
-    let mut counts = Counts::new();
-    let rest = replay(out, sample, &mut counts)?;
+    let mut counts = Counts::new(out);
+    let rest = replay(sample, &mut counts)?;
     print!(out; "{counts}")?;
     let left = rest.0.len();
     // a sample that fills the room may have been cut

@@ -20,7 +20,7 @@ fn words_right(places: &[u32], record: &[u8]) -> bool {
 }
 
 // Reads the section of a case into its tables. False if there is no room for such tables.
-pub(crate) fn read_section(out: HostRuntime, c: &Case, counts: &mut Counts) -> io::Result<bool> {
+pub(crate) fn read_section(c: &Case, counts: &mut Counts) -> io::Result<bool> {
     let Case {
         section,
         words: n,
@@ -42,8 +42,8 @@ pub(crate) fn read_section(out: HostRuntime, c: &Case, counts: &mut Counts) -> i
         &mut texts[BEFORE..m + BEFORE],
     )
     .numbers();
-    counts.note(out, given == answer, "answer")?;
-    counts.note(out, words_right(&words, record_words), "words")?;
-    counts.note(out, is_right(&texts, record_texts), "text bytes")?;
+    counts.note(given == answer, "answer")?;
+    counts.note(words_right(&words, record_words), "words")?;
+    counts.note(is_right(&texts, record_texts), "text bytes")?;
     Ok(true)
 }

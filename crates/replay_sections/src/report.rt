@@ -4,21 +4,24 @@ use std::{fmt, io};
 // The numbers of answers.
 const ANSWERS: usize = 10;
 
-#[derive(Clone, Copy)]
+#[derive(Drop)]
 pub(crate) struct Counts {
+    // where differences are reported
+    pub(crate) out: HostRuntime,
     pub(crate) cases: u64,
     pub(crate) records: u64,
     // of the answers with each number
     pub(crate) answers: [u64; ANSWERS],
     pub(crate) in_section: u64,
     pub(crate) decoded: u64,
-    pub(crate) replaced: u64,
+    pub(crate) replaced: usize,
     pub(crate) differences: u64,
 }
 
 impl Counts {
-    pub(crate) fn new() -> Counts {
+    pub(crate) fn new(out: HostRuntime) -> Counts {
         Counts {
+            out,
             cases: 0,
             records: 0,
             answers: [0; ANSWERS],
@@ -40,12 +43,12 @@ impl Counts {
     }
 
     // Counts and reports a difference in the present case, unless it is right.
-    pub(crate) fn note(&mut self, out: HostRuntime, right: bool, what: &str) -> io::Result<()> {
+    pub(crate) fn note(&mut self, right: bool, what: &str) -> io::Result<()> {
         if right {
             return Ok(());
         }
         self.differences = self.differences.wrapping_add(1);
-        println!(out; "case {}: difference in {what}", self.cases)
+        println!(self.out; "case {}: difference in {what}", self.cases)
     }
 }
 

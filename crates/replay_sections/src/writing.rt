@@ -12,7 +12,7 @@ const OUTPUT: usize = 512;
 const ALL: usize = 528;
 
 // Writes the record of a case. False if there is no room for such a record.
-pub(crate) fn write_record(out: HostRuntime, r: &Record, counts: &mut Counts) -> io::Result<bool> {
+pub(crate) fn write_record(r: &Record, counts: &mut Counts) -> io::Result<bool> {
     let Record {
         words,
         texts,
@@ -30,7 +30,7 @@ pub(crate) fn write_record(out: HostRuntime, r: &Record, counts: &mut Counts) ->
     let mut places = [0; ALL];
     mark(&mut places);
     let given = write(words.as_slice(), texts, &mut places[BEFORE..room + BEFORE]).numbers();
-    counts.note(out, given == answer, "answer")?;
-    counts.note(out, is_right(&places, section), "section")?;
+    counts.note(given == answer, "answer")?;
+    counts.note(is_right(&places, section), "section")?;
     Ok(true)
 }

@@ -83,6 +83,7 @@ fn write_again(words: &[u32], texts: &[u8], out: &mut [u8]) -> Result<usize, Ref
 }
 
 // The words and text bytes that the reading filled, written again.
+// Kept: `words`, `texts` and `out` as three arguments, here and below, since each contract names each of them.
 fn round_trip(
     section: &[u8],
     words: &mut [u32],

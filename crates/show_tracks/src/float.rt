@@ -1,5 +1,5 @@
 // A binary32 in print.
-use base::float::{Binary32, from_bits};
+use base::float::Binary32;
 use std::fmt;
 use std::fmt::InlineText;
 
@@ -13,7 +13,7 @@ pub(crate) struct Float(pub(crate) u32);
 impl fmt::Display for Float {
     fn fmt<W: fmt::Write>(&self, f: &mut fmt::Formatter<W>) -> fmt::Result {
         let bits = self.0;
-        match from_bits(bits) {
+        match Binary32::from_bits(bits) {
             Binary32::Number(x) if x.is_finite() => {
                 // A finite one is a multiple of 2^-149, so no digit is left out.
                 let exact = InlineText::<ROOM>::of(format_args!("{x:.149}"));

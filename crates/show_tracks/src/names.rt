@@ -1,5 +1,6 @@
 // The Rust's names: of the types of contents (AnimType), of the letters (AnimInfoType), of the targets below each (the enums of
 // TargetIndex) and of the curves. A list has the names in the order of their numbers, a blank between them.
+use bflan::curve::Curve;
 use bflan::letters;
 use std::fmt;
 
@@ -24,28 +25,13 @@ impl fmt::Display for Type {
     }
 }
 
-// How a track goes from key to key.
+// The curve of a track.
 #[derive(Clone, Copy)]
-pub(crate) enum Curve {
-    Constant,
-    Step,
-    Hermite,
-}
+pub(crate) struct CurveName(pub(crate) Curve);
 
-impl Curve {
-    // The curve of a record that has this number. (A record that was read has no other.)
-    pub(crate) fn of(number: u32) -> Curve {
-        match number {
-            0 => Curve::Constant,
-            1 => Curve::Step,
-            _ => Curve::Hermite,
-        }
-    }
-}
-
-impl fmt::Display for Curve {
+impl fmt::Display for CurveName {
     fn fmt<W: fmt::Write>(&self, f: &mut fmt::Formatter<W>) -> fmt::Result {
-        f.write_str(match self {
+        f.write_str(match self.0 {
             Curve::Constant => "Constant",
             Curve::Step => "Step",
             Curve::Hermite => "Hermite",
@@ -61,6 +47,7 @@ fn with_targets(name: &'static str, targets: &'static str) -> Kind {
     Kind(name, Some(targets))
 }
 
+// (bflan has the codes of the letters. The names are here, since no other program prints them.)
 fn kind_of(word: u32) -> Kind {
     match word {
         letters::FLCC => with_targets(

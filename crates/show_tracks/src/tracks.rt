@@ -1,9 +1,10 @@
 // The walk over the words of a record, with a line for each of its parts (document 01, 'Flat record').
 use crate::float::Float;
-use crate::names::{Curve, Letters, Target, Type};
+use crate::names::{CurveName, Letters, Target, Type};
 use crate::text::{Quoted, Text};
+use bflan::curve::Curve;
 use bflan::letters::FLEU;
-use std::io;
+use std::{fmt, io};
 
 // What 28 bytes can decode to, where each becomes U+FFFD.
 const NAME: usize = 84;
@@ -34,6 +35,19 @@ impl<'a> Walk<'a> {
         Float(self.word())
     }
 
+    // (A record that was read has no other number than a curve's.)
+    fn curve(&mut self) -> Curve {
+        Curve::try_from(self.word()).unwrap_or(Curve::Hermite)
+    }
+
+    fn key(&mut self, curve: Curve) -> Key {
+        match curve {
+            Curve::Constant => Key::Constant(self.float()),
+            Curve::Step => Key::Step(self.float(), self.word()),
+            Curve::Hermite => Key::Hermite(self.float(), self.float(), self.float()),
+        }
+    }
+
     // The next text, whose length the record has, too.
     fn text<'s>(&mut self, scratch: &'s mut [u8]) -> Text<'s>
     where
@@ -42,6 +56,24 @@ impl<'a> Walk<'a> {
         let number = self.text;
         self.text = number.wrapping_add(1);
         Text::find(self.section, number, scratch)
+    }
+}
+
+// A key: a value; a frame and a value; or a frame, a value and a slope.
+#[derive(Clone, Copy)]
+enum Key {
+    Constant(Float),
+    Step(Float, u32),
+    Hermite(Float, Float, Float),
+}
+
+impl fmt::Display for Key {
+    fn fmt<W: fmt::Write>(&self, f: &mut fmt::Formatter<W>) -> fmt::Result {
+        match self {
+            Key::Constant(value) => write!(f, "({value})"),
+            Key::Step(frame, value) => write!(f, "({frame}, {value})"),
+            Key::Hermite(frame, value, slope) => write!(f, "({frame}, {value}, {slope})"),
+        }
     }
 }
 
@@ -60,6 +92,8 @@ struct Info<'a> {
     letters: Letters,
 }
 
+// Kept: `out`, `walk` and `scratch` as three arguments, here and below. One struct was tried. The borrow checker doesn't cover a text that is
+// made from a scratch within it (`a struct that holds a reference is made while a reference at that lifetime is lent again`).
 fn show_texture(
     out: HostRuntime,
     walk: &mut Walk,
@@ -69,27 +103,6 @@ fn show_texture(
     let _len = walk.word();
     let name = walk.text(scratch);
     println!(out; "texture {number}: {name}")
-}
-
-// A key behind a blank.
-fn show_key(out: HostRuntime, walk: &mut Walk, curve: Curve) -> io::Result<()> {
-    match curve {
-        Curve::Constant => {
-            let value = walk.float();
-            print!(out; " ({value})")
-        }
-        Curve::Step => {
-            let frame = walk.float();
-            let value = walk.word();
-            print!(out; " ({frame}, {value})")
-        }
-        Curve::Hermite => {
-            let frame = walk.float();
-            let value = walk.float();
-            let slope = walk.float();
-            print!(out; " ({frame}, {value}, {slope})")
-        }
-    }
 }
 
 fn show_track(out: HostRuntime, walk: &mut Walk, info: &Info, number: usize) -> io::Result<()> {
@@ -107,13 +120,15 @@ fn show_track(out: HostRuntime, walk: &mut Walk, info: &Info, number: usize) -> 
         letters,
         number: walk.word(),
     };
-    let curve = Curve::of(walk.word());
+    let curve = walk.curve();
     let keys = walk.count();
     print!(out;
-        "track {outer} {place} {number}: {name} {letters} {target}, layer {layer}, {curve}, keys {keys}:"
+        "track {outer} {place} {number}: {name} {letters} {target}, layer {layer}, {}, keys {keys}:",
+        CurveName(curve)
     )?;
     for _ in 0..keys {
-        show_key(out, walk, curve)?;
+        let key = walk.key(curve);
+        print!(out; " {key}")?;
     }
     println!(out)
 }
