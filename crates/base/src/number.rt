@@ -103,7 +103,7 @@ pub fn read<N: Number>(s: &[u8], at: usize) -> Result<(u32, usize), PastEnd>
 }
 
 // The first of the `k` bytes of `v`, as many as there is room for: the way of a write that runs past the end.
-// Kept: a copy of `to_le_bytes` was tried. It becomes a call; a loop that writes must save its values over it, and takes 10 % longer.
+// Kept: a copy of `to_le_bytes` was tried. It becomes a call; a loop that writes must save its values around the call, and takes 10 % longer.
 #[tactic(auto, using(crate::proofs::Numbers::put_end))]
 fn write_clipped(out: &mut [u8], at: usize, k: usize, v: u32)
     ensures { out.new ≡ put k out.old at v }

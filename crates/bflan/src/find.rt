@@ -13,7 +13,7 @@ use base::part::part;
 use base::utf8::{decode_into, decoded_len, well_formed};
 
 // A text that was found: its source (0 the section, 1 the scratch), its start and length there, and how many U+FFFD were put in.
-// Kept: the source is a number, since C hands any number back to `text_part`.
+// Kept: the source is a number, since C may hand any number back to `text_part`.
 #[derive(Clone, Copy)]
 pub struct Found {
     pub source: usize,

@@ -23,7 +23,7 @@ use bflan::read::flag_of;
 #[derive(Clone, Copy)]
 pub enum FieldValue {
     FrameCount(u32),
-    // 0 or 1. A number as in every other case, and the word that the record has.
+    // 0 or 1. Kept: a number as in every other case, and the word that the record has.
     Looping(u32),
     Layer(u32),
     Target(u32),
@@ -51,7 +51,7 @@ fn hermite_at(s: &[u8], at: usize) -> Hermite
 }
 
 // A key of this curve.
-// Kept: the number, since `key_of` is of any (bflan's `Field::Key`). A `Curve` would need a case for the others.
+// Kept: the curve as a number, since `key_of` is of any (bflan's `Field::Key`). A `Curve` would need a case for the others.
 #[tactic(auto, unfolding(bflan::specs::pai1::Record::key_widths, bflan::specs::pai1::Places::total, bflan::specs::pai1::FieldValues::numbers_in, crate::specs::FieldAt::key_of, base::specs::Float::patterns_at))]
 fn key_at(s: &[u8], at: usize, curve: u32) -> NewKey
     requires { at + total (key_widths curve) ≤ length s.now }

@@ -42,7 +42,7 @@ pub(crate) fn filled(n: u32, p: Packed) -> bool
 }
 
 // The first `n` bytes, stored from `at` on. (Compiled into `undo` and into the edit: an undo takes a tenth longer with a call.)
-// Kept: a match over the count. It is known only when this runs, and `write` takes the width as a type. `filled` tests and `packed_at` reads by one too.
+// Kept: a match over the count. It is known only when this runs, and `write` takes the width as a type. `filled` and `packed_at` go by it in the same way.
 #[tactic(auto, using(crate::proofs::Calls::packed_1, crate::proofs::Calls::packed_2, crate::proofs::Calls::packed_4, crate::proofs::Calls::packed_6, crate::proofs::Calls::packed_12, crate::proofs::Calls::size_twelve))]
 #[inline(always)]
 pub(crate) fn put_packed(out: &mut [u8], at: usize, n: u32, p: Packed)

@@ -4,7 +4,7 @@
 // part. The function then loads several parts at once, and the processor waits until all of them are stored. Numbers are passed without that
 // wait. So a place comes in as numbers, and the answer is an error or a struct of numbers.
 //
-// Kept: `Way`, `SpotAt` and the parameters of `spot_at`, in place of `Place` and `Field`, for that speed.
+// Kept: `Way`, `SpotAt` and the parameters of `spot_at`, in place of `Place` and `Field`, for that speed (docs/DECISIONS.md, 38).
 ghost use Rattle.std.specs.Prelude.{◌≡◌};
 ghost use Rattle.bflan.specs.pai1.Locating.{locating};
 ghost use Rattle.edit.specs.inner.Packing.{place_as, field_as, spot_as, located_as};

@@ -107,7 +107,7 @@ fn make_all(rt: HostRuntime, section: &mut [u8]) -> Result<(), Stop> {
 }
 
 // Says what stands at the places that the arguments behind `show` say.
-// Kept: the loop over the arguments, as `make_all` has it. One over a closure would hand on what each of the two works on.
+// Kept: a loop of its own, like that of `make_all`. A shared one over a closure would have to hand on the state that each changes.
 fn show_all(rt: HostRuntime, section: &[u8], output: &mut Output) -> Result<(), Stop> {
     let mut arguments = Arguments::behind(rt, 2);
     for _ in 0..arg_count(rt) {

@@ -36,6 +36,6 @@ impl<'a> ClassTable<'a> {
     pub(crate) fn class(self, b: u8) -> u8
         ensures { result ≡ byte_class b }
     {
-        self.classes[b as usize]
+        self.classes[usize::from(b)]
     }
 }

@@ -7,7 +7,7 @@ use crate::utf8::class::ClassTable;
 
 // For each class of a byte the states behind it, six bits for each state before it. A state is held as six times its number, so that it is
 // the shift.
-// Kept: so a state is a number and no enum, here and in scan.rt.
+// Kept: a state is a number and no enum, here and in scan.rt, since it is the shift.
 pub(crate) const ROWS: [u64; 16] = [
     1715657000903046,
     1715657000903040,
@@ -52,7 +52,7 @@ impl<'a> Automaton<'a> {
         ensures { State result × (state_of result ≡ state_after (state_of state) b) }
     {
         let c = self.classes.class(b);
-        self.rows[c as usize] >> (state % 64)
+        self.rows[usize::from(c)] >> (state % 64)
     }
 
     // The state behind the bytes from `from` to `stop`.

@@ -137,7 +137,7 @@ fn blocks(s: &[u8], from: usize, automaton: Automaton) -> usize
     let mut good = from;
     let mut j = from;
     let mut q: u64 = 0;
-    // Kept: where the walk stops, and in which state, is used behind the loop.
+    // Kept: `chunks_exact` is no plainer, since where the walk stops, and in which state, is used behind the loop.
     while 32 <= s.len() - j {
         if plain_block(s, j, q) {
             j += 32;

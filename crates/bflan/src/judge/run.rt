@@ -12,7 +12,7 @@ use crate::judge::word::word_below;
 use crate::judge::{Mark, Misfit, Position};
 
 // The next `n` words.
-// Kept: no `Rest`. Tried: of a slice in a struct no proof knows that its items are u32, and `run` reads none. `pairs` and `keys` go with it.
+// Kept: no `Rest`, here and in `pairs` and `keys`. Tried, and the proof didn't close: of a slice in a struct none knows that its items are u32.
 #[tactic(auto, using(crate::proofs::judge::JudgeParts::run_there, crate::proofs::judge::JudgeParts::run_short))]
 pub(crate) fn run(words: &[u32], at: Position, n: usize) -> Result<Mark, Misfit>
     requires { n ≤ 17179869184 }

@@ -21,7 +21,7 @@ use base::seek::seek;
 use base::text::first_zero;
 
 // The type of a content whose info table stands at an offset: User of the Rust's `AnimType`.
-// Kept: a type is a number from 0 to 4. An enum would be made of it and made into it again, in the reader, the judge and the writer, to tell User apart.
+// Kept: a type is a number from 0 to 4. Reader, judge and writer would each make an enum of it and turn it back, only to tell User from the others.
 pub(crate) const USER: u32 = 2;
 
 // Where the reading of a content stops whose thirty-two bytes are not all there: the reads in order.

@@ -1,5 +1,5 @@
 // Numbers that are known to be there, read without a test.
-// Kept: base's reads without a test ask for the bytes, so are not public. edit's `read::<N>(s, at).unwrap()` tests again what a head's test covers.
+// Kept: three functions. Base's reads without a test have a `requires`, so they are not public; `read::<N>(s, at).unwrap()`, as edit has it, tests again.
 ghost use Rattle.std.specs.Prelude.{◌≡◌, ◌+◌, ◌<◌, ◌≤◌, length};
 ghost use Rattle.base.specs.Number.{get};
 

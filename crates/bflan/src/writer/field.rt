@@ -27,7 +27,7 @@ pub(crate) fn put_distance(out: &mut [u8], place: Placeholder32, from: usize, to
     requires { (from ≤ to) × (to < 4294967296) }
     ensures { out.new ≡ put 4 out.old place.0 (to - from) }
 {
-    // Kept: a cast. The distance fits, which is proved; `u32::try_from(to - from).unwrap()` says no more, and its test makes writing 1 to 3 % longer.
+    // Kept: a cast. The distance fits, which is proved; `u32::try_from(to - from).unwrap()` says no more. (With its test writing took 1 to 3 % longer.)
     patch_u32(out, place, (to - from) as u32);
 }
 

@@ -18,6 +18,7 @@ use base::number::write;
 use base::run::{write_numbers, write_pairs};
 
 // The layer, the number, the curve and the key count of a target, and the offset of its keys.
+// Kept: the curve as the record's word, which is stored as it is. A `Curve` would be made first and turned back here.
 fn put_head(out: &mut [u8], at: usize, layer: u32, number: u32, curve: u32, n: u32)
     requires { at + 12 ≤ 16777216 }
     ensures { out.new ≡ sets out.old at (written (target_head layer number curve n)) }
