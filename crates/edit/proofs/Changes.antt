@@ -3,7 +3,7 @@
 use Prim.Native.Nat.{ℕ, zero, suc, ◌+◌, ◌-◌, ◌*◌, ◌/◌, ◌^◌, ◌<◌, ◌≤◌, min}
 use mathlib.Core.Path.{◌≡◌, refl, sym, ap, ◌∙◌}
 use mathlib.Core.Bool.{Bool, true, false, ◌&&◌, and-true, and-false}
-use mathlib.Core.List.{List, [], ◌∷◌, ◌++◌}
+use mathlib.Core.List.{List, [], ◌∷◌, ◌++◌, append-nil}
 use native.Mathlib.Nat.{add-zero}
 use native.Mathlib.Omega.{arith}
 use borrow.Author.Tests.{leb-true, leb-false, lt-ltb, le-ltb}
@@ -11,8 +11,13 @@ use lib.Dec.{leb, ltb}
 use lib.ListN.{length, get_or, take, drop, replicate, length-drop}
 use lib.Seq.{sets, take-nil, drop-drop, length-take-le}
 use Rattle.base.specs.Choice.{pick}
-use Rattle.base.specs.Number.{le, val, get}
+use Rattle.base.specs.Float.{float_of, hermite_of, pattern_of, patterns_of, put_patterns}
+use Rattle.base.specs.Number.{le, val, get, put}
+use Rattle.base.specs.declared.float.Binary32.{Binary32}
+use Rattle.base.specs.declared.float.Hermite.{Hermite as HermiteForm}
+use Rattle.base.specs.declared.float.HermiteBits.{HermiteBits}
 use Rattle.base.specs.Outcome.{Outcome}
+use Rattle.base.proofs.Floats.{pattern_back, patterns_back}
 use Rattle.base.proofs.Numbers.{get_zero, get_suc}
 use Rattle.bflan.specs.Answer.{too_long}
 use Rattle.bflan.specs.Layout.{written, row}
@@ -30,6 +35,7 @@ use Rattle.bflan.specs.declared.place.FieldSpot.{FieldSpot}
 use Rattle.bflan.specs.declared.place.LocateError.{LocateError}
 use Rattle.bflan.specs.declared.place.LocateError.TheVariants.{TooLong, Fault as Unread, NoSuchPlace}
 use Rattle.bflan.specs.declared.place.Place.{Place}
+use Rattle.edit.proofs.Calls.{put_at, behind_put}
 use Rattle.edit.specs.declared.edit.EditError.TheVariants.{JournalFull}
 use Rattle.edit.specs.declared.journal.Packed.{Packed}
 use Rattle.edit.specs.declared.values.Values.{Values}
@@ -158,6 +164,39 @@ bytes_packed (Key c) (One a) h = rw (one_widths c a (widths-fit (Key c) (a ∷ [
 bytes_packed Value (One a) h = refl
 bytes_packed f (Two a b) h = rw (two_widths f a b (widths-fit f (a ∷ b ∷ []) h)) refl
 bytes_packed f (Three a b c) h = rw (three_widths f a b c (widths-fit f (a ∷ b ∷ c ∷ []) h)) refl
+
+-- a key's values, each written behind the one before it
+module _ (s : List ℕ) (at : ℕ) where
+  step_written : {s₁ s₂ : List ℕ} (a v : ℕ) → s₁ ≡ put 4 s at a → s₂ ≡ put 2 s₁ (at + 4) v → s₂ ≡ sets s at (written (row (4 ∷ 2 ∷ []) (a ∷ v ∷ [])))
+  unfolding written row put
+  step_written {s₁} {s₂} a v e₁ e₂ = e₂ ∙ ap (sets s₁ (at + 4)) (sym (append-nil (le 2 v))) ∙ behind_put s at a (le 2 v ++ []) e₁
+
+  hermite_written : (b : HermiteBits) → put_patterns s at b ≡ sets s at (written (row (4 ∷ 4 ∷ 4 ∷ []) (b.0 ∷ b.1 ∷ b.2 ∷ [])))
+  unfolding put_patterns written row
+  hermite_written b =
+      let s₁ : List ℕ = put 4 s at b.0 in
+      let s₂ : List ℕ = put 4 s₁ (at + 4) b.1 in
+      let q : at + 8 ≡ at + 4 + 4 = omega arith in
+      put_at s₂ (at + 8) (at + 4 + 4) b.2 q ∙ ap (sets s₂ (at + 4 + 4)) (sym (append-nil (le 4 b.2)))
+      ∙ behind_put s₁ (at + 4) b.1 (le 4 b.2 ++ []) refl
+      ∙ behind_put s at b.0 (le 4 b.1 ++ (le 4 b.2 ++ [])) refl
+
+  module _ (f : Field) (v : Values) (h : fit f (values_in v) ≡ true) where
+    pub step_put : (a b : ℕ) (x : Binary32) → v ≡ Two a b → a < 2 ^ 32 → x ≡ float_of a → {s₁ s₂ : List ℕ} → s₁ ≡ put 4 s at (pattern_of x) → s₂ ≡ put 2 s₁ (at + 4) b
+        → s₂ ≡ sets s at (written (row (widths f) (values_in v)))
+    unfolding values_in
+    step_put a b x e ha ex e₁ e₂ =
+        let w : fit_widths (widths f) (a ∷ b ∷ []) ≡ true = widths-fit f (a ∷ b ∷ []) (ap (λ (z : Values). fit f (values_in z)) (sym e) ∙ h) in
+        step_written a b (e₁ ∙ ap (put 4 s at) (ap pattern_of ex ∙ pattern_back a ha)) e₂
+        ∙ ap (λ (ks : List ℕ). sets s at (written (row ks (a ∷ b ∷ [])))) (sym (two_widths f a b w)) ∙ ap (λ (z : Values). sets s at (written (row (widths f) (values_in z)))) (sym e)
+
+    pub hermite_put : (a b c : ℕ) (k : HermiteForm) → v ≡ Three a b c → a < 2 ^ 32 → b < 2 ^ 32 → c < 2 ^ 32 → k ≡ hermite_of (a, b, c) → {s' : List ℕ} → s' ≡ put_patterns s at (patterns_of k)
+        → s' ≡ sets s at (written (row (widths f) (values_in v)))
+    unfolding values_in
+    hermite_put a b c k e ha hb hc ek e' =
+        let w : fit_widths (widths f) (a ∷ b ∷ c ∷ []) ≡ true = widths-fit f (a ∷ b ∷ c ∷ []) (ap (λ (z : Values). fit f (values_in z)) (sym e) ∙ h) in
+        e' ∙ ap (put_patterns s at) (ap patterns_of ek ∙ patterns_back (a, b, c) (record { frame = ha; value = hb; slope = hc })) ∙ hermite_written (a, b, c)
+        ∙ ap (λ (ks : List ℕ). sets s at (written (row ks (a ∷ b ∷ c ∷ [])))) (sym (three_widths f a b c w)) ∙ ap (λ (z : Values). sets s at (written (row (widths f) (values_in z)))) (sym e)
 
 -- ---- the bytes that stood there
 

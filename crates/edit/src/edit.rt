@@ -12,6 +12,8 @@ use crate::journal::{ENTRY_WORDS, Entry, Packed, packed_at, put_entry, put_packe
 use crate::key::NewKey;
 use crate::spot::{field_as, spot_at, way_of};
 use crate::values::{Values, fits, place_of, size_of, values_of};
+use base::float::{Binary32, Hermite, HermiteBits, write_f32, write_hermite};
+use base::number::write;
 use base::outcome::{Answer, Numbers};
 use bflan::fault::Fault;
 use bflan::place::{Field, LocateError};
@@ -88,13 +90,22 @@ fn keep_old(section: &[u8], journal: &mut [u32], count: usize, at: usize, f: Fie
     );
 }
 
-// The field at `at`, with values that it takes.
+// The field at `at`, with values that it takes: two are a Step key's, and three a Hermite key's.
 #[tactic(auto, using(crate::proofs::Changes::bytes_packed))]
 fn write_field(section: &mut [u8], at: usize, f: Field, v: Values)
     requires { (at + total (widths f) ≤ length section.old) × (fit f (values_in v) ≡ true) }
     ensures { section.new ≡ sets section.old at (written (row (widths f) (values_in v))) }
 {
-    put_packed(section, at, size_of(f), Packed::from(v));
+    match v {
+        Values::One(_a) => put_packed(section, at, size_of(f), Packed::from(v)),
+        Values::Two(a, b) => {
+            write_f32(section, at, Binary32::from_bits(a));
+            write::<u16>(section, at + 4, b);
+        }
+        Values::Three(a, b, c) => {
+            write_hermite(section, at, Hermite::from_bits(HermiteBits(a, b, c)))
+        }
+    }
 }
 
 #[tactic(auto, unfolding(crate::specs::Editing::at_spot, crate::specs::Journal::capacity))]
