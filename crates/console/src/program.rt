@@ -29,6 +29,12 @@ impl From<io::Error> for Failure {
     }
 }
 
+// What a program does, once it has been started. Kept: a trait, and no closure: who calls a closure has to know that it may be called, so `start` and
+// `run` would ask that of their callers, and no function that another crate can call asks anything.
+pub trait Body {
+    fn run(rt: HostRuntime) -> Result<(), Failure>;
+}
+
 // What a program says of itself.
 #[derive(Clone, Copy)]
 pub struct Program {
@@ -40,15 +46,9 @@ pub struct Program {
 
 impl Program {
     // Runs a program that takes no argument. `--help` is answered by the usage; any other argument too, on standard error.
-    pub fn start<F: FnOnce(HostRuntime) -> Result<(), Failure> + Drop>(
-        self,
-        rt: HostRuntime,
-        body: F,
-    )
-        requires { F.IsAlwaysCallable body }
-    {
+    pub fn start<B: Body>(self, rt: HostRuntime) {
         match arguments(rt) {
-            Asked::Nothing => self.run(rt, body),
+            Asked::Nothing => self.run::<B>(rt),
             Asked::Help => self.help(rt),
             Asked::Other => {
                 let Program { name, usage, .. } = self;
@@ -58,13 +58,11 @@ impl Program {
     }
 
     // Runs a program, once standard output has taken a write of no bytes.
-    pub fn run<F: FnOnce(HostRuntime) -> Result<(), Failure> + Drop>(self, rt: HostRuntime, body: F)
-        requires { F.IsAlwaysCallable body }
-    {
+    pub fn run<B: Body>(self, rt: HostRuntime) {
         match rt.write_some(b"") {
             Err(error) => self.say_undone(rt, "standard output could not be written", error),
             Ok(_) => {
-                if let Err(failure) = body(rt) {
+                if let Err(failure) = B::run(rt) {
                     self.say_failure(rt, failure);
                 }
             }

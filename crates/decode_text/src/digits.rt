@@ -2,8 +2,7 @@
 ghost use Rattle.std.specs.Prelude.{◌<◌, IfSome, length};
 
 use arrayvec::ArrayVec;
-use console::hex::Hex;
-use std::fmt;
+use console::hex::hex_digit;
 
 // The value of a digit.
 fn digit(b: u8) -> Option<u8>
@@ -42,15 +41,14 @@ pub(crate) fn read_hex<'a, const N: usize>(
     Ok(())
 }
 
-// Bytes in hexadecimal, a blank before each.
-#[derive(Clone, Copy)]
-pub(crate) struct Bytes<'a>(pub(crate) &'a [u8]);
-
-impl fmt::Display for Bytes<'_> {
-    fn fmt<W: fmt::Write>(&self, f: &mut fmt::Formatter<W>) -> fmt::Result {
-        for b in self.0 {
-            write!(f, " {}", Hex(*b))?;
+// The digits of bytes, a blank before each, from the room's start on. (What has no room is left out.)
+// Kept: a room and no `Display`. By a `write!` of each byte's digits a long line takes five times as long.
+pub(crate) fn put_digits(bytes: &[u8], room: &mut [u8]) {
+    for (place, b) in room.chunks_exact_mut(3).zip(bytes) {
+        if let [blank, high, low] = place {
+            *blank = b' ';
+            *high = hex_digit(*b / 16);
+            *low = hex_digit(*b);
         }
-        Ok(())
     }
 }

@@ -12,12 +12,12 @@
 mod digits;
 mod visible;
 
-use crate::digits::{Bytes, read_hex};
+use crate::digits::{put_digits, read_hex};
 use crate::visible::write_visible;
 use arrayvec::ArrayVec;
 use base::part::part;
 use base::utf8::decode_into;
-use console::program::{Failure, Output, Program};
+use console::program::{Body, Failure, Output, Program};
 use console::room::PIECE;
 use std::io;
 use std::io::Read;
@@ -30,6 +30,8 @@ const ROOM: usize = 1026;
 const BYTES: usize = 512;
 // What these can decode to, where each becomes U+FFFD.
 const DECODED: usize = 1536;
+// That in hexadecimal, a blank before each byte.
+const SHOWN: usize = 4608;
 
 const PROGRAM: Program = Program {
     name: "decode_text",
@@ -47,7 +49,11 @@ fn answer(out: HostRuntime, text: &[u8]) -> io::Result<()> {
     let mut decoded = [0; DECODED];
     let mut replaced = 0;
     let n = decode_into(text, &mut decoded, 0, &mut replaced);
-    println!(out; "{n}, replaced {replaced}:{}", Bytes(part(&decoded, 0, n)))
+    let mut digits = [0; SHOWN];
+    put_digits(part(&decoded, 0, n), &mut digits);
+    print!(out; "{n}, replaced {replaced}:")?;
+    out.write_all(part(&digits, 0, n.saturating_mul(3)))?;
+    println!(out)
 }
 
 // Answers a line that has bytes.
@@ -146,22 +152,26 @@ fn take_all(rt: HostRuntime, lines: &mut Lines) -> io::Result<()> {
     Ok(())
 }
 
-fn decode_input(rt: HostRuntime) -> Result<(), Failure> {
-    let mut lines = Lines::new();
-    match take_all(rt, &mut lines) {
-        Ok(()) => lines.end(rt),
-        Err(error) => {
-            PROGRAM.say_unread(rt, error);
-            let number = lines.number;
-            let _ = eprintln!(rt;
-                "decode_text: line {number} and what follows it are not answered"
-            );
+struct DecodeText;
+
+impl Body for DecodeText {
+    fn run(rt: HostRuntime) -> Result<(), Failure> {
+        let mut lines = Lines::new();
+        match take_all(rt, &mut lines) {
+            Ok(()) => lines.end(rt),
+            Err(error) => {
+                PROGRAM.say_unread(rt, error);
+                let number = lines.number;
+                let _ = eprintln!(rt;
+                    "decode_text: line {number} and what follows it are not answered"
+                );
+            }
         }
+        lines.output.end(rt);
+        Ok(())
     }
-    lines.output.end(rt);
-    Ok(())
 }
 
 fn main(rt: HostRuntime) {
-    PROGRAM.start(rt, decode_input)
+    PROGRAM.start::<DecodeText>(rt)
 }

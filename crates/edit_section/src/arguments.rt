@@ -1,6 +1,5 @@
 // The arguments of a run: the names of changes or places, with numbers behind them.
 use console::argument::{arg, arg_count};
-use console::room::PIECE;
 use std::fmt;
 use std::ops::Range;
 
@@ -43,23 +42,32 @@ fn number(text: &str) -> Option<u32> {
 
 // The arguments that are still to come.
 #[derive(Drop)]
-pub(crate) struct Arguments {
+pub(crate) struct Arguments<'r> {
     rt: HostRuntime,
     places: Range<usize>,
+    // Where the text of an argument is put. Kept: one room for all of them. A room for each takes as much again of the stack, and is filled with
+    // zeros each time.
+    room: &'r mut [u8],
 }
 
-impl Arguments {
+impl<'r> Arguments<'r> {
     // Those from a place on.
-    pub(crate) fn behind(rt: HostRuntime, first: usize) -> Arguments {
+    pub(crate) fn behind(rt: HostRuntime, first: usize, room: &'r mut [u8]) -> Arguments<'r> {
         Arguments {
             rt,
             places: first..arg_count(rt),
+            room,
         }
     }
 
     // The place of the next one.
     pub(crate) fn next(&mut self) -> Option<usize> {
         self.places.next()
+    }
+
+    // The name at `i`: no text where there is none, or it has no room.
+    pub(crate) fn name(&mut self, i: usize) -> &str {
+        arg(self.rt, i, self.room).unwrap_or("")
     }
 
     // The numbers behind the name at `i`.
@@ -70,8 +78,7 @@ impl Arguments {
         let mut numbers = [0; N];
         for n in numbers.iter_mut() {
             let at = self.places.next().unwrap_or(i);
-            let mut text = [0; PIECE];
-            *n = arg(self.rt, at, &mut text)
+            *n = arg(self.rt, at, self.room)
                 .and_then(number)
                 .ok_or(Misuse::NoNumber(at))?;
         }

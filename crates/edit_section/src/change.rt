@@ -17,8 +17,8 @@ fn key(c: u32, i: u32, t: u32, k: u32, new: NewKey) -> Step {
 }
 
 // The step that the name at argument `i` says, with the numbers behind it. A key has its floats by their bits.
-pub(crate) fn step_at(arguments: &mut Arguments, name: &str, i: usize) -> Result<Step, Misuse> {
-    let step = match name {
+pub(crate) fn step_at(arguments: &mut Arguments, i: usize) -> Result<Step, Misuse> {
+    let step = match arguments.name(i) {
         "frames" => {
             let [v] = arguments.numbers::<1>(i)?;
             Step::Make(Change::FrameCount(v))

@@ -41,7 +41,7 @@ use crate::refusal::{Refusal, RefusedAt};
 use crate::show::{Shown, place_at};
 use console::argument::{Asked, arg, arg_count, arguments};
 use console::input::read_input;
-use console::program::{Failure, Output, Program};
+use console::program::{Body, Failure, Output, Program};
 use console::refusal::TooLong;
 use console::room::{MOST, PIECE, ROOM, room};
 use edit::edit::{EditError, edit};
@@ -84,17 +84,15 @@ impl From<io::Error> for Stop {
 }
 
 // Makes the changes that the arguments say. (A proved loop has to end: there are no more of them than arguments.)
-fn make_all(rt: HostRuntime, section: &mut [u8]) -> Result<(), Stop> {
-    let mut arguments = Arguments::behind(rt, 1);
+fn make_all(rt: HostRuntime, section: &mut [u8], text: &mut [u8]) -> Result<(), Stop> {
+    let mut arguments = Arguments::behind(rt, 1, text);
     let mut journal = room::<u32, JOURNAL>();
     let mut count = 0;
     for _ in 0..arg_count(rt) {
         let Some(i) = arguments.next() else {
             break;
         };
-        let mut text = [0; PIECE];
-        let name = arg(rt, i, &mut text).unwrap_or("");
-        let step = step_at(&mut arguments, name, i).map_err(|misuse| Stop::Misused(Complaint(
+        let step = step_at(&mut arguments, i).map_err(|misuse| Stop::Misused(Complaint(
             misuse, "change",
         )))?;
         let made = match step {
@@ -108,15 +106,18 @@ fn make_all(rt: HostRuntime, section: &mut [u8]) -> Result<(), Stop> {
 
 // Says what stands at the places that the arguments behind `show` say.
 // Kept: a loop of its own, like that of `make_all`. A shared one over a closure would have to hand on the state that each changes.
-fn show_all(rt: HostRuntime, section: &[u8], output: &mut Output) -> Result<(), Stop> {
-    let mut arguments = Arguments::behind(rt, 2);
+fn show_all(
+    rt: HostRuntime,
+    section: &[u8],
+    text: &mut [u8],
+    output: &mut Output,
+) -> Result<(), Stop> {
+    let mut arguments = Arguments::behind(rt, 2, text);
     for _ in 0..arg_count(rt) {
         let Some(i) = arguments.next() else {
             break;
         };
-        let mut text = [0; PIECE];
-        let name = arg(rt, i, &mut text).unwrap_or("");
-        let place = place_at(&mut arguments, name, i).map_err(|misuse| Stop::Misused(Complaint(
+        let place = place_at(&mut arguments, i).map_err(|misuse| Stop::Misused(Complaint(
             misuse, "place",
         )))?;
         let value = field_at(section, place).map_err(|error| Stop::Refused(RefusedAt(
@@ -131,48 +132,52 @@ fn show_all(rt: HostRuntime, section: &[u8], output: &mut Output) -> Result<(), 
 }
 
 // Whether the first argument is `show`.
-fn shows(rt: HostRuntime) -> bool {
-    let mut text = [0; PIECE];
-    arg(rt, 1, &mut text) == Some("show")
+fn shows(rt: HostRuntime, text: &mut [u8]) -> bool {
+    arg(rt, 1, text) == Some("show")
 }
 
 // Does what the arguments say with a section that was read.
 fn run(rt: HostRuntime, section: &mut [u8], output: &mut Output) -> Result<(), Stop> {
-    if shows(rt) {
-        return show_all(rt, section, output);
+    let mut text = room::<u8, PIECE>();
+    if shows(rt, &mut text) {
+        return show_all(rt, section, &mut text, output);
     }
-    make_all(rt, section)?;
+    make_all(rt, section, &mut text)?;
     rt.write_all(section)?;
     Ok(())
 }
 
-fn edit_input(rt: HostRuntime) -> Result<(), Failure> {
-    let mut bytes = room::<u8, ROOM>();
-    let n = read_input(&mut rt.stdin(), &mut bytes).map_err(Failure::Input)?;
-    if MOST < n {
-        println!(rt; "{TooLong}")?;
-        return Ok(());
-    }
-    let mut output = Output::new(PROGRAM);
-    match run(rt, &mut bytes[..n], &mut output) {
-        Ok(()) => {}
-        Err(Stop::Misused(complaint)) => {
-            let _ = eprint!(rt; "{complaint}\n{}", PROGRAM.usage);
+struct EditSection;
+
+impl Body for EditSection {
+    fn run(rt: HostRuntime) -> Result<(), Failure> {
+        let mut bytes = room::<u8, ROOM>();
+        let n = read_input(&mut rt.stdin(), &mut bytes).map_err(Failure::Input)?;
+        if MOST < n {
+            println!(rt; "{TooLong}")?;
+            return Ok(());
         }
-        Err(Stop::Refused(refused)) => {
-            if output.is_complete() {
-                output.note(rt, println!(rt; "{refused}"));
+        let mut output = Output::new(PROGRAM);
+        match run(rt, &mut bytes[..n], &mut output) {
+            Ok(()) => {}
+            Err(Stop::Misused(complaint)) => {
+                let _ = eprint!(rt; "{complaint}\n{}", PROGRAM.usage);
             }
+            Err(Stop::Refused(refused)) => {
+                if output.is_complete() {
+                    output.note(rt, println!(rt; "{refused}"));
+                }
+            }
+            Err(Stop::Unwritten(error)) => return Err(Failure::Output(error)),
         }
-        Err(Stop::Unwritten(error)) => return Err(Failure::Output(error)),
+        output.end(rt);
+        Ok(())
     }
-    output.end(rt);
-    Ok(())
 }
 
 fn main(rt: HostRuntime) {
     match arguments(rt) {
         Asked::Nothing | Asked::Help => PROGRAM.help(rt),
-        Asked::Other => PROGRAM.run(rt, edit_input),
+        Asked::Other => PROGRAM.run::<EditSection>(rt),
     }
 }

@@ -2,13 +2,14 @@
 use crate::arguments::{Arguments, Misuse};
 use base::float::Binary32;
 use bflan::place::Place;
+use console::hex::Word;
 use edit::field::FieldValue;
 use edit::key::NewKey;
 use std::fmt;
 
 // The place that the name at argument `i` says, with the numbers behind it.
-pub(crate) fn place_at(arguments: &mut Arguments, name: &str, i: usize) -> Result<Place, Misuse> {
-    let place = match name {
+pub(crate) fn place_at(arguments: &mut Arguments, i: usize) -> Result<Place, Misuse> {
+    let place = match arguments.name(i) {
         "frames" => Place::FrameCount,
         "looping" => Place::Looping,
         "layer" => {
@@ -53,7 +54,7 @@ struct Bits(u32);
 
 impl fmt::Display for Bits {
     fn fmt<W: fmt::Write>(&self, f: &mut fmt::Formatter<W>) -> fmt::Result {
-        write!(f, "0x{:08X}", self.0)
+        write!(f, "0x{}", Word(self.0))
     }
 }
 

@@ -21,7 +21,7 @@ use crate::reading::read_section;
 use crate::report::Counts;
 use crate::writing::write_record;
 use console::input::read_input;
-use console::program::{Failure, Program};
+use console::program::{Body, Failure, Program};
 use console::room::room;
 use std::io;
 
@@ -85,13 +85,17 @@ fn replay_all(out: HostRuntime, sample: &[u8]) -> io::Result<()> {
     Ok(())
 }
 
-fn replay_input(rt: HostRuntime) -> Result<(), Failure> {
-    let mut sample = room::<u8, ROOM>();
-    let n = read_input(&mut rt.stdin(), &mut sample).map_err(Failure::Input)?;
-    replay_all(rt, &sample[..n])?;
-    Ok(())
+struct ReplaySections;
+
+impl Body for ReplaySections {
+    fn run(rt: HostRuntime) -> Result<(), Failure> {
+        let mut sample = room::<u8, ROOM>();
+        let n = read_input(&mut rt.stdin(), &mut sample).map_err(Failure::Input)?;
+        replay_all(rt, &sample[..n])?;
+        Ok(())
+    }
 }
 
 fn main(rt: HostRuntime) {
-    PROGRAM.start(rt, replay_input)
+    PROGRAM.start::<ReplaySections>(rt)
 }

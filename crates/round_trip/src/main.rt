@@ -16,7 +16,7 @@ use base::part::part;
 use bflan::read::{ReadError, read};
 use bflan::write::{WriteError, write};
 use console::input::read_input;
-use console::program::{Failure, Program};
+use console::program::{Body, Failure, Program};
 use console::room::{BYTES, MOST, ROOM, WORDS, room};
 use itoa::Buffer;
 use std::io;
@@ -147,20 +147,24 @@ fn answer(
     }
 }
 
-fn answer_input(rt: HostRuntime) -> Result<(), Failure> {
-    let mut bytes = room::<u8, ROOM>();
-    let input = read_input(&mut rt.stdin(), &mut bytes);
-    if let Err(error) = input {
-        PROGRAM.say_failure(rt, Failure::Input(error));
+struct RoundTrip;
+
+impl Body for RoundTrip {
+    fn run(rt: HostRuntime) -> Result<(), Failure> {
+        let mut bytes = room::<u8, ROOM>();
+        let input = read_input(&mut rt.stdin(), &mut bytes);
+        if let Err(error) = input {
+            PROGRAM.say_failure(rt, Failure::Input(error));
+        }
+        let mut words = room::<u32, WORDS>();
+        let mut texts = room::<u8, BYTES>();
+        let mut out = room::<u8, BYTES>();
+        let len = answer(input, &bytes, &mut words, &mut texts, &mut out);
+        rt.write_all(part(&out, 0, len))?;
+        Ok(())
     }
-    let mut words = room::<u32, WORDS>();
-    let mut texts = room::<u8, BYTES>();
-    let mut out = room::<u8, BYTES>();
-    let len = answer(input, &bytes, &mut words, &mut texts, &mut out);
-    rt.write_all(part(&out, 0, len))?;
-    Ok(())
 }
 
 fn main(rt: HostRuntime) {
-    PROGRAM.start(rt, answer_input)
+    PROGRAM.start::<RoundTrip>(rt)
 }

@@ -1,5 +1,6 @@
 // A binary32 in print.
 use base::float::Binary32;
+use console::hex::Word;
 use std::fmt;
 use std::fmt::InlineText;
 
@@ -19,7 +20,7 @@ impl fmt::Display for Float {
                 let exact = InlineText::<ROOM>::of(format_args!("{x:.149}"));
                 f.write_str(exact.as_str().trim_end_matches('0').trim_end_matches('.'))
             }
-            _ => write!(f, "0x{bits:08X}"),
+            _ => write!(f, "0x{}", Word(bits)),
         }
     }
 }

@@ -34,7 +34,7 @@ use crate::tracks::show;
 use base::outcome::Answer;
 use bflan::read::{ReadError, read};
 use console::input::read_input;
-use console::program::{Failure, Program};
+use console::program::{Body, Failure, Program};
 use console::refusal::{Refused, TooLong, Why};
 use console::room::{BYTES, MOST, ROOM, WORDS, room};
 use std::io;
@@ -68,15 +68,19 @@ fn answer(out: HostRuntime, section: &[u8], words: &mut [u32], texts: &mut [u8])
     }
 }
 
-fn show_input(rt: HostRuntime) -> Result<(), Failure> {
-    let mut input = room::<u8, ROOM>();
-    let n = read_input(&mut rt.stdin(), &mut input).map_err(Failure::Input)?;
-    let mut words = room::<u32, WORDS>();
-    let mut texts = room::<u8, BYTES>();
-    answer(rt, &input[..n], &mut words, &mut texts)?;
-    Ok(())
+struct ShowTracks;
+
+impl Body for ShowTracks {
+    fn run(rt: HostRuntime) -> Result<(), Failure> {
+        let mut input = room::<u8, ROOM>();
+        let n = read_input(&mut rt.stdin(), &mut input).map_err(Failure::Input)?;
+        let mut words = room::<u32, WORDS>();
+        let mut texts = room::<u8, BYTES>();
+        answer(rt, &input[..n], &mut words, &mut texts)?;
+        Ok(())
+    }
 }
 
 fn main(rt: HostRuntime) {
-    PROGRAM.start(rt, show_input)
+    PROGRAM.start::<ShowTracks>(rt)
 }
