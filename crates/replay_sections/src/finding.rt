@@ -2,8 +2,8 @@
 ghost use Rattle.std.specs.Prelude.{◌≤◌, length};
 
 use crate::compare::{BEFORE, is_right, mark};
-use crate::input::{Case, Rest};
-use crate::record::{Met, Place};
+use crate::input::Case;
+use crate::record::{Met, Place, plus};
 use crate::report::Counts;
 use base::outcome::Answer;
 use base::part::part;
@@ -71,13 +71,14 @@ fn find_none(section: &[u8], t: usize) -> bool {
 // More steps than a record of the sample takes.
 const MANY: usize = 1000;
 
-// How far the texts of a record were looked for: the place in its words, its text bytes that are still to come, the number of the next text, how
+// How far the texts of a record were looked for: the place in its words, its text bytes, the place in these, the number of the next text, how
 // many replaced characters of the sum that the reading gave are still to come, and how many texts were found.
 #[derive(Clone, Copy)]
 struct Walk<'a> {
     section: &'a [u8],
     place: Place,
-    texts: Rest<'a>,
+    texts: &'a [u8],
+    at: usize,
     text: usize,
     left: usize,
     in_section: u64,
@@ -87,7 +88,10 @@ struct Walk<'a> {
 impl Walk<'_> {
     // Looks for the next text, which has `len` bytes. None if it is not the section's.
     fn text(&mut self, len: usize) -> Option<()> {
-        let wanted = self.texts.take(len)?;
+        let wanted = part(self.texts, self.at, len);
+        if wanted.len() != len {
+            return None;
+        }
         match find_wanted(self.section, self.text, wanted)? {
             Shown::InSection => self.in_section = self.in_section.wrapping_add(1),
             Shown::Decoded(replaced) => {
@@ -96,6 +100,7 @@ impl Walk<'_> {
             }
         }
         self.text = self.text.wrapping_add(1);
+        self.at = plus(self.at, len);
         Some(())
     }
 
@@ -111,7 +116,7 @@ impl Walk<'_> {
                 Met::Other(next) => next,
                 Met::End => {
                     let ends = self.place.at == words.len() / 4
-                        && self.texts.0.is_empty()
+                        && self.at == self.texts.len()
                         && self.left == 0
                         && find_none(self.section, self.text);
                     return if ends { Some(()) } else { None };
@@ -127,7 +132,8 @@ fn find_all(c: &Case, replaced: usize, counts: &mut Counts) -> bool {
     let mut walk = Walk {
         section: c.section,
         place: Place::first(c.record_words),
-        texts: Rest(c.record_texts),
+        texts: c.record_texts,
+        at: 0,
         text: 0,
         left: replaced,
         in_section: 0,
