@@ -40,10 +40,10 @@ use Rattle.edit.specs.declared.edit.EditError.TheVariants.{JournalFull}
 use Rattle.edit.specs.declared.journal.Packed.{Packed}
 use Rattle.edit.specs.declared.values.Values.{Values}
 use Rattle.edit.specs.declared.values.Values.TheVariants.{One, Two, Three}
-use Rattle.edit.specs.Editing.{of_editing, old_at, at_spot, on_reading, editing}
+use Rattle.edit.specs.Editing.{edit_error, of_editing, old_at, at_spot, on_reading, editing}
 use Rattle.edit.specs.Format.{pai1}
 use Rattle.edit.specs.Journal.{entry_words, capacity, padded, entry_of}
-use Rattle.edit.specs.inner.Packing.{edit_error, unpacked, packed, words_of, entry_list, values_in, one_most}
+use Rattle.edit.specs.inner.Packing.{unpacked, packed, words_of, entry_list, values_in, one_most}
 
 -- ---- which values a field takes
 
@@ -167,6 +167,10 @@ bytes_packed f (Three a b c) h = rw (three_widths f a b c (widths-fit f (a ∷ b
 
 -- a key's values, each written behind the one before it
 module _ (s : List ℕ) (at : ℕ) where
+  pub one_written : (k a : ℕ) → put k s at a ≡ sets s at (written (row (k ∷ []) (a ∷ [])))
+  unfolding written row put
+  one_written k a = ap (sets s at) (sym (append-nil (le k a)))
+
   step_written : {s₁ s₂ : List ℕ} (a v : ℕ) → s₁ ≡ put 4 s at a → s₂ ≡ put 2 s₁ (at + 4) v → s₂ ≡ sets s at (written (row (4 ∷ 2 ∷ []) (a ∷ v ∷ [])))
   unfolding written row put
   step_written {s₁} {s₂} a v e₁ e₂ = e₂ ∙ ap (sets s₁ (at + 4)) (sym (append-nil (le 2 v))) ∙ behind_put s at a (le 2 v ++ []) e₁
@@ -182,6 +186,14 @@ module _ (s : List ℕ) (at : ℕ) where
       ∙ behind_put s at b.0 (le 4 b.1 ++ (le 4 b.2 ++ [])) refl
 
   module _ (f : Field) (v : Values) (h : fit f (values_in v) ≡ true) where
+    pub constant_put : (a curve : ℕ) (x : Binary32) → v ≡ One a → f ≡ Key curve → a < 2 ^ 32 → x ≡ float_of a → {s' : List ℕ} → s' ≡ put 4 s at (pattern_of x)
+        → s' ≡ sets s at (written (row (widths f) (values_in v)))
+    unfolding key_widths values_in widths
+    constant_put a curve x e ef ha ex e' =
+        let w : fit_widths (key_widths curve) (a ∷ []) ≡ true = widths-fit (Key curve) (a ∷ []) (ap (λ (g : Field). fit g (a ∷ [])) (sym ef) ∙ ap (λ (z : Values). fit f (values_in z)) (sym e) ∙ h) in
+        e' ∙ ap (put 4 s at) (ap pattern_of ex ∙ pattern_back a ha) ∙ one_written 4 a
+        ∙ ap (λ (ks : List ℕ). sets s at (written (row ks (a ∷ [])))) (sym (ap widths ef ∙ one_widths curve a w)) ∙ ap (λ (z : Values). sets s at (written (row (widths f) (values_in z)))) (sym e)
+
     pub step_put : (a b : ℕ) (x : Binary32) → v ≡ Two a b → a < 2 ^ 32 → x ≡ float_of a → {s₁ s₂ : List ℕ} → s₁ ≡ put 4 s at (pattern_of x) → s₂ ≡ put 2 s₁ (at + 4) b
         → s₂ ≡ sets s at (written (row (widths f) (values_in v)))
     unfolding values_in

@@ -10,6 +10,8 @@ use Rattle.bflan.specs.Layout.{written, row}
 use Rattle.bflan.specs.Limits.{limit}
 use Rattle.bflan.specs.pai1.Places.{Spot, nowhere, spot, fit, widths, total}
 use Rattle.bflan.specs.Reader.{Res, ok, stop}
+use Rattle.bflan.specs.declared.place.LocateError.{LocateError}
+use Rattle.bflan.specs.declared.place.LocateError.TheVariants.{TooLong as LocateTooLong, Fault as LocateFault, NoSuchPlace as LocateNoPlace}
 use Rattle.bflan.specs.declared.place.Place.{Place}
 use Rattle.bflan.specs.declared.place.Place.TheVariants.{FrameCount, Looping, Layer, Target, Key, Value}
 use Rattle.edit.specs.declared.key.NewKey.{NewKey}
@@ -36,6 +38,12 @@ nothing_to_undo = refused 13 (0 ∷ [])
 
 abbrev pub bad_journal : ℕ → Outcome
 bad_journal count = refused 14 (count ∷ [])
+
+-- what locating refuses, an edit refuses
+unfoldable pub edit_error : LocateError → EditError
+edit_error (LocateTooLong size) = TooLong size
+edit_error (LocateFault f) = Unread f
+edit_error LocateNoPlace = NoSuchPlace
 
 abbrev pub of_edit_error : EditError → Outcome
 of_edit_error (TooLong size) = too_long size

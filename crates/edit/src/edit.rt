@@ -3,10 +3,10 @@ ghost use Rattle.std.specs.Prelude.{◌≡◌, true, [], ◌∷◌, ◌+◌, ◌
 ghost use Rattle.std.proofs.lemmas.List.Edits.{sets};
 ghost use Rattle.bflan.specs.Layout.{written, row};
 ghost use Rattle.bflan.specs.pai1.Places.{spot, widths, total, fit};
-ghost use Rattle.edit.specs.Editing.{of_edit_error, of_editing, place_of, values_of, old_at, at_spot, editing};
+ghost use Rattle.edit.specs.Editing.{edit_error, of_edit_error, of_editing, place_of, values_of, old_at, at_spot, editing};
 ghost use Rattle.edit.specs.Format.{pai1};
 ghost use Rattle.edit.specs.Journal.{entry_words, entry_of};
-ghost use Rattle.edit.specs.inner.Packing.{edit_error, values_in};
+ghost use Rattle.edit.specs.inner.Packing.{values_in};
 
 use crate::journal::{ENTRY_WORDS, Entry, Packed, packed_at, put_entry, put_packed};
 use crate::key::NewKey;
@@ -46,7 +46,7 @@ pub enum EditError {
 impl From<LocateError> for EditError {
     ghost from_gives = { λ error given. given ≡ edit_error error };
 
-    #[tactic(auto, unfolding(crate::specs::inner::Packing::edit_error))]
+    #[tactic(auto, unfolding(crate::specs::Editing::edit_error))]
     fn from(error: LocateError) -> EditError {
         match error {
             LocateError::TooLong(size) => EditError::TooLong(size),
@@ -90,14 +90,17 @@ fn keep_old(section: &[u8], journal: &mut [u32], count: usize, at: usize, f: Fie
     );
 }
 
-// The field at `at`, with values that it takes: two are a Step key's, and three a Hermite key's.
+// The field at `at`, with values that it takes: one of a key is a Constant key's, two are a Step key's, and three a Hermite key's.
 #[tactic(auto, using(crate::proofs::Changes::bytes_packed))]
 fn write_field(section: &mut [u8], at: usize, f: Field, v: Values)
     requires { (at + total (widths f) ≤ length section.old) × (fit f (values_in v) ≡ true) }
     ensures { section.new ≡ sets section.old at (written (row (widths f) (values_in v))) }
 {
     match v {
-        Values::One(_a) => put_packed(section, at, size_of(f), Packed::from(v)),
+        Values::One(a) => match f {
+            Field::Key(_curve) => write_f32(section, at, Binary32::from_bits(a)),
+            _ => put_packed(section, at, size_of(f), Packed::from(v)),
+        },
         Values::Two(a, b) => {
             write_f32(section, at, Binary32::from_bits(a));
             write::<u16>(section, at + 4, b);

@@ -5,11 +5,8 @@ use Rattle.bflan.specs.declared.place.Field.{Field}
 use Rattle.bflan.specs.declared.place.Field.TheVariants.{FrameCount as IsFrameCount, Looping as IsLooping, Layer as IsLayer, Target as IsTarget, Key as IsKey, Value as IsValue}
 use Rattle.bflan.specs.declared.place.FieldSpot.{FieldSpot}
 use Rattle.bflan.specs.declared.place.LocateError.{LocateError}
-use Rattle.bflan.specs.declared.place.LocateError.TheVariants.{TooLong as LocateTooLong, Fault as LocateFault, NoSuchPlace as LocateNoPlace}
 use Rattle.bflan.specs.declared.place.Place.{Place}
 use Rattle.bflan.specs.declared.place.Place.TheVariants.{FrameCount as AtFrameCount, Looping as AtLooping, Layer as AtLayer, Target as AtTarget, Key as AtKey, Value as AtValue}
-use Rattle.edit.specs.declared.edit.EditError.{EditError}
-use Rattle.edit.specs.declared.edit.EditError.TheVariants.{TooLong, Fault as Unread, NoSuchPlace}
 use Rattle.edit.specs.declared.journal.Entry.{Entry}
 use Rattle.edit.specs.declared.journal.Packed.{Packed}
 use Rattle.edit.specs.declared.spot.Kind.{Kind}
@@ -66,12 +63,6 @@ spot_as x = record { at = x.at; field = field_as x.kind x.number }
 unfoldable pub located_as : Result SpotAt LocateError → Result FieldSpot LocateError
 located_as (Ok x) = Ok (spot_as x)
 located_as (Err error) = Err error
-
--- what locating refuses, an edit refuses
-unfoldable pub edit_error : LocateError → EditError
-edit_error (LocateTooLong size) = TooLong size
-edit_error (LocateFault f) = Unread f
-edit_error LocateNoPlace = NoSuchPlace
 
 -- one value of at most m
 unfoldable pub one_most : List ℕ → ℕ → Bool
