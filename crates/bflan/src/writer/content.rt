@@ -12,11 +12,11 @@ ghost use Rattle.bflan.specs.inner.LayoutParts.{name_lay, body_lay};
 use crate::judge::word::word_of;
 use crate::reader::content::USER;
 use crate::writer::Writer;
-use crate::writer::field::{put_chars, put_counts, put_distance};
+use crate::writer::field::{distance, put_chars, put_counts};
 use crate::writer::listed::Part;
 use base::fill::{padding, zeros};
 use base::number::write;
-use base::placeholder::write_placeholder_u32;
+use base::placeholder::{patch_u32, write_placeholder_u32};
 
 impl Writer<'_, '_> {
     // The name, with zeros up to 28 bytes.
@@ -45,7 +45,7 @@ impl Writer<'_, '_> {
         self.at = at + 8;
         let left_out = self.put_infos(n, start);
         let end = self.at;
-        put_distance(self.out, total, start + left_out, end);
+        patch_u32(self.out, total, distance(start + left_out, end));
     }
 
     // What is behind the name and the counts of a content that starts at `start`.

@@ -1,7 +1,6 @@
 // Fields of the section that is written, and the texts that it takes over. What would stand past the end is dropped.
 ghost use Rattle.std.specs.Prelude.{◌≡◌, ◌+◌, ◌-◌, ◌<◌, ◌≤◌, length, take, drop};
 ghost use Rattle.std.proofs.lemmas.List.Edits.{sets};
-ghost use Rattle.base.specs.Number.{put};
 ghost use Rattle.bflan.specs.Judge.{next_text, wide};
 ghost use Rattle.bflan.specs.Layout.{number, ◌⨾◌, written, ended};
 ghost use Rattle.bflan.specs.inner.Pen.{HasNext, behind};
@@ -10,7 +9,6 @@ use crate::judge::word::word_of;
 use crate::writer::Writer;
 use base::fill::copy;
 use base::number::write;
-use base::placeholder::{Placeholder32, patch_u32};
 
 // Two bytes and a reserve of two.
 pub(crate) fn put_counts(out: &mut [u8], at: usize, a: u32, b: u32)
@@ -22,13 +20,13 @@ pub(crate) fn put_counts(out: &mut [u8], at: usize, a: u32, b: u32)
     write::<u16>(out, at + 2, 0);
 }
 
-// How far `to` is from `from`, at a place that was held for it.
-pub(crate) fn put_distance(out: &mut [u8], place: Placeholder32, from: usize, to: usize)
+// How far `to` is from `from`. (A place that was held for it is handed to `patch_u32` alone.)
+pub(crate) fn distance(from: usize, to: usize) -> u32
     requires { (from ≤ to) × (to < 4294967296) }
-    ensures { out.new ≡ put 4 out.old place.0 (to - from) }
+    ensures { result ≡ to - from }
 {
     // Kept: a cast. The distance fits, which is proved; `u32::try_from(to - from).unwrap()` says no more. (With its test writing took 1 to 3 % longer.)
-    patch_u32(out, place, (to - from) as u32);
+    (to - from) as u32
 }
 
 // The `n` bytes of the texts from `from` on.

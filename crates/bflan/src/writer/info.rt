@@ -12,9 +12,9 @@ ghost use Rattle.bflan.specs.inner.LayoutParts.{out_of, out_by};
 use crate::judge::word::word_of;
 use crate::letters::FLEU;
 use crate::writer::Writer;
-use crate::writer::field::{put_counts, put_distance};
+use crate::writer::field::{distance, put_counts};
 use base::number::write;
-use base::placeholder::{placeholder_of, write_placeholders_u32};
+use base::placeholder::{patch_u32, placeholder_of, write_placeholders_u32};
 
 // The letters and the count.
 fn put_head(out: &mut [u8], at: usize, letters: u32, n: u32)
@@ -72,7 +72,7 @@ impl Writer<'_, '_> {
         // Kept: a loop of its own beside `put_listed`, since it counts what is left out by the texts before and behind each info. A `Part` with a
         // count that changes would owe laws of it that no other part has.
         for i in 0..n {
-            put_distance(self.out, placeholder_of(table, i), base, self.at);
+            patch_u32(self.out, placeholder_of(table, i), distance(base, self.at));
             let word = self.word;
             let byte = self.byte;
             self.put_info();

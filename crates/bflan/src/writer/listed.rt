@@ -5,8 +5,8 @@ ghost use Rattle.bflan.specs.Layout.{Layout};
 ghost use Rattle.bflan.specs.inner.Pen.{HasNext, behind, listed};
 
 use crate::writer::Writer;
-use crate::writer::field::put_distance;
-use base::placeholder::{placeholder_of, write_placeholders_u32};
+use crate::writer::field::distance;
+use base::placeholder::{patch_u32, placeholder_of, write_placeholders_u32};
 
 // A part of a record that was judged: how it is judged, its layout, and how it is written.
 pub(crate) trait Part: Copy {
@@ -31,7 +31,7 @@ impl Writer<'_, '_> {
         let table = write_placeholders_u32(self.out, self.at, n);
         self.at += 4 * n;
         for i in 0..n {
-            put_distance(self.out, placeholder_of(table, i), base, self.at);
+            patch_u32(self.out, placeholder_of(table, i), distance(base, self.at));
             part.put(self);
         }
     }

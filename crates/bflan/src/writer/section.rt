@@ -12,11 +12,11 @@ ghost use Rattle.bflan.specs.inner.LayoutParts.{frame_lay, names_lay};
 use crate::judge::word::word_of;
 use crate::reader::section::PAI1;
 use crate::writer::Writer;
-use crate::writer::field::put_distance;
+use crate::writer::field::distance;
 use crate::writer::listed::Part;
 use base::fill::align4;
 use base::number::write;
-use base::placeholder::{Placeholder32, write_placeholder_u32};
+use base::placeholder::{Placeholder32, patch_u32, write_placeholder_u32};
 
 // The texture names of a record.
 #[derive(Clone, Copy)]
@@ -84,8 +84,8 @@ pub(crate) fn put_section<'r>(words: &'r [u32], texts: &'r [u8], out: &mut [u8])
     };
     w.put_names(nt as usize);
     let first = w.at;
-    put_distance(w.out, table, 0, first);
+    patch_u32(w.out, table, distance(0, first));
     w.put_contents(nc as usize, 0);
     let end = w.at;
-    put_distance(w.out, size, 0, end);
+    patch_u32(w.out, size, distance(0, end));
 }

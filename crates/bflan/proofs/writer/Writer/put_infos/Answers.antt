@@ -14,7 +14,7 @@ pub loop-i-init : goal.loop-i-init
 loop-i-init c = (going_start c.args.self.now c.requires.1 c.write_placeholders_u32-table.ensures.0 c.requires.0 c.write_placeholders_u32-table.auto.out, out_start _ _ _ _ _)
 
 pub put_info-requires : goal.put_info-requires
-put_info-requires c = going_first c.loop-i.invariant.0 c.loop-i-test.true c.put_distance.auto.out
+put_info-requires c = going_first c.loop-i.invariant.0 c.loop-i-test.true c.patch_u32.auto.out
 
 pub left_out-gone-requires : goal.left_out-gone-requires
 left_out-gone-requires c =
@@ -31,7 +31,7 @@ overflow_add-gone c =
 pub loop-i-preserved : goal.loop-i-preserved
 loop-i-preserved c =
     let t = out_turn _ _ _ _ _ _ _ c.loop-i-test.true c.loop-i.invariant.0.ready _ refl in (
-      going_turn c.loop-i.invariant.0 c.loop-i-test.true c.write_placeholders_u32-table.ensures.1 (rw c.placeholder_of.ensures at c.put_distance.ensures) c.put_info.ensures,
+      going_turn c.loop-i.invariant.0 c.loop-i-test.true c.write_placeholders_u32-table.ensures.1 (rw (c.placeholder_of.ensures, c.distance.ensures) at c.patch_u32.ensures) c.put_info.ensures,
       rw c.put_info.ensures (omega (arith, t.0, c.loop-i.invariant.1, rw c.put_info.ensures at c.left_out-gone.ensures)),
     )
 

@@ -12,10 +12,10 @@ pub loop-i-init : goal.loop-i-init
 loop-i-init g c = going_start c.args.self.now c.requires.1 c.write_placeholders_u32-table.ensures.0 c.requires.0 c.write_placeholders_u32-table.auto.out
 
 pub put-requires : goal.put-requires
-put-requires g c = going_first c.loop-i.invariant c.loop-i-test.true c.put_distance.auto.out
+put-requires g c = going_first c.loop-i.invariant c.loop-i-test.true c.patch_u32.auto.out
 
 pub loop-i-preserved : goal.loop-i-preserved
-loop-i-preserved g c = going_turn c.loop-i.invariant c.loop-i-test.true c.write_placeholders_u32-table.ensures.1 (rw c.placeholder_of.ensures at c.put_distance.ensures) c.put.ensures
+loop-i-preserved g c = going_turn c.loop-i.invariant c.loop-i-test.true c.write_placeholders_u32-table.ensures.1 (rw (c.placeholder_of.ensures, c.distance.ensures) at c.patch_u32.ensures) c.put.ensures
 
 pub returns : goal.returns
 returns g c = going_end c.args.self.now c.requires.1 c.write_placeholders_u32-table.ensures.0 c.write_placeholders_u32-table.ensures.2 c.loop-i.invariant c.loop-i-test.false

@@ -18,8 +18,8 @@ overflow_add-start c = let w = c.args.self.now in omega (
   user_left c.args.n w.words.now w.texts.now (pen_of w) c.args.start c.requires.1 c.requires.0 (ap pen_of c.put_infos-left_out.ensures.0) c.put_infos-left_out.ensures.1,
 )
 
-pub put_distance-requires : goal.put_distance-requires
-put_distance-requires c =
+pub distance-requires : goal.distance-requires
+distance-requires c =
     let w = c.args.self.now in
     let e = ap pen_of c.put_infos-left_out.ensures.0 in
     let r = user_ready c.args.n w.words.now w.texts.now (pen_of w) c.args.start c.requires.1 c.requires.0 in
@@ -29,5 +29,5 @@ pub returns : goal.returns
 returns c =
     let w = c.args.self.now in
     let d = user_done c.args.n w.words.now w.texts.now (pen_of w) c.args.start c.requires.1 c.requires.0 w.out.now c.write.ensures c.write_placeholder_u32-total.ensures.0 c.write_placeholder_u32-total.ensures.1
-    (ap pen_of c.put_infos-left_out.ensures.0) (ap stored_of c.put_infos-left_out.ensures.0) c.put_infos-left_out.ensures.1 c.put_distance.ensures in
-    moved_on w c.put_infos-left_out.ensures.0 (pen_of c.put_infos-left_out.new.self) c.put_distance.new.out ∙ wrote_behind _ _ w d
+    (ap pen_of c.put_infos-left_out.ensures.0) (ap stored_of c.put_infos-left_out.ensures.0) c.put_infos-left_out.ensures.1 (rw c.distance.ensures at c.patch_u32.ensures) in
+    moved_on w c.put_infos-left_out.ensures.0 (pen_of c.put_infos-left_out.new.self) c.patch_u32.new.out ∙ wrote_behind _ _ w d
