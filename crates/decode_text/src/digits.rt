@@ -42,7 +42,7 @@ pub(crate) fn read_hex<'a, const N: usize>(
 }
 
 // The digits of bytes, a blank before each, from the room's start on. (What has no room is left out.)
-// Kept: a room and no `Display`. By a `write!` of each byte's digits a long line takes five times as long.
+// Kept: a room and no `Display`. By a `write!` of each byte's digits long lines take up to eight times as long.
 pub(crate) fn put_digits(bytes: &[u8], room: &mut [u8]) {
     for (place, b) in room.chunks_exact_mut(3).zip(bytes) {
         if let [blank, high, low] = place {

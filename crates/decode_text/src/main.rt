@@ -31,7 +31,7 @@ const BYTES: usize = 512;
 // What these can decode to, where each becomes U+FFFD.
 const DECODED: usize = 1536;
 // That in hexadecimal, a blank before each byte.
-const SHOWN: usize = 4608;
+const SHOWN: usize = 3 * DECODED;
 
 const PROGRAM: Program = Program {
     name: "decode_text",

@@ -47,7 +47,7 @@ use console::room::{MOST, PIECE, ROOM, room};
 use edit::edit::{EditError, edit};
 use edit::field::field_at;
 use edit::undo::undo;
-use std::{fmt, io};
+use std::io;
 
 // The words of the journal: a thousand entries.
 const JOURNAL: usize = 5000;
