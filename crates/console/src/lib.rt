@@ -9,3 +9,5 @@ pub mod program;
 mod reason;
 pub mod refusal;
 pub mod room;
+#[cfg(test)]
+mod tests;

@@ -35,6 +35,11 @@ pub trait Body {
     fn run(rt: HostRuntime) -> Result<(), Failure>;
 }
 
+// The same for a body that holds something, as a closure holds what it captures. A run uses it up.
+pub trait OwningBody {
+    fn run(self, rt: HostRuntime) -> Result<(), Failure>;
+}
+
 // What a program says of itself.
 #[derive(Clone, Copy)]
 pub struct Program {
@@ -50,10 +55,21 @@ impl Program {
         match arguments(rt) {
             Asked::Nothing => self.run::<B>(rt),
             Asked::Help => self.help(rt),
-            Asked::Other => {
-                let Program { name, usage, .. } = self;
-                let _ = eprint!(rt; "{name} takes no argument\n{usage}");
-            }
+            Asked::Other => self.say_misused(rt),
+        }
+    }
+
+    // The same for a body that holds something.
+    pub fn start_with<B: OwningBody + Drop>(self, rt: HostRuntime, body: B) {
+        self.answer_with(rt, arguments(rt), body)
+    }
+
+    // Does what the arguments ask. Kept: on its own. A test has an argument, its name, so `start_with` runs no body there.
+    pub(crate) fn answer_with<B: OwningBody + Drop>(self, rt: HostRuntime, asked: Asked, body: B) {
+        match asked {
+            Asked::Nothing => self.run_with(rt, body),
+            Asked::Help => self.help(rt),
+            Asked::Other => self.say_misused(rt),
         }
     }
 
@@ -67,6 +83,25 @@ impl Program {
                 }
             }
         }
+    }
+
+    // The same for a body that holds something. Kept: a text of its own. If it shared one with `run`, the programs' compiled code would no longer be the
+    // code that was measured.
+    pub fn run_with<B: OwningBody + Drop>(self, rt: HostRuntime, body: B) {
+        match rt.write_some(b"") {
+            Err(error) => self.say_undone(rt, "standard output could not be written", error),
+            Ok(_) => {
+                if let Err(failure) = body.run(rt) {
+                    self.say_failure(rt, failure);
+                }
+            }
+        }
+    }
+
+    // Says that a program takes no argument, and the usage.
+    fn say_misused(self, rt: HostRuntime) {
+        let Program { name, usage, .. } = self;
+        let _ = eprint!(rt; "{name} takes no argument\n{usage}");
     }
 
     // Writes the usage.
